@@ -1,0 +1,25 @@
+-- Laws of a function that is changed at one place.
+use mathlib.Core.Path.{_≡_}
+use mathlib.Core.Bool.{Bool, true, false, not}
+use Prim.Native.Nat.{ℕ}
+use lib.Dec.{T, eqb, eqb→eq, eqb-refl}
+use Rattle.base.specs.Change.{put}
+use Rattle.base.proofs.Bool.{deny}
+use Rattle.base.proofs.Branch.{if-ind, if-both}
+
+module _ {A : Type 0} where
+  pub put-ind {κ} : (P : A → Type κ) (f : ℕ → A) (i : ℕ) (a : A) (j : ℕ) → (i ≡ j → P a) → P (f j) → P (put f i a j)
+  unfolding put
+  put-ind P f i a j x y = if-ind P (eqb i j) _ _ (λ t. x (eqb→eq i j t)) (λ _. y)
+
+  pub put-at {κ} : (P : A → Type κ) (f : ℕ → A) (i : ℕ) (a : A) → P a → P (put f i a i)
+  unfolding put
+  put-at P f i a x = if-ind P (eqb i i) _ _ (λ _. x) (λ t. absurd (deny (eqb i i) t (eqb-refl i)))
+
+  pub put-off {κ} : (P : A → Type κ) (f : ℕ → A) (i : ℕ) (a : A) (j : ℕ) → (i ≡ j → ⊥) → P (f j) → P (put f i a j)
+  put-off P f i a j n y = put-ind P f i a j (λ e. absurd (n e)) y
+
+-- two functions changed at one place
+pub put-ind₂ {κ} : {A B : Type 0} (P : A → B → Type κ) (f : ℕ → A) (g : ℕ → B) (i : ℕ) (a : A) (b : B) (j : ℕ) → (i ≡ j → P a b) → P (f j) (g j) → P (put f i a j) (put g i b j)
+unfolding put
+put-ind₂ P f g i a b j x y = if-both P (eqb i j) _ _ _ _ (λ t. x (eqb→eq i j t)) (λ _. y)

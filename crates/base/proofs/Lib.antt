@@ -1,0 +1,7 @@
+pub mod Bool
+pub mod Branch
+pub mod Lists
+pub mod Change
+pub mod Integers
+pub mod Digits
+pub mod Every

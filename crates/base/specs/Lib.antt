@@ -1,0 +1,5 @@
+pub mod Branch
+pub mod Lists
+pub mod Change
+pub mod Integers
+pub mod Bits

@@ -1,0 +1,130 @@
+-- Laws of what is counted of a position and of the Rust's comparison. A move fills an empty cell of an open board and opens none, so the bound falls.
+use mathlib.Core.Path.{_≡_, refl, sym, ap, subst}
+use mathlib.Core.Bool.{Bool, true, false, not, cond}
+use mathlib.Core.List.{List, [], _∷_}
+use mathlib.Core.Logic.{inl, inr}
+use Prim.Native.Nat.{ℕ, _+_, _≤_, _<_}
+use native.Mathlib.Omega.{arith}
+use lib.Dec.{T, eqb-refl}
+use Rattle.base.specs.Lists.{all, how-many, In, total}
+use Rattle.base.specs.Change.{put}
+use Rattle.base.proofs.Bool.{→and, →or-r, _⇒_}
+use Rattle.base.proofs.Lists.{each-all}
+use Rattle.base.proofs.Change.{put-ind, put-at, put-ind₂}
+use Rattle.rules.specs.declared.CellState.{CellState}
+use Rattle.rules.specs.declared.CellState.the-variants.{Empty, Played}
+use Rattle.rules.specs.declared.GameState.{GameState}
+use Rattle.rules.specs.declared.GameState.the-variants.{InPlay, Drawn, Won}
+use Rattle.rules.specs.Board.{same, blank, same-cell, same-state, in-play, nine}
+use Rattle.rules.specs.Position.{Due, free, at, same-due, Position, start, open-board, free-cell}
+use Rattle.rules.specs.Play.{board-of, cell-of, accepts, after, tried}
+use Rattle.rules.specs.Compare.{bound-depth, open-boards, equivalent}
+use Rattle.rules.proofs.Board.{same-self, in-nine}
+use Rattle.rules.proofs.Play.{Legal, accepts→, tried-accepted}
+use Rattle.rules.proofs.Sound.{row, made}
+
+-- ---- sums over a list
+total-le : (f g : ℕ → ℕ) (xs : List ℕ) → ((i : ℕ) → f i ≤ g i) → total f xs ≤ total g xs
+unfolding total
+total-le f g [] h = omega arith
+total-le f g (x ∷ xs) h = omega (arith, h x, total-le f g xs h)
+
+-- one place less makes the sum less
+total-lt : (f g : ℕ → ℕ) (b : ℕ) (xs : List ℕ) → In b xs → ((i : ℕ) → f i ≤ g i) → f b < g b → total f xs < total g xs
+unfolding total
+total-lt f g b [] k h d = absurd k
+total-lt f g b (x ∷ xs) (inl e) h d = let d' = subst (λ (i : ℕ). f i < g i) e d in omega (arith, d', total-le f g xs h)
+total-lt f g b (x ∷ xs) (inr k) h d = omega (arith, h x, total-lt f g b xs k h d)
+
+how-many-is : (f : ℕ → Bool) (xs : List ℕ) → how-many f xs ≡ total (λ i. cond (f i) 1 0) xs
+unfolding how-many total
+how-many-is f [] = refl
+how-many-is f (x ∷ xs) = ap (λ (n : ℕ). cond (f x) 1 0 + n) (how-many-is f xs)
+
+-- ---- the empty cells of a board that is in play
+empty-cells : GameState → (ℕ → CellState) → ℕ
+empty-cells g r = cond (in-play g) (how-many (λ c. blank (r c)) nine) 0
+
+module _ (p : Position) (b c : ℕ) (l : Legal p b c) where
+  filled-le : (i : ℕ) → cond (blank (row p b c i)) 1 0 ≤ cond (free-cell p b i) 1 0
+  filled-le i = put-ind (λ (s : CellState). cond (blank s) 1 0 ≤ cond (free-cell p b i) 1 0) (p .cells b) c (Played (p .turn)) i (λ _. omega arith) (omega arith)
+
+  filled-lt : cond (blank (row p b c c)) 1 0 < cond (free-cell p b c) 1 0
+  filled-lt = put-at (λ (s : CellState). cond (blank s) 1 0 < cond (free-cell p b c) 1 0) (p .cells b) c (Played (p .turn)) (one (free-cell p b c) (l .empty))
+    where
+      one : (t : Bool) → T t → 0 < cond t 1 0
+      one true t = omega arith
+      one false t = absurd t
+
+  row-lt : how-many (λ i. blank (row p b c i)) nine < how-many (free-cell p b) nine
+  row-lt = omega (
+    arith,
+    how-many-is (λ i. blank (row p b c i)) nine,
+    how-many-is (free-cell p b) nine,
+    total-lt (λ i. cond (blank (row p b c i)) 1 0) (λ i. cond (free-cell p b i) 1 0) c nine (in-nine c (l .cell)) filled-le filled-lt,
+  )
+
+  board-lt : (g : GameState) → empty-cells g (row p b c) < empty-cells (p .states b) (p .cells b)
+  unfolding empty-cells
+  board-lt g = less (in-play g) (open-board p b) (l .opened)
+    where
+      less : (s t : Bool) → T t → cond s (how-many (λ i. blank (row p b c i)) nine) 0 < cond t (how-many (free-cell p b) nine) 0
+      less true true u = row-lt
+      less false true u = omega (arith, row-lt)
+      less s false u = absurd u
+
+  after-lowers-bound : bound-depth (after p b c) < bound-depth p
+  unfolding bound-depth after empty-cells
+  after-lowers-bound = total-lt _ (λ i. empty-cells (p .states i) (p .cells i)) b nine (in-nine b (l .board))
+      (λ i. put-ind₂ (λ (s : GameState) (r : ℕ → CellState). empty-cells s r ≤ empty-cells (p .states i) (p .cells i)) (p .states) (p .cells) b (made p b c) (row p b c) i
+      (λ e. subst (λ (x : ℕ). empty-cells (made p b c) (row p b c) ≤ empty-cells (p .states x) (p .cells x)) e (omega (arith, board-lt (made p b c)))) (omega arith))
+      (put-at (λ (s : GameState). empty-cells s (put (p .cells) b (row p b c) b) < empty-cells (p .states b) (p .cells b)) (p .states) b (made p b c)
+      (put-at (λ (r : ℕ → CellState). empty-cells (made p b c) r < empty-cells (p .states b) (p .cells b)) (p .cells) b (row p b c) (board-lt (made p b c))))
+
+-- every accepted move lowers the bound, at every position
+pub play-lowers-bound : (p : Position) (m : ℕ) → T (accepts p m) → bound-depth (tried p m) < bound-depth p
+play-lowers-bound p m t = subst (λ (q : Position). bound-depth q < bound-depth p) (sym (tried-accepted p m t)) (after-lowers-bound p (board-of m) (cell-of m) (accepts→ p m t))
+
+pub start-bound-depth : bound-depth start ≡ 81
+unfolding bound-depth total how-many
+start-bound-depth = refl
+
+pub start-open-boards : open-boards start ≡ 9
+unfolding open-boards how-many
+start-open-boards = refl
+
+-- ---- the comparison
+same-due-self : (d : Due) → T (same-due d d)
+same-due-self free = tt
+same-due-self (at b) = eqb-refl b
+
+same-cell-self : (s : CellState) → T (same-cell s s)
+same-cell-self Empty = tt
+same-cell-self (Played w) = same-self w
+
+same-state-self : (g : GameState) → T (same-state g g)
+same-state-self InPlay = tt
+same-state-self Drawn = tt
+same-state-self (Won w) = same-self w
+
+-- every position is equivalent to itself
+pub equivalent-self : (p : Position) → T (equivalent p p)
+unfolding equivalent
+equivalent-self p =
+    →and (same (p .turn) (p .turn)) _ (same-self (p .turn))
+    (→and (same-due (p .due) (p .due)) _ (same-due-self (p .due))
+    (→and (same-state (p .state) (p .state)) _ (same-state-self (p .state))
+    (→and (all (λ b. same-state (p .states b) (p .states b)) nine) _ (each-all (λ b. same-state (p .states b) (p .states b)) nine (λ b _. same-state-self (p .states b)))
+    (each-all (λ b. open-board p b ⇒ same-cells b) nine (λ b _.
+    →or-r (not (open-board p b)) _ (each-all (λ c. same-cell (p .cells b c) (p .cells b c)) nine (λ c _. same-cell-self (p .cells b c))))))))
+  where
+    same-cells : ℕ → Bool
+    same-cells b = all (λ c. same-cell (p .cells b c) (p .cells b c)) nine
+
+abbrev pub with-states : Position → (ℕ → GameState) → Position
+with-states q gs = record { turn = q .turn; due = q .due; cells = q .cells; states = gs; state = q .state }
+
+-- the states of the second position's boards do not matter: the Rust compares the first's with themselves
+pub equivalent-skips-states : (p q : Position) (gs : ℕ → GameState) → equivalent p (with-states q gs) ≡ equivalent p q
+unfolding equivalent
+equivalent-skips-states p q gs = refl

@@ -1,0 +1,190 @@
+-- Laws of the evaluation: its range, by the most that each line can give, and that the other side sees the negative.
+use mathlib.Core.Path.{_≡_, refl, sym, ap, _∙_}
+use mathlib.Core.Bool.{Bool, true, false, not, cond, _&&_}
+use mathlib.Core.List.{List, [], _∷_}
+use mathlib.Core.Logic.{_⊎_, inl, inr}
+use Prim.Native.Nat.{ℕ, zero, suc, _+_, _*_, _^_, _≤_}
+use native.Mathlib.Omega.{arith}
+use lib.Dec.{T, ltb}
+use lib.ListN.{length}
+use lib.IntN.{ℤ, pos, negsuc, negℤ, negℤ-negℤ, _+ℤ_, _-ℤ_, natAbs}
+use lib.Signed.{_≤ℤ_, _<ℤ_}
+use Rattle.base.specs.Integers.{sum}
+use Rattle.base.proofs.Branch.{if-ind}
+use Rattle.base.proofs.Integers.{hi, lo, zarith, hi-neg, lo-neg, sm}
+use Rattle.rules.specs.declared.Player.{Player}
+use Rattle.rules.specs.declared.Player.the-variants.{X, O}
+use Rattle.rules.specs.declared.GameState.{GameState}
+use Rattle.rules.specs.declared.GameState.the-variants.{InPlay, Drawn, Won}
+use Rattle.rules.specs.declared.DrawWinner.{DrawWinner}
+use Rattle.rules.specs.declared.DrawWinner.the-variants.{Nobody, Side}
+use Rattle.rules.specs.Board.{other, in-play, Line, lines}
+use Rattle.rules.specs.Position.{Position, going, open-board, won-boards, has}
+use Rattle.rules.specs.Evaluation.{won, lost, count, unless-both, worth, board-line, board-score, overall-line, score, seen-by, draw-value, value-of, evaluate}
+
+-- ---- a won game and a lost one
+pub won-is : won ≡ pos (2 ^ 60)
+won-is = refl
+
+pub lost-is : lost ≡ negℤ (pos (2 ^ 60))
+lost-is = refl
+
+-- ---- with the other side to move
+abbrev pub turned : Position → Position
+turned p = record { turn = other (p .turn); due = p .due; cells = p .cells; states = p .states; state = p .state }
+
+seen-by-other : (w : Player) (z : ℤ) → seen-by (other w) z ≡ negℤ (seen-by w z)
+seen-by-other X z = refl
+seen-by-other O z = sym (negℤ-negℤ z)
+
+-- what X sees does not depend on whose turn it is
+value-of-turned : (draws : DrawWinner) (p : Position) (g : GameState) → value-of draws (turned p) g ≡ value-of draws p g
+unfolding score board-score
+value-of-turned draws p InPlay = refl
+value-of-turned draws p Drawn = refl
+value-of-turned draws p (Won w) = refl
+
+-- with the other side to move the evaluation is the exact negative
+pub other-side-negates : (draws : DrawWinner) (p : Position) → evaluate draws (turned p) ≡ negℤ (evaluate draws p)
+unfolding evaluate
+other-side-negates draws p = ap (seen-by (other (p .turn))) (value-of-turned draws p (p .state)) ∙ seen-by-other (p .turn) (value-of draws p (p .state))
+
+-- ---- within k of zero, as omega reads it
+abbrev pub Within : ℕ → ℤ → Type 0
+Within k z = (hi z ≤ k) × (lo z ≤ k)
+
+pub within-abs : (k : ℕ) (z : ℤ) → Within k z → natAbs z ≤ k
+unfolding hi lo
+within-abs k (pos n) h = h .0
+within-abs k (negsuc n) h = h .1
+
+-- z as a difference a - b is within a and b
+halves-within : (z : ℤ) (a b : ℕ) → hi z + b ≡ lo z + a → (hi z ≤ a) × (lo z ≤ b)
+unfolding hi lo
+halves-within (pos n) a b e = (omega arith, omega arith)
+halves-within (negsuc n) a b e = (omega arith, omega arith)
+
+within-+ : (j k : ℕ) (a b : ℤ) → Within j a → Within k b → Within (j + k) (a +ℤ b)
+within-+ j k a b h q = let u = halves-within (a +ℤ b) (hi a + hi b) (lo a + lo b) (omega (arith, sm a b)) in (omega arith, omega arith)
+
+within-neg : (k : ℕ) (z : ℤ) → Within k z → Within k (negℤ z)
+within-neg k z h = (omega (arith, hi-neg z), omega (arith, lo-neg z))
+
+within-pos : (k n : ℕ) → n ≤ k → Within k (pos n)
+unfolding hi lo
+within-pos k n h = (h, omega arith)
+
+within-minus : (k a b : ℕ) → a ≤ k → b ≤ k → Within k (pos a -ℤ pos b)
+unfolding hi lo
+within-minus k a b h q = let u = halves-within (pos a -ℤ pos b) a b (omega (arith, sm (pos a) (negℤ (pos b)), hi-neg (pos b), lo-neg (pos b))) in (omega arith, omega arith)
+
+times : ℕ → ℕ → ℕ
+times zero k = 0
+times (suc n) k = k + times n k
+
+within-sum : {A : Type 0} (k : ℕ) (f : A → ℤ) → ((x : A) → Within k (f x)) → (xs : List A) → Within (times (length xs) k) (sum f xs)
+unfolding sum times
+within-sum k f h [] = within-pos 0 0 (omega arith)
+within-sum k f h (x ∷ xs) = within-+ k (times (length xs) k) (f x) (sum f xs) (h x) (within-sum k f h xs)
+
+within-seen : (k : ℕ) (w : Player) (z : ℤ) → Within k z → Within k (seen-by w z)
+within-seen k X z h = h
+within-seen k O z h = within-neg k z h
+
+-- ---- the lines
+within-unless : (k x o : ℕ) (z : ℤ) → Within k z → Within k (unless-both x o z)
+unfolding unless-both
+within-unless k x o z h = if-ind (Within k) (ltb 0 x && ltb 0 o) _ _ (λ _. within-pos k 0 (omega arith)) (λ _. h)
+
+worth-le : (n : ℕ) → worth n ≤ 3
+worth-le zero = omega arith
+worth-le (suc zero) = omega arith
+worth-le (suc (suc zero)) = omega arith
+worth-le (suc (suc (suc n))) = omega arith
+
+bit-le : (b : Bool) → cond b 1 0 ≤ 1
+bit-le true = omega arith
+bit-le false = omega arith
+
+pub count-le : (own : ℕ → Bool) (l : Line) → count own l ≤ 3
+unfolding count
+count-le own l = omega (arith, bit-le (own (l .i)), bit-le (own (l .j)), bit-le (own (l .k)))
+
+board-line-within : (xs os : ℕ → Bool) (l : Line) → Within 3 (board-line xs os l)
+unfolding board-line
+board-line-within xs os l = within-unless 3 (count xs l) (count os l) _ (within-minus 3 _ _ (worth-le (count xs l)) (worth-le (count os l)))
+
+-- eight lines of at most 3
+pub board-score-within : (p : Position) (b : ℕ) → Within 24 (board-score p b)
+unfolding board-score times
+board-score-within p b = if-ind (Within 24) (open-board p b) _ _
+    (λ _. within-sum 3 (board-line (has p X b) (has p O b)) (board-line-within (has p X b) (has p O b)) lines) (λ _. within-pos 24 0 (omega arith))
+
+overall-line-within : (xs os : ℕ → Bool) (s : ℕ → ℤ) → ((b : ℕ) → Within 24 (s b)) → (l : Line) → Within 132 (overall-line xs os s l)
+unfolding overall-line
+overall-line-within xs os s h l = within-unless 132 (count xs l) (count os l) _
+    (within-+ 60 72 _ _ (within-minus 60 (count xs l * 20) (count os l * 20) (omega (arith, count-le xs l)) (omega (arith, count-le os l)))
+    (within-+ 24 48 _ _ (h (l .i)) (within-+ 24 24 _ _ (h (l .j)) (h (l .k)))))
+
+-- eight lines of at most 3 × 20 + 3 × 24
+pub score-within : (p : Position) → Within 1056 (score p)
+unfolding score times
+score-within p = within-sum 132 (overall-line (won-boards p X) (won-boards p O) (board-score p)) (overall-line-within (won-boards p X) (won-boards p O) (board-score p) (board-score-within p)) lines
+
+-- ---- an unfinished position
+-- its two halves, as omega reads them
+pub unfinished-halves : (draws : DrawWinner) (p : Position) → T (going p) → Within 1056 (evaluate draws p)
+unfolding evaluate
+unfinished-halves draws p t = within-seen 1056 (p .turn) _ (of (p .state) t)
+  where
+    of : (g : GameState) → T (in-play g) → Within 1056 (value-of draws p g)
+    of InPlay t = score-within p
+    of Drawn t = absurd t
+    of (Won w) t = absurd t
+
+-- an unfinished position's evaluation lies within -1056 to 1056
+pub unfinished-within : (draws : DrawWinner) (p : Position) → T (going p) → natAbs (evaluate draws p) ≤ 1056
+unfinished-within draws p t = within-abs 1056 (evaluate draws p) (unfinished-halves draws p t)
+
+-- so it is neither won nor lost
+pub value-inside : (draws : DrawWinner) (p : Position) → T (going p) → (lost <ℤ evaluate draws p) × (evaluate draws p <ℤ won)
+unfolding hi lo
+value-inside draws p t = let h = unfinished-halves draws p t in (omega (zarith, h), omega (zarith, h))
+
+-- ---- a finished game
+abbrev pub Final : ℤ → Type 0
+Final z = (z ≡ won) ⊎ ((z ≡ lost) ⊎ (z ≡ pos 0))
+
+seen-win : (v w : Player) → Final (seen-by v (seen-by w won))
+seen-win X X = inl refl
+seen-win X O = inr (inl refl)
+seen-win O X = inr (inl refl)
+seen-win O O = inl refl
+
+seen-nothing : (v : Player) → Final (seen-by v (pos 0))
+seen-nothing X = inr (inr refl)
+seen-nothing O = inr (inr refl)
+
+-- a finished game is won, lost or worth nothing
+pub finished-is : (draws : DrawWinner) (p : Position) → T (not (going p)) → Final (evaluate draws p)
+unfolding evaluate
+finished-is draws p t = of (p .state) t
+  where
+    drawn : (d : DrawWinner) → Final (seen-by (p .turn) (draw-value d))
+    drawn Nobody = seen-nothing (p .turn)
+    drawn (Side w) = seen-win (p .turn) w
+
+    of : (g : GameState) → T (not (in-play g)) → Final (seen-by (p .turn) (value-of draws p g))
+    of InPlay t = absurd t
+    of Drawn t = drawn draws
+    of (Won w) t = seen-win (p .turn) w
+
+final-within : (z : ℤ) → Final z → (lost ≤ℤ z) × (z ≤ℤ won)
+unfolding hi lo
+final-within z (inl e) = (omega zarith, omega zarith)
+final-within z (inr (inl e)) = (omega zarith, omega zarith)
+final-within z (inr (inr e)) = (omega zarith, omega zarith)
+
+-- so it lies from lost to won
+pub finished-within : (draws : DrawWinner) (p : Position) → T (not (going p)) → (lost ≤ℤ evaluate draws p) × (evaluate draws p ≤ℤ won)
+finished-within draws p t = final-within (evaluate draws p) (finished-is draws p t)

@@ -1,0 +1,12 @@
+pub mod Board
+pub mod Play
+pub mod Moves
+pub mod Sound
+pub mod Compare
+pub mod Xor
+pub mod Hash
+pub mod Evaluation
+pub mod Critical
+pub mod Endgame
+pub mod StatusFacts
+pub mod Examples

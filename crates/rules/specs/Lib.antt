@@ -1,0 +1,11 @@
+pub mod Board
+pub mod Position
+pub mod Play
+pub mod Moves
+pub mod Sound
+pub mod Compare
+pub mod Keys
+pub mod Hash
+pub mod Evaluation
+pub mod Status
+pub mod Endgame

@@ -1,0 +1,20 @@
+-- Sound and proper positions.
+use mathlib.Core.Bool.{Bool, true, not, _||_, _&&_}
+use lib.Dec.{ltb}
+use Rattle.base.specs.Lists.{any, all}
+use Rattle.rules.specs.Board.{sides, nine, has-line}
+use Rattle.rules.specs.Position.{Due, free, at, Position, going, open-board, won-boards, free-cell, has}
+
+-- document 01's "sound", asked of an unfinished position: no side has a line of boards, and each board in play has an empty cell and no side's line
+unfoldable pub sound : Position → Bool
+sound p =
+    all (λ w. not (has-line (won-boards p w))) sides &&
+    all (λ b. not (open-board p b) || (any (free-cell p b) nine && all (λ w. not (has-line (has p w b))) sides)) nine
+
+-- what play and reading give besides: the board that is due is one of the nine and in play, and an unfinished game has a board in play
+abbrev pub due-open : Position → Due → Bool
+due-open p free = true
+due-open p (at b) = ltb b 9 && open-board p b
+
+unfoldable pub proper : Position → Bool
+proper p = due-open p (p .due) && (not (going p) || any (open-board p) nine)

@@ -1,0 +1,60 @@
+// The sides, the cells and the states of a board or of the game, and what a drawn game counts as.
+// Ported from src/lib/game.rs of nelhage/ultimattt at commit 87ef0d9c7c (Apache-2.0, see NOTICE), changed: methods take
+// `self` by value, and the draw winner is an enum of its own.
+ghost use mathlib.Core.Path.{_≡_};
+ghost use mathlib.Core.Bool.{not};
+ghost use Rattle.rules.specs.Board.{other, side-number, in-play};
+
+pub enum Player {
+    X,
+    O,
+}
+
+impl Player {
+    pub fn other(self) -> Player
+        ensures { λ r. ⌜ r ≡ other self ⌝ }
+    {
+        match self {
+            Player::X => Player::O,
+            Player::O => Player::X,
+        }
+    }
+
+    pub fn as_bit(self) -> usize
+        ensures { λ r. ⌜ r ≡ side-number self ⌝ }
+    {
+        match self {
+            Player::X => 0,
+            Player::O => 1,
+        }
+    }
+}
+
+pub enum CellState {
+    Empty,
+    Played(Player),
+}
+
+pub enum GameState {
+    InPlay,
+    Drawn,
+    Won(Player),
+}
+
+impl GameState {
+    pub fn terminal(self) -> bool
+        ensures { λ r. ⌜ r ≡ not (in-play self) ⌝ }
+    {
+        match self {
+            GameState::InPlay => false,
+            GameState::Drawn => true,
+            GameState::Won(_) => true,
+        }
+    }
+}
+
+// The side for which a drawn game counts as won, if any.
+pub enum DrawWinner {
+    Nobody,
+    Side(Player),
+}

@@ -1,0 +1,7 @@
+pub mod Game
+pub mod PlainMinimax
+pub mod Table
+pub mod Memory
+pub mod OrderedSearch
+pub mod Deepening
+pub mod Line
