@@ -1,0 +1,230 @@
+-- The allowance: a search that may enter n positions is the unlimited one if that one enters no more, and else stops with n counted, at what the
+-- unlimited one answers for the last depth that n positions reach. Both take the same steps up to the position that is one too many.
+use mathlib.Core.Path.{_≡_, refl, sym, ap, _∙_, subst}
+use mathlib.Core.Bool.{true, false, not}
+use mathlib.Core.List.{List, [], _∷_, _++_}
+use mathlib.Core.Logic.{_⊎_, inl, inr}
+use Prim.Native.Nat.{ℕ, zero, suc, _+_, _≤_, _<_}
+use native.Mathlib.Omega.{arith}
+use lib.Dec.{T, ltb, ltb→lt, nltb→le}
+use lib.ListN.{replicate}
+use lib.IntN.{ℤ, negℤ}
+use lib.Signed.{leZ, ltZ}
+use Rattle.base.specs.Branch.{if_then_else_}
+use Rattle.base.proofs.Bool.{deny, is}
+use Rattle.base.proofs.Branch.{if-ind, if-both}
+use Rattle.rules.specs.Play.{no-move}
+use Rattle.theory.specs.Game.{Game}
+use Rattle.theory.specs.PlainMinimax.{lowest, highest}
+use Rattle.theory.specs.Memory.{Memory, begin, enter, leaf, cut}
+use Rattle.theory.specs.OrderedSearch.{Allowance, unlimited, at-most, Outcome, stopped, found, unless-stopped, entering, Probed, known, missed, probe, on-probe, set-first, told, candidates, Search, over-moves, search}
+use Rattle.theory.specs.Deepening.{Whole, nothing-yet, one-deeper, Answer, decided, on-outcome, deepen, analyze}
+use Rattle.theory.specs.Line.{Right}
+use Rattle.theory.proofs.Plain.{Lawful}
+use Rattle.theory.proofs.Memory.{Leaves, count-enter, count-begin, count-leaf, count-cut, count-probe, count-told, Off}
+use Rattle.theory.proofs.Deepening.{analyze-right}
+
+lt-or : (n a : ℕ) → (n < a) ⊎ (a ≤ n)
+lt-or n a = elim (is (ltb n a)) [ inl t ↦ inl (ltb→lt n a t) | inr t ↦ inr (nltb→le n a t) ]
+
+module _ (n : ℕ) where
+  -- ---- one search: the unlimited one, from the memory s, finds r, line and s'; the limited one has the outcome o
+  record Kept (s : Memory) (r : ℤ) (line : List ℕ) (s' : Memory) (o : Outcome) : Type 0 where
+    grows : s .count ≤ s' .count
+    same : s' .count ≤ n → o ≡ found r line s'
+    stops : s .count ≤ n → n < s' .count → (z : Memory) × (o ≡ stopped z) × (z .count ≡ n)
+
+  unfoldable Agree : Memory → Outcome → Outcome → Type 0
+  Agree s (stopped z) o = ⊥
+  Agree s (found r line s') o = Kept s r line s' o
+
+  agree-found : (s : Memory) (r : ℤ) (line : List ℕ) (s' : Memory) → s' .count ≡ s .count → Agree s (found r line s') (found r line s')
+  unfolding Agree
+  agree-found s r line s' e = record { grows = omega arith; same = λ _. refl; stops = λ h k. absurd (omega arith) }
+
+  agree-from : (s s' : Memory) (u o : Outcome) → s' .count ≡ s .count → Agree s' u o → Agree s u o
+  unfolding Agree
+  agree-from s s' (stopped z) o e w = w
+  agree-from s s' (found r line z) o e w = record { grows = omega (arith, w .grows); same = w .same; stops = λ i j. w .stops (omega arith) j }
+
+  agree-probe : (s : Memory) (x : Probed) (fu fo : ℤ → ℕ → Memory → Outcome) (ku ko : List ℕ → Memory → Outcome) → Leaves (λ z. z .count ≡ s .count) x →
+      ((v : ℤ) (m : ℕ) (s' : Memory) → Agree s' (fu v m s') (fo v m s')) → ((ms : List ℕ) (s' : Memory) → Agree s' (ku ms s') (ko ms s')) → Agree s (on-probe x fu ku) (on-probe x fo ko)
+  unfolding on-probe
+  agree-probe s (known v m s') fu fo ku ko e f k = agree-from s s' _ _ e (f v m s')
+  agree-probe s (missed ms s') fu fo ku ko e f k = agree-from s s' _ _ e (k ms s')
+
+  agree-next : (s : Memory) (u o : Outcome) (ku ko : ℤ → List ℕ → Memory → Outcome) → Agree s u o → ((r : ℤ) (line : List ℕ) (s' : Memory) → Agree s' (ku r line s') (ko r line s')) → Agree s (unless-stopped u ku) (unless-stopped o ko)
+  unfolding Agree unless-stopped
+  agree-next s (stopped z) o ku ko h f = absurd h
+  agree-next s (found r line s') o ku ko h f = next (ku r line s') (f r line s')
+    where
+      at : o ≡ found r line s' → unless-stopped o ko ≡ ko r line s'
+      at e = ap (λ (x : Outcome). unless-stopped x ko) e
+
+      next : (v : Outcome) → Agree s' v (ko r line s') → Agree s v (unless-stopped o ko)
+      next (stopped z) w = w
+      next (found r₂ line₂ s₂) w = record {
+        grows = omega (arith, h .grows, w .grows);
+        same = λ k. at (h .same (omega (arith, w .grows))) ∙ w .same k;
+        stops = λ i j. elim (lt-or n (s' .count)) [
+          | inl q ↦ let z = h .stops i q in (z .0, ap (λ (x : Outcome). unless-stopped x ko) (z .1), z .2)
+          | inr q ↦ let z = w .stops q j in (z .0, at (h .same q) ∙ z .1, z .2)
+        ];
+      }
+
+  -- where the unlimited search enters a position, the limited one does so too, or stops before it
+  agree-entering : (s : Memory) (ku ko : Memory → Outcome) → ((s' : Memory) → Agree s' (ku s') (ko s')) → Agree s (entering unlimited s ku) (entering (at-most n) s ko)
+  unfolding entering if_then_else_ Agree
+  agree-entering s ku ko f = if-ind (Agree s (ku (enter s))) (ltb (s .count) n) _ _
+      (λ t. both (ku (enter s)) (ltb→lt (s .count) n t) (f (enter s)))
+      (λ t. no-more (ku (enter s)) (ko (enter s)) (nltb→le (s .count) n t) (f (enter s)))
+    where
+      both : (v : Outcome) → s .count < n → Agree (enter s) v (ko (enter s)) → Agree s v (ko (enter s))
+      both (stopped z) h w = w
+      both (found r line s') h w = record { grows = omega (arith, w .grows, count-enter s); same = w .same; stops = λ i j. w .stops (omega (arith, count-enter s)) j }
+
+      no-more : (v o : Outcome) → n ≤ s .count → Agree (enter s) v o → Agree s v (stopped s)
+      no-more (stopped z) o h w = w
+      no-more (found r line s') o h w = record { grows = omega (arith, w .grows, count-enter s); same = λ k. absurd (omega (arith, w .grows, count-enter s)); stops = λ i j. (s, refl, omega arith) }
+
+  -- ---- depth after depth. y stopped with n counted, after fewer than k depths from w on; `upto j` is what the unlimited search to j depths comes to
+  record Spent-at (k : ℕ) (w : Whole) (upto : ℕ → Whole) (y : Answer) : Type 0 where
+    marked : T (y .is-stopped)
+    counted : y .memory .count ≡ n
+    depths : ℕ
+    fewer : depths < k
+    depth-is : y .whole .depth ≡ depths + w .depth
+    whole-is : y .whole ≡ upto depths
+
+  -- the unlimited answer x and the limited one y, to k depths more, from w and s
+  record Beside (k : ℕ) (w : Whole) (s : Memory) (upto : ℕ → Whole) (x y : Answer) : Type 0 where
+    x-grows : s .count ≤ x .memory .count
+    x-whole : T (not (x .is-stopped))
+    y-same : x .memory .count ≤ n → y ≡ x
+    y-stops : s .count ≤ n → n < x .memory .count → Spent-at k w upto y
+
+  beside-whole : (k : ℕ) (w w' : Whole) (s : Memory) (upto : ℕ → Whole) → let x : Answer = record { is-stopped = false; whole = w'; memory = s } in Beside k w s upto x x
+  beside-whole k w w' s upto = record { x-grows = omega arith; x-whole = tt; y-same = λ _. refl; y-stops = λ h k. absurd (omega arith) }
+
+  -- the depth after w came to w', and k depths more are as said
+  beside-suc : (k : ℕ) (w w' : Whole) (s : Memory) (upto' upto : ℕ → Whole) (x y : Answer) → w' .depth ≡ suc (w .depth) → ((j : ℕ) → upto' j ≡ upto (suc j)) → Beside k w' s upto' x y → Beside (suc k) w s upto x y
+  beside-suc k w w' s upto' upto x y e same h = record {
+    x-grows = h .x-grows;
+    x-whole = h .x-whole;
+    y-same = h .y-same;
+    y-stops = λ i j. let z = h .y-stops i j in record { marked = z .marked; counted = z .counted; depths = suc (z .depths); fewer = omega (arith, z .fewer); depth-is = omega (arith, z .depth-is); whole-is = z .whole-is ∙ same (z .depths) };
+  }
+
+  module _ (G : Game) where
+    module _ (bu bo : Search G) (below : (p : G .Pos) (a b : ℤ) (line : List ℕ) (m : ℕ) (s : Memory) → Agree s (bu p a b line m s) (bo p a b line m s)) (p : G .Pos) (b : ℤ) (prev : ℕ) where
+      agree-moves : (ms : List ℕ) (a : ℤ) (line low : List ℕ) (s : Memory) → Agree s (over-moves G bu p b prev ms a line low s) (over-moves G bo p b prev ms a line low s)
+      unfolding over-moves
+      agree-moves [] a line low s = agree-found s a line s refl
+      agree-moves (m ∷ ms) a line low s = agree-next s _ _ _ _ (below (G .play p m) (negℤ b) (negℤ a) low m s)
+          (λ r low' s'. if-both (Agree s') (ltZ a (negℤ r)) _ _ _ _
+          (λ _. if-both (Agree s') (leZ b (negℤ r)) _ _ _ _
+          (λ _. agree-found s' (negℤ r) (m ∷ low') (cut (G .turn p) s' prev m) (count-cut (G .turn p) s' prev m))
+          (λ _. agree-moves ms (negℤ r) (m ∷ low') low' s'))
+          (λ _. agree-moves ms a line low' s'))
+
+    -- the unlimited search and the limited one, at every depth and window
+    agree : (d : ℕ) (p : G .Pos) (a b : ℤ) (line : List ℕ) (prev : ℕ) (s : Memory) → Agree s (search G unlimited d p a b line prev s) (search G (at-most n) d p a b line prev s)
+    unfolding search
+    agree zero p a b line prev s = agree-entering s _ _ (λ s'. agree-found s' (G .value p) line (leaf s') (count-leaf s'))
+    agree (suc d) p a b line prev s = agree-entering s _ _ (λ s₁. if-both (Agree s₁) (G .over p) _ _ _ _
+        (λ _. agree-found s₁ (G .value p) line (leaf s₁) (count-leaf s₁))
+        (λ _. agree-probe s₁ (probe s₁ (G .key p) (suc d) a b) _ _ _ _ (count-probe s₁ (G .key p) (suc d) a b)
+        (λ v m s₂. agree-found s₂ v (set-first m line) s₂ refl)
+        (λ first s₂. agree-next s₂ _ _ _ _
+        (agree-moves (search G unlimited d) (search G (at-most n) d) (agree d) p b prev (candidates G first s₂ p prev line) a line (replicate d no-move) s₂)
+        (λ r line' s₃. agree-found s₃ r line' (told s₃ (G .key p) (suc d) a b r line') (count-told s₃ (G .key p) (suc d) a b r line')))))
+
+    module _ (p : G .Pos) where
+      -- what `deepen` does with the outcome of the next depth, if after it k depths are left
+      abbrev next-depth : Allowance → ℕ → Whole → Outcome → Answer
+      next-depth allowed k w o = on-outcome o
+          (λ s'. record { is-stopped = true; whole = w; memory = s' })
+          (λ r line s'. let w' = one-deeper w r line (s' .tally) in
+          if decided r then (λ _. record { is-stopped = false; whole = w'; memory = s' }) else λ _. deepen G allowed k p w' s')
+
+      beside-next : (k : ℕ) (w : Whole) (s : Memory) (upto : ℕ → Whole) (u o : Outcome) → w ≡ upto 0 → ((j : ℕ) → next-depth unlimited j w u .whole ≡ upto (suc j)) → Agree s u o →
+          ((w' : Whole) (s' : Memory) → Beside k w' s' (λ j. deepen G unlimited j p w' s' .whole) (deepen G unlimited k p w' s') (deepen G (at-most n) k p w' s')) →
+          Beside (suc k) w s upto (next-depth unlimited k w u) (next-depth (at-most n) k w o)
+      unfolding Agree on-outcome
+      beside-next k w s upto (stopped z) o first later h f = absurd h
+      beside-next k w s upto (found r line s') o first later h f = record {
+        x-grows = omega (arith, h .grows, deeper .x-grows);
+        x-whole = deeper .x-whole;
+        y-same = λ i. at (h .same (omega (arith, deeper .x-grows))) ∙ deeper .y-same i;
+        y-stops = λ i j. elim (lt-or n (s' .count)) [
+          | inl q ↦ here (h .stops i q)
+          | inr q ↦ subst (Spent-at (suc k) w upto) (sym (at (h .same q))) (deeper .y-stops q j)
+        ];
+      }
+        where
+          w' : Whole
+          w' = one-deeper w r line (s' .tally)
+
+          at : o ≡ found r line s' → next-depth (at-most n) k w o ≡ next-depth (at-most n) k w (found r line s')
+          at e = ap (next-depth (at-most n) k w) e
+
+          not-decided : T (not (decided r)) → (j : ℕ) → deepen G unlimited j p w' s' .whole ≡ next-depth unlimited j w (found r line s') .whole
+          not-decided t j = if-ind (λ (x : Answer). deepen G unlimited j p w' s' .whole ≡ x .whole) (decided r) _ _ (λ u. absurd (deny (decided r) t u)) (λ _. refl)
+
+          deeper : Beside (suc k) w s' upto (next-depth unlimited k w (found r line s')) (next-depth (at-most n) k w (found r line s'))
+          deeper = if-both (Beside (suc k) w s' upto) (decided r) _ _ _ _ (λ _. beside-whole (suc k) w w' s' upto)
+              (λ t. beside-suc k w w' s' (λ j. deepen G unlimited j p w' s' .whole) upto _ _ refl (λ j. not-decided t j ∙ later j) (f w' s'))
+
+          here : (z : Memory) × (o ≡ stopped z) × (z .count ≡ n) → Spent-at (suc k) w upto (next-depth (at-most n) k w o)
+          here z = subst (λ (x : Outcome). Spent-at (suc k) w upto (next-depth (at-most n) k w x)) (sym (z .1))
+              (record { marked = tt; counted = z .2; depths = 0; fewer = omega arith; depth-is = omega arith; whole-is = first })
+
+      -- the two answers, k depths more
+      beside : (k : ℕ) (w : Whole) (s : Memory) → Beside k w s (λ j. deepen G unlimited j p w s .whole) (deepen G unlimited k p w s) (deepen G (at-most n) k p w s)
+      unfolding deepen
+      beside zero w s = beside-whole zero w w s _
+      beside (suc k) w s = beside-next k w s (λ j. deepen G unlimited j p w s .whole) _ _ refl (λ j. refl)
+          (agree-from s (begin s) _ _ (count-begin s) (agree (suc (w .depth)) p lowest highest (w .line ++ (no-move ∷ [])) no-move (begin s))) (beside k)
+
+-- ---- the claim: with an allowance of n, and no more counted before the search
+module _ (G : Game) (n limit : ℕ) (p : G .Pos) (s : Memory) where
+  -- the limited search stopped
+  pub record Spent : Type 0 where
+    pub marked : T (analyze G (at-most n) limit p s .is-stopped)
+    pub counted : analyze G (at-most n) limit p s .memory .count ≡ n
+    pub shallower : analyze G (at-most n) limit p s .whole .depth < limit
+    -- depth, score, line and stats are the unlimited search's to that depth
+    pub whole-is : analyze G (at-most n) limit p s .whole ≡ analyze G unlimited (analyze G (at-most n) limit p s .whole .depth) p s .whole
+
+  pub record Limited : Type 0 where
+    pub unlimited-whole : T (not (analyze G unlimited limit p s .is-stopped))
+    pub enough : analyze G unlimited limit p s .memory .count ≤ n → analyze G (at-most n) limit p s ≡ analyze G unlimited limit p s
+    pub spent : n < analyze G unlimited limit p s .memory .count → Spent
+
+  -- with the table on or off, for every game
+  pub allowance-limits : s .count ≤ n → Limited
+  unfolding analyze
+  allowance-limits le = let h = beside n G p limit nothing-yet s in record {
+    unlimited-whole = h .x-whole;
+    enough = h .y-same;
+    spent = λ i. let z = h .y-stops le i in record { marked = z .marked; counted = z .counted; shallower = omega (arith, z .fewer, z .depth-is); whole-is = subst (λ (j : ℕ). analyze G (at-most n) limit p s .whole ≡ analyze G unlimited j p s .whole) (omega (arith, z .depth-is)) (z .whole-is) };
+  }
+
+  -- the mark means that the allowance is spent, and nothing else
+  pub mark-means-spent : s .count ≤ n → T (analyze G (at-most n) limit p s .is-stopped) → n < analyze G unlimited limit p s .memory .count
+  mark-means-spent le t = elim (lt-or n (analyze G unlimited limit p s .memory .count)) [
+    | inl h ↦ h
+    | inr h ↦ absurd (deny (analyze G unlimited limit p s .is-stopped) (allowance-limits le .unlimited-whole) (subst (λ (x : Answer). T (x .is-stopped)) (allowance-limits le .enough h) t))
+  ]
+
+  -- and where it is spent, the answer is marked
+  pub spent-means-mark : s .count ≤ n → n < analyze G unlimited limit p s .memory .count → T (analyze G (at-most n) limit p s .is-stopped)
+  spent-means-mark le h = allowance-limits le .spent h .marked
+
+-- with the table off a stopped answer is right for its last whole depth
+pub stopped-right : (G : Game) (L : Lawful G) (n limit : ℕ) (p : G .Pos) → L .Good p → (s : Memory) → Off s → s .count ≤ n → T (analyze G (at-most n) limit p s .is-stopped) →
+    (k : ℕ) → analyze G (at-most n) limit p s .whole .depth ≡ suc k → Right G k p (analyze G (at-most n) limit p s .whole)
+stopped-right G L n limit p g s o le t k e =
+    let z = allowance-limits G n limit p s le .spent (mark-means-spent G n limit p s le t) in
+    let same = subst (λ (j : ℕ). analyze G (at-most n) limit p s .whole ≡ analyze G unlimited j p s .whole) e (z .whole-is) in
+    subst (Right G k p) (sym same) (analyze-right G L unlimited k p g s o (allowance-limits G n (suc k) p s le .unlimited-whole))

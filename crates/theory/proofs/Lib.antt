@@ -1,0 +1,12 @@
+pub mod Best
+pub mod Candidates
+pub mod Plain
+pub mod Memory
+pub mod Line
+pub mod Search
+pub mod Deepening
+pub mod Places
+pub mod Allowance
+pub mod Alike
+pub mod Nim
+pub mod TableFacts
