@@ -5,3 +5,8 @@ pub mod Change
 pub mod Integers
 pub mod Digits
 pub mod Every
+pub mod Numbers
+pub mod Xor
+pub mod Agree
+pub mod Ones
+pub mod Kept

@@ -18,7 +18,8 @@ use Rattle.rules.specs.Hash.{cell-key, board-key, cells-hash, board-hash
 use Rattle.rules.proofs.Board.{in-nine}
 use Rattle.rules.proofs.Play.{Legal}
 use Rattle.rules.proofs.Sound.{row, made}
-use Rattle.rules.proofs.Xor.{xor-assoc, xor-left-comm, xor-swap, xors-change}
+use Rattle.base.proofs.Xor.{xor-assoc, xor-left-comm, xor-swap}
+use Rattle.rules.proofs.Xor.{xors-change}
 
 -- a board that stays in play: its cells gave r before, and k besides now
 stays : (r k h r' : ℕ) → r' ≡ bitXor k r → bitXor (bitXor r r') h ≡ bitXor k h

@@ -1,0 +1,6 @@
+pub mod Packed
+pub mod Masks
+pub mod Rows
+pub mod Cells
+pub mod Hashes
+pub mod Cursors

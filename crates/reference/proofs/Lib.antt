@@ -1,0 +1,6 @@
+pub mod Lawful
+pub mod Kept
+pub mod Wins
+pub mod Truth
+pub mod Search
+pub mod Examples

@@ -1,0 +1,128 @@
+-- What a search says of a game from the empty board, table off: it is plain minimax to the last whole depth, so what holds of that holds of it.
+use mathlib.Core.Path.{_≡_, refl, sym, ap, _∙_, subst}
+use mathlib.Core.Bool.{not}
+use mathlib.Core.List.{List}
+use mathlib.Core.Logic.{inl, inr}
+use Prim.Native.Nat.{ℕ, zero, suc, _≤_, _<_}
+use native.Mathlib.Omega.{arith}
+use lib.Dec.{T}
+use lib.IntN.{pos}
+use Rattle.base.proofs.Bool.{is, deny}
+use Rattle.base.proofs.Integers.{hi, lo, zarith}
+use Rattle.rules.specs.declared.Player.{Player}
+use Rattle.rules.specs.declared.Player.the-variants.{X, O}
+use Rattle.rules.specs.declared.DrawWinner.{DrawWinner}
+use Rattle.rules.specs.declared.DrawWinner.the-variants.{Nobody}
+use Rattle.rules.specs.Position.{Position, start, going}
+use Rattle.rules.specs.Play.{reached}
+use Rattle.rules.specs.Status.{allows, alone}
+use Rattle.rules.specs.Evaluation.{won, seen-by}
+use Rattle.rules.specs.Endgame.{analysis}
+use Rattle.rules.proofs.Sound.{Good, start-is-good, reached-good}
+use Rattle.theory.specs.Table.{off}
+use Rattle.theory.specs.Memory.{Memory}
+use Rattle.theory.specs.OrderedSearch.{Allowance, unlimited, at-most}
+use Rattle.theory.specs.Deepening.{Whole, nothing-yet, Answer, deepen, analyze}
+use Rattle.theory.specs.Line.{Begins, Right}
+use Rattle.theory.proofs.Allowance.{Limited, allowance-limits, mark-means-spent, stopped-right}
+use Rattle.theory.proofs.Deepening.{analyze-right}
+use Rattle.reference.specs.Reference.{game, win-for}
+use Rattle.reference.specs.Truth.{StatusTells}
+use Rattle.reference.proofs.Lawful.{rules-lawful}
+use Rattle.reference.proofs.Wins.{unfinished}
+use Rattle.reference.proofs.Truth.{good-status-tells}
+
+-- how many positions the ordered search enters, from none counted
+abbrev pub entries : DrawWinner → ℕ → Position → Memory → ℕ
+entries draws limit p s = analyze (game draws) unlimited limit p s .memory .count
+
+-- x answers a search of p to a limit of k + 1: it is not stopped, and its score is plain minimax's to that limit, attained by its first move, which is
+-- listed, and by its line, whose moves are accepted
+pub record AnswersWhole (draws : DrawWinner) (k : ℕ) (p : Position) (x : Answer) : Type 0 where
+  pub unmarked : T (not (x .is-stopped))
+  pub right : Right (game draws) k p (x .whole)
+  pub first-attains : Begins (game draws) k p (x .whole .line) (x .whole .score)
+
+-- x answers a search of p that was stopped inside such a limit with its allowance of n spent: it is right so for the last whole depth, and nothing
+-- where there is none
+pub record AnswersSpent (draws : DrawWinner) (n k : ℕ) (p : Position) (x : Answer) : Type 0 where
+  pub marked : T (x .is-stopped)
+  pub counted : x .memory .count ≡ n
+  pub shallower : x .whole .depth ≤ k
+  pub right-so-far : (j : ℕ) → x .whole .depth ≡ suc j → Right (game draws) j p (x .whole)
+  pub nothing-so-far : x .whole .depth ≡ 0 → x .whole ≡ nothing-yet
+
+-- a win is not nothing
+not-nothing : (v w : Player) → pos 0 ≡ seen-by v (seen-by w won) → ⊥
+unfolding hi lo
+not-nothing X X e = omega zarith
+not-nothing X O e = omega zarith
+not-nothing O X e = omega zarith
+not-nothing O O e = omega zarith
+
+-- for every list of tried moves, refused ones among them, that leaves the game unfinished; remembered answers of any kind
+module _ (ms : List ℕ) (t : T (going (reached start ms))) (s : Memory) (table-off : T (off (s .table))) (from-none : s .count ≡ 0) (k : ℕ) where
+  abbrev p : Position
+  p = reached start ms
+
+  g : Good p
+  g = reached-good start start-is-good ms
+
+  module _ (draws : DrawWinner) (n : ℕ) where
+    limited : Limited (game draws) n (suc k) p s
+    limited = allowance-limits (game draws) n (suc k) p s (omega arith)
+
+    -- if the allowance suffices, the answer is right for the limit
+    pub unstopped-right : entries draws (suc k) p s ≤ n → AnswersWhole draws k p (analyze (game draws) (at-most n) (suc k) p s)
+    unstopped-right h = record { unmarked = unmarked; right = r; first-attains = r .first (unfinished p t) }
+      where
+        unmarked : T (not (analyze (game draws) (at-most n) (suc k) p s .is-stopped))
+        unmarked = subst (λ (x : Answer). T (not (x .is-stopped))) (sym (limited .enough h)) (limited .unlimited-whole)
+
+        r : Right (game draws) k p (analyze (game draws) (at-most n) (suc k) p s .whole)
+        r = analyze-right (game draws) (rules-lawful draws) (at-most n) k p g s table-off unmarked
+
+    -- else the search is stopped, and its answer is right for the last whole depth
+    pub stopped-right-too : n < entries draws (suc k) p s → AnswersSpent draws n k p (analyze (game draws) (at-most n) (suc k) p s)
+    unfolding analyze deepen
+    stopped-right-too h = let z = limited .spent h in record {
+      marked = z .marked;
+      counted = z .counted;
+      shallower = omega (arith, z .shallower);
+      right-so-far = stopped-right (game draws) (rules-lawful draws) n (suc k) p g s table-off (omega arith) (z .marked);
+      nothing-so-far = λ e. z .whole-is ∙ ap (λ (d : ℕ). analyze (game draws) unlimited d p s .whole) e;
+    }
+
+  -- ---- with no draw winner, what the endgame status says
+  tells : StatusTells p
+  tells = good-status-tells p g t
+
+  -- a side that it leaves alone, without a draw: every search that is not stopped, to a limit of three or more, scores that side's win
+  pub alone-scores : (n : ℕ) → entries Nobody (suc k) p s ≤ n → 2 ≤ k → (w : Player) → T (alone (analysis p .status) w) →
+      analyze (game Nobody) (at-most n) (suc k) p s .whole .score ≡ win-for w p
+  alone-scores n h two w a = unstopped-right Nobody n h .right .score-is ∙ tells .alone-wins w a (suc k) (omega arith)
+
+  module _ (w : Player) (out : T (not (allows (analysis p .status) w))) where
+    never-right : (j : ℕ) (x : Whole) → Right (game Nobody) j p x → x .score ≡ win-for w p → ⊥
+    never-right j x r e = tells .left-out-never w out (suc j) (sym (r .score-is) ∙ e)
+
+    stopped-never : (a : Allowance) → T (analyze (game Nobody) a (suc k) p s .is-stopped) → analyze (game Nobody) a (suc k) p s .whole .score ≡ win-for w p → ⊥
+    stopped-never unlimited u e = deny (analyze (game Nobody) unlimited (suc k) p s .is-stopped) (limited Nobody 0 .unlimited-whole) u
+    stopped-never (at-most n) u e = by-depth (x .whole .depth) refl
+      where
+        x : Answer
+        x = analyze (game Nobody) (at-most n) (suc k) p s
+
+        z : AnswersSpent Nobody n k p x
+        z = stopped-right-too Nobody n (mark-means-spent (game Nobody) n (suc k) p s (omega arith) u)
+
+        by-depth : (d : ℕ) → x .whole .depth ≡ d → ⊥
+        by-depth zero h = not-nothing (p .turn) w (sym (ap (λ (y : Whole). y .score) (z .nothing-so-far h)) ∙ e)
+        by-depth (suc j) h = never-right j (x .whole) (z .right-so-far j h) e
+
+    -- a side that it leaves out: no search, stopped or not, scores that side's win
+    pub left-out-never-scores : (a : Allowance) → analyze (game Nobody) a (suc k) p s .whole .score ≡ win-for w p → ⊥
+    left-out-never-scores a e = elim (is (analyze (game Nobody) a (suc k) p s .is-stopped)) [
+      | inl u ↦ stopped-never a u e
+      | inr u ↦ never-right k _ (analyze-right (game Nobody) (rules-lawful Nobody) a k p g s table-off u) e
+    ]
