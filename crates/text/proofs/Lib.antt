@@ -1,0 +1,6 @@
+pub mod Writing
+pub mod Scan
+pub mod Reading
+pub mod RoundTrip
+pub mod MoveText
+pub mod Examples

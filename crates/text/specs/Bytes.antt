@@ -1,0 +1,29 @@
+-- The bytes that texts are made of.
+use Prim.Native.Nat.{ℕ}
+use Rattle.rules.specs.declared.Player.{Player}
+use Rattle.rules.specs.declared.Player.the-variants.{X, O}
+
+abbrev pub semicolon : ℕ
+semicolon = 0x3b
+
+abbrev pub slash : ℕ
+slash = 0x2f
+
+abbrev pub dot : ℕ
+dot = 0x2e
+
+-- of a drawn board
+abbrev pub hash-mark : ℕ
+hash-mark = 0x23
+
+-- of the board that is due
+abbrev pub at-mark : ℕ
+at-mark = 0x40
+
+abbrev pub letter : Player → ℕ
+letter X = 0x58
+letter O = 0x4f
+
+-- `a`, of board 0 or cell 0 of a move
+abbrev pub first-letter : ℕ
+first-letter = 0x61

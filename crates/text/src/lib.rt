@@ -1,0 +1,1 @@
+// No code: positions and moves as text, as definitions, and their laws.
