@@ -1,0 +1,97 @@
+-- The number of a refusal is that of the first check that fails.
+use mathlib.Core.Path.{_≡_, refl, sym, ap, _∙_}
+use mathlib.Core.Bool.{Bool, true, false, not, _&&_, and-false}
+use mathlib.Core.List.{List, [], _∷_}
+use mathlib.Core.Logic.{inl, inr}
+use Prim.Native.Nat.{ℕ, _≤_}
+use native.Mathlib.Omega.{arith}
+use lib.Dec.{T, ltb}
+use borrow.Author.Tests.{lt-ltb, le-ltb, not-true, not-false}
+use Rattle.base.specs.Branch.{if_then_else_}
+use Rattle.base.specs.Lists.{all}
+use Rattle.base.proofs.Bool.{and→, deny, →not, is}
+use Rattle.base.proofs.Branch.{if-ind}
+use Rattle.rules.specs.declared.Player.{Player}
+use Rattle.rules.specs.declared.CellState.{CellState}
+use Rattle.rules.specs.declared.CellState.the-variants.{Empty, Played}
+use Rattle.rules.specs.Board.{blank}
+use Rattle.rules.specs.Position.{Position, going, open-board, free-cell}
+use Rattle.rules.specs.Play.{board-of, cell-of, may, checks, first-failed, accepts, play}
+use Rattle.rules.proofs.Play.{play-accepted, play-refused, refusal-is-first}
+use Rattle.game.specs.After.{refusal}
+
+passed : (ts : List (Bool × ℕ)) → T (all (λ (t : Bool × ℕ). t .0) ts) → first-failed ts ≡ 0
+unfolding first-failed all
+passed [] t = refl
+passed (u ∷ ts) t = let r = and→ (u .0) _ t in if-ind (λ (n : ℕ). n ≡ 0) (u .0) _ _ (λ _. passed ts (r .1)) (λ d. absurd (deny (u .0) d (r .0)))
+
+pub first-is-refusal : (p : Position) (m : ℕ) → first-failed (checks p (board-of m) (cell-of m)) ≡ refusal (play p m)
+unfolding refusal accepts
+first-is-refusal p m = elim (is (accepts p m)) [
+  | inl t ↦ passed (checks p (board-of m) (cell-of m)) t ∙ sym (ap refusal (play-accepted p m t))
+  | inr t ↦ sym (ap refusal (play-refused p m t))
+]
+
+-- what the five checks say, in their order, gives the number
+module _ (p : Position) (m b c : ℕ) (eb : b ≡ board-of m) (ec : c ≡ cell-of m) where
+  checked : (r s o a e : Bool) → (ltb b 9 && ltb c 9) ≡ r → going p ≡ s → open-board p b ≡ o → may (p .due) b ≡ a → free-cell p b c ≡ e
+      → first-failed ((r, 9) ∷ (s, 10) ∷ (o, 11) ∷ (a, 12) ∷ (e, 13) ∷ []) ≡ refusal (play p m)
+  checked r s o a e hr hs ho ha he =
+      sym (λ i. first-failed ((hr i, 9) ∷ (hs i, 10) ∷ (ho i, 11) ∷ (ha i, 12) ∷ (he i, 13) ∷ []))
+      ∙ (λ i. first-failed (checks p (eb i) (ec i))) ∙ first-is-refusal p m
+
+  pub over-board : 9 ≤ b → 9 ≡ refusal (play p m)
+  unfolding first-failed if_then_else_
+  over-board h = checked false _ _ _ _ (rw (le-ltb b 9 h)) refl refl refl refl
+
+  pub over-cell : 9 ≤ c → 9 ≡ refusal (play p m)
+  unfolding first-failed if_then_else_
+  over-cell h = checked false _ _ _ _ (rw (le-ltb c 9 h, and-false (ltb b 9))) refl refl refl refl
+
+  module _ (hb : b ≤ 8) (hc : c ≤ 8) (done : Bool) (ed : done ≡ not (going p)) where
+    ranged : (ltb b 9 && ltb c 9) ≡ true
+    ranged = rw (lt-ltb b 9 (omega arith), lt-ltb c 9 (omega arith))
+
+    pub finished : done ≡ true → 10 ≡ refusal (play p m)
+    unfolding first-failed if_then_else_
+    finished d = checked true false _ _ _ ranged (not-true (going p) (sym ed ∙ d)) refl refl refl
+
+    module _ (d : done ≡ false) (still : Bool) (eo : still ≡ open-board p b) where
+      unfinished : going p ≡ true
+      unfinished = not-false (going p) (sym ed ∙ d)
+
+      pub shut : not still ≡ true → 11 ≡ refusal (play p m)
+      unfolding first-failed if_then_else_
+      shut o = checked true true false _ _ ranged unfinished (sym eo ∙ not-true still o) refl refl
+
+      module _ (o : not still ≡ false) (ok : Bool) (ea : ok ≡ may (p .due) b) where
+        opened : open-board p b ≡ true
+        opened = sym eo ∙ not-false still o
+
+        pub elsewhere : not ok ≡ true → 12 ≡ refusal (play p m)
+        unfolding first-failed if_then_else_
+        elsewhere a = checked true true true false _ ranged unfinished opened (sym ea ∙ not-true ok a) refl
+
+        module _ (a : not ok ≡ false) (s : CellState) (es : s ≡ p .cells b c) where
+          allowed : may (p .due) b ≡ true
+          allowed = sym ea ∙ not-false ok a
+
+          pub accepted : s ≡ Empty → 0 ≡ refusal (play p m)
+          unfolding first-failed if_then_else_
+          accepted e = checked true true true true true ranged unfinished opened allowed (ap blank (sym es ∙ e))
+
+          pub taken : (w : Player) → s ≡ Played w → 13 ≡ refusal (play p m)
+          unfolding first-failed if_then_else_
+          taken w e = checked true true true true false ranged unfinished opened allowed (ap blank (sym es ∙ e))
+
+-- a refusal has a number from 9 on, so 0 is said of an accepted move alone
+pub nought-accepts : (p : Position) (m : ℕ) → refusal (play p m) ≡ 0 → T (accepts p m)
+unfolding refusal
+nought-accepts p m e = elim (is (accepts p m)) [
+  | inl t ↦ t
+  | inr t ↦ (let q = play-refused p m t in let z : first-failed (checks p (board-of m) (cell-of m)) ≡ 0 = sym (ap refusal q) ∙ e in absurd (omega (arith, refusal-is-first p m _ q .lowest)))
+]
+
+pub refused-not-accepts : (p : Position) (m : ℕ) → (refusal (play p m) ≡ 0 → ⊥) → T (not (accepts p m))
+unfolding refusal
+refused-not-accepts p m h = →not (accepts p m) (λ t. h (ap refusal (play-accepted p m t)))

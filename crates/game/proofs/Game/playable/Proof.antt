@@ -1,0 +1,53 @@
+-- None of a finished game; else the open boards, and of these the due one alone if there is one.
+use mathlib.Core.Path.{sym, ap, _∙_}
+use borrow.Author.Tests.{not-true, not-false}
+use borrow.Author.Needs.{needs}
+use Rattle.game.specs.Meaning.{due-of, position-of}
+use Rattle.game.proofs.Lists.{none-over, none-due, all-open, one-open}
+use Rattle.game.proofs.Game.playable.Statement.{statement}
+use Rattle.game.proofs.Game.playable.Tie as tie
+
+terminal-requires : tie.Need-terminal-requires
+terminal-requires c κs = search needs
+
+returns : tie.Need-returns
+returns c = none-over (position-of (c .before .before .args .self)) (not-true _ (sym (c .before .terminal .ensures) ∙ c .if1 .taken))
+
+openbits-requires : tie.Need-openbits-requires
+openbits-requires c κs = search needs
+
+enum-told : tie.Need-enum-told
+enum-told c = search needs
+
+enum-known-next : tie.Need-enum-known-next
+enum-known-next c = search needs
+
+cast-result : tie.Need-cast-result
+cast-result c = search needs
+
+shl-result : tie.Need-shl-result
+shl-result c = search needs
+
+returns-2 : tie.Need-returns-2
+returns-2 c = all-open (position-of (c .before .before .before .before .before .before .args .self)) _ (not-false _ (sym (c .before .before .before .before .before .terminal .ensures) ∙ c .before .before .before .before .if1 .left)) (c .before .before .openbits .ensures) (ap due-of (c .enum-told .given .1))
+
+returns-3 : tie.Need-returns-3
+returns-3 c = none-due (position-of (c .before .before .before .before .before .before .before .before .args .self)) _ (ap due-of (c .before .before .next .given .1)) (c .if2 .taken)
+
+returns-4 : tie.Need-returns-4
+returns-4 c = one-open (position-of (c .before .before .before .before .before .before .before .before .args .self)) _ (not-false _ (sym (c .before .before .before .before .before .before .before .terminal .ensures) ∙ c .before .before .before .before .before .before .if1 .left)) (c .before .before .before .before .openbits .ensures) _ (ap due-of (c .before .before .next .given .1)) (c .if2 .left)
+
+pub playable-spec : {M : Type 1} → statement M
+playable-spec =
+    tie.close
+    (tie.spec
+    terminal-requires
+    returns
+    openbits-requires
+    enum-told
+    enum-known-next
+    cast-result
+    shl-result
+    returns-2
+    returns-3
+    returns-4)

@@ -1,0 +1,10 @@
+pub mod Sides
+pub mod Rows
+pub mod Meaning
+pub mod Answers
+pub mod Tries
+pub mod Hash
+pub mod Lists
+pub mod Counted
+pub mod Neat
+pub mod Played

@@ -1,0 +1,5 @@
+pub mod Meaning
+pub mod After
+pub mod Built
+pub mod Look
+pub mod Neat

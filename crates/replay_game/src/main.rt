@@ -1,0 +1,433 @@
+// Replays the Rust's answers on play, hash, list of moves and `equivalent`, and prints how many agree and each record that does not.
+// The records are made by tools/lists.py, which says what the numbers of a record are.
+ghost use Prim.Native.Nat.{_<_};
+use boards::Answer;
+use boards::GlobalStates;
+use boards::Listed;
+use boards::LocalBoards;
+use boards::Move;
+use boards::MoveError;
+use boards::MoveIterator;
+use boards::Row;
+use game::Game;
+use game::NextBoard;
+use libc::STDIN_FILENO;
+use libc::STDOUT_FILENO;
+use records::Scan;
+use rules::GameState;
+use rules::Player;
+
+// The most numbers of a record.
+const MOST: usize = 1024;
+
+fn error_number(e: MoveError) -> u64 {
+    match e {
+        MoveError::OutOfBounds => 9,
+        MoveError::GameOver => 10,
+        MoveError::WonBoard => 11,
+        MoveError::WrongBoard => 12,
+        MoveError::NotEmpty => 13,
+    }
+}
+
+fn answer_number(a: Answer) -> u64 {
+    match a {
+        Answer::Accepted => 0,
+        Answer::Refused(e) => error_number(e),
+    }
+}
+
+fn player_number(p: Player) -> u64 {
+    match p {
+        Player::X => 0,
+        Player::O => 1,
+    }
+}
+
+fn player_of(n: u64) -> Player {
+    if n == 0 { Player::X } else { Player::O }
+}
+
+fn won_number(p: Player) -> u64 {
+    match p {
+        Player::X => 2,
+        Player::O => 3,
+    }
+}
+
+fn state_number(s: GameState) -> u64 {
+    match s {
+        GameState::InPlay => 0,
+        GameState::Drawn => 1,
+        GameState::Won(p) => won_number(p),
+    }
+}
+
+fn state_of(n: u64) -> GameState {
+    match n {
+        0 => GameState::InPlay,
+        1 => GameState::Drawn,
+        2 => GameState::Won(Player::X),
+        _ => GameState::Won(Player::O),
+    }
+}
+
+fn next_number(n: NextBoard) -> u64 {
+    match n {
+        NextBoard::Any => 255,
+        NextBoard::Only(b) => b as u64,
+    }
+}
+
+fn next_of(n: u64) -> NextBoard {
+    if n == 255 {
+        NextBoard::Any
+    } else {
+        NextBoard::Only((n % 256) as u8)
+    }
+}
+
+fn move_of(n: u64) -> Move {
+    Move {
+        bits: (n % 256) as u8,
+    }
+}
+
+fn low(n: u64) -> u32 {
+    (n % 4294967296) as u32
+}
+
+fn row_at(words: &[u64], i: usize) -> Row
+    requires { ⌜ i < 200000 ⌝ }
+{
+    Row {
+        x: low(records::at(words, i)),
+        o: low(records::at(words, i + 1)),
+    }
+}
+
+// The game of the eleven numbers of a position.
+fn position_at(words: &[u64], i: usize) -> Game
+    requires { ⌜ i < 100000 ⌝ }
+{
+    let rows = [
+        row_at(words, i + 2),
+        row_at(words, i + 4),
+        row_at(words, i + 6),
+    ];
+    let states = GlobalStates {
+        x: (records::at(words, i + 8) % 65536) as u16,
+        o: (records::at(words, i + 9) % 65536) as u16,
+    };
+    Game::pack(
+        player_of(records::at(words, i)),
+        next_of(records::at(words, i + 1)),
+        LocalBoards { rows },
+        states,
+        state_of(records::at(words, i + 10)),
+    )
+}
+
+// The game after some tried moves, and whether each was answered as it should be.
+pub struct Run {
+    pub game: Game,
+    pub good: bool,
+}
+
+fn run_moves(words: &[u64], from: usize, count: usize, start: Game) -> Run
+    requires { ⌜ (from < 100000) × (count < 512) ⌝ }
+{
+    let mut game = start;
+    let mut good = true;
+    let mut k: usize = 0;
+    while k < count {
+        let made = game.make_move(move_of(records::at(words, from + k)));
+        let answer = made.answer;
+        if answer_number(answer) != records::at(words, from + count + k) {
+            good = false;
+        }
+        game = made.game;
+        k += 1;
+    }
+    Run { game, good }
+}
+
+fn same_row(words: &[u64], i: usize, row: Row) -> bool
+    requires { ⌜ i < 200000 ⌝ }
+{
+    if row.x as u64 != records::at(words, i) {
+        return false;
+    }
+    row.o as u64 == records::at(words, i + 1)
+}
+
+fn same_rows(words: &[u64], i: usize, boards: LocalBoards) -> bool
+    requires { ⌜ i < 100000 ⌝ }
+{
+    let rows = boards.rows;
+    if !same_row(words, i, rows[0]) {
+        return false;
+    }
+    if !same_row(words, i + 2, rows[1]) {
+        return false;
+    }
+    same_row(words, i + 4, rows[2])
+}
+
+// Whether the cursor gives exactly the moves of a record.
+fn same_moves(words: &[u64], i: usize, list: MoveIterator) -> bool
+    requires { ⌜ i < 100000 ⌝ }
+{
+    let n = records::at(words, i);
+    if list.count() as u64 != n {
+        return false;
+    }
+    let mut left = list;
+    let mut k: usize = 0;
+    while k < 81 {
+        match left.next() {
+            Listed::End => {
+                return k as u64 == n;
+            }
+            Listed::Next(m, rest) => {
+                if m.bits as u64 != records::at(words, i + 1 + k) {
+                    return false;
+                }
+                left = rest;
+            }
+        }
+        k += 1;
+    }
+    n == 81
+}
+
+fn fresh_hash(g: Game) -> u64 {
+    let player = g.next_player;
+    let next = g.next_board;
+    let boards = g.local_boards;
+    let states = g.global_states;
+    let state = g.game_state;
+    let h = Game::pack(player, next, boards, states, state);
+    h.hash
+}
+
+fn same_numbers(words: &[u64], i: usize, g: Game) -> bool
+    requires { ⌜ i < 100000 ⌝ }
+{
+    if g.hash != records::at(words, i) {
+        return false;
+    }
+    if fresh_hash(g) != records::at(words, i + 1) {
+        return false;
+    }
+    if g.zobrist() != records::at(words, i + 2) {
+        return false;
+    }
+    if state_number(g.game_state()) != records::at(words, i + 3) {
+        return false;
+    }
+    if player_number(g.player()) != records::at(words, i + 4) {
+        return false;
+    }
+    if next_number(g.board_to_play()) != records::at(words, i + 5) {
+        return false;
+    }
+    if g.bound_depth() as u64 != records::at(words, i + 6) {
+        return false;
+    }
+    g.open_boards() as u64 == records::at(words, i + 7)
+}
+
+// Moves tried from a game: the numbers at `i` are k, the moves, their answers, and what is expected at the end.
+fn same_play(words: &[u64], i: usize, start: Game) -> bool
+    requires { ⌜ i < 1000 ⌝ }
+{
+    let count = (records::at(words, i) % 512) as usize;
+    let run = run_moves(words, i + 1, count, start);
+    let end = i + 1 + 2 * count;
+    let g = run.game;
+    if !run.good {
+        return false;
+    }
+    if !same_rows(words, end, g.local_boards) {
+        return false;
+    }
+    if !same_numbers(words, end + 6, g) {
+        return false;
+    }
+    same_moves(words, end + 15, g.all_moves())
+}
+
+fn same_equivalence(words: &[u64]) -> bool {
+    let a = position_at(words, 1);
+    let b = position_at(words, 12);
+    let forth = if a.equivalent(b) { 1 } else { 0 };
+    let back = if b.equivalent(a) { 1 } else { 0 };
+    if forth != records::at(words, 23) {
+        return false;
+    }
+    back == records::at(words, 24)
+}
+
+fn agrees(words: &[u64]) -> bool {
+    match records::at(words, 0) {
+        1 => same_play(words, 1, Game::new()),
+        2 => same_play(words, 12, position_at(words, 1)),
+        3 => same_equivalence(words),
+        _ => false,
+    }
+}
+
+// Whether the number before the list of moves of a play says that the list is not the Rust's.
+fn marks_list(words: &[u64], i: usize) -> bool
+    requires { ⌜ i < 1000 ⌝ }
+{
+    let count = (records::at(words, i) % 512) as usize;
+    records::at(words, i + 15 + 2 * count) == 1
+}
+
+// Whether the record's list of moves is document 01's and not the Rust's.
+fn is_apart(words: &[u64]) -> bool {
+    match records::at(words, 0) {
+        1 => marks_list(words, 1),
+        2 => marks_list(words, 12),
+        _ => false,
+    }
+}
+
+pub struct Totals {
+    pub records: u64,
+    pub agreed: u64,
+    pub apart: u64,
+}
+
+// Where the reading stands.
+pub struct Progress {
+    pub scan: Scan,
+    pub totals: Totals,
+}
+
+fn one_more(n: u64) -> u64 {
+    if n < 1000000000 { n + 1 } else { n }
+}
+
+fn report(line: u64) {
+    io::write_all(STDOUT_FILENO, b"differs: record ");
+    io::print_decimal(STDOUT_FILENO, line);
+    io::write_all(STDOUT_FILENO, b"\n");
+}
+
+// The totals with one record more.
+fn tally(totals: Totals, words: &[u64]) -> Totals {
+    let records = one_more(totals.records);
+    if !agrees(words) {
+        report(records);
+        return Totals {
+            records,
+            agreed: totals.agreed,
+            apart: totals.apart,
+        };
+    }
+    let apart = if is_apart(words) {
+        one_more(totals.apart)
+    } else {
+        totals.apart
+    };
+    Totals {
+        records,
+        agreed: one_more(totals.agreed),
+        apart,
+    }
+}
+
+// After one byte: a line feed ends a record.
+fn step(progress: Progress, b: u8, words: &mut [u64]) -> Progress {
+    let scan = progress.scan;
+    let totals = progress.totals;
+    let after = scan.push(b, words);
+    if b != b'\n' {
+        return Progress {
+            scan: after,
+            totals,
+        };
+    }
+    let n = after.count;
+    if n > words.len() {
+        return Progress {
+            scan: Scan::NEW,
+            totals,
+        };
+    }
+    Progress {
+        scan: Scan::NEW,
+        totals: tally(totals, &words[0..n]),
+    }
+}
+
+fn feed(bytes: &[u8], progress: Progress, words: &mut [u64]) -> Progress {
+    let mut p = progress;
+    let mut i: usize = 0;
+    while i < bytes.len() {
+        p = step(p, bytes[i], words);
+        i += 1;
+    }
+    p
+}
+
+// After one read, and whether there may be more to read.
+pub struct Turn {
+    pub progress: Progress,
+    pub more: bool,
+}
+
+fn read_some(progress: Progress, words: &mut [u64]) -> Turn {
+    let mut buffer = io::large_buffer();
+    let got = libc::read(STDIN_FILENO, &mut buffer);
+    let n = io::count(got, &buffer);
+    if n == 0 {
+        return Turn {
+            progress,
+            more: false,
+        };
+    }
+    let after = feed(&buffer[..n], progress, words);
+    Turn {
+        progress: after,
+        more: true,
+    }
+}
+
+fn print_totals(t: Totals) {
+    io::print_decimal(STDOUT_FILENO, t.agreed);
+    io::write_all(STDOUT_FILENO, b" of ");
+    io::print_decimal(STDOUT_FILENO, t.records);
+    io::write_all(STDOUT_FILENO, b" records agree, ");
+    io::print_decimal(STDOUT_FILENO, t.apart);
+    io::write_all(
+        STDOUT_FILENO,
+        b" of them with document 01's list of moves for the Rust's\n",
+    );
+}
+
+// A proved loop has to end, and nothing says that the input does: the turns are counted down from a number that no run uses up.
+fn main() {
+    let mut words = [0u64; MOST];
+    let mut progress = Progress {
+        scan: Scan::NEW,
+        totals: Totals {
+            records: 0,
+            agreed: 0,
+            apart: 0,
+        },
+    };
+    let mut turns = u64::MAX;
+    while turns > 0 {
+        let turn = read_some(progress, &mut words);
+        progress = turn.progress;
+        if !turn.more {
+            break;
+        }
+        turns -= 1;
+    }
+    print_totals(progress.totals);
+}

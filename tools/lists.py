@@ -1,0 +1,140 @@
+#!/usr/bin/env python3
+"""Turn the Rust's stored answers into the lists of numbers that the replay programs read.
+
+usage: lists.py game ANSWERS > crates/replay_game/stdin
+       lists.py notation ANSWERS > crates/replay_notation/stdin
+
+ANSWERS is a folder of files KIND.req and KIND.ans, a request and an answer to a line, as the driver around the Rust
+engine gives them (docs/ORACLE.md). A list has a record to a line, decimal numbers parted by blanks:
+
+  1 k m.. r..                       k moves tried from the empty board, and what each was answered: 0, or 9 to 13
+  2 POSITION k m.. r..              the same from a position
+    then x o x o x o hash fresh zobrist state player next bound open apart n m..
+  3 POSITION POSITION a b           whether each is equivalent to the other
+  4 n byte.. number offset length   a text that is refused
+  5 n byte.. then as above from x o, without apart n m..   a text that is read
+  6 n byte.. number byte move       a move's text: 0, 7 or 8, the byte that 8 names, the move
+  7 byte set                        from_byte: 0 for none
+  8 byte byte set                   merge
+
+POSITION is: side (X 0, O 1), next board (255 for free choice), x and o of each row, x and o of the states, in play 0,
+drawn 1, won by X 2, won by O 3. apart is 1 where the Rust's list of moves differs from document 01's (a finished game
+has none), which is then the one expected; in 4 a text of over 256 bytes, or one on which the Rust panics, has document
+01's answer (1, or 5 at the mark).
+"""
+import re, sys
+
+ERRORS = {"ok": 0, "OutOfBounds": 9, "GameOver": 10, "WonBoard": 11, "WrongBoard": 12, "NotEmpty": 13}
+STATES = {"InPlay": 0, "Drawn": 1, "WonX": 2, "WonO": 3}
+KINDS = {"MissingSection": 2, "BadPlayer": 3, "TooFewSquares": 4, "BadBoard": 5, "TooShort": 6}
+LINES = [(0, 1, 2), (3, 4, 5), (6, 7, 8), (0, 3, 6), (1, 4, 7), (2, 5, 8), (0, 4, 8), (6, 4, 2)]
+
+
+def pairs(folder, kind):
+    with open(f"{folder}/{kind}.req", "rb") as q, open(f"{folder}/{kind}.ans", "rb") as a:
+        for request, answer in zip(q.read().split(b"\n"), a.read().split(b"\n")):
+            if request:
+                yield request.split(b"\t"), answer.decode("utf-8", "replace")
+
+
+def letters(text):
+    text = text.decode() if isinstance(text, bytes) else text
+    return [16 * (ord(text[i]) - 97) + ord(text[i + 1]) - 97 for i in range(0, len(text), 2)]
+
+
+def position(text):
+    """The numbers of a position text that reads."""
+    side, overall, cells = text.decode().split(";")
+    rows = [0] * 6
+    for board, part in enumerate(cells[:89].split("/")):
+        for cell, mark in enumerate(part):
+            if mark in "XO":
+                rows[2 * (board // 3) + "XO".index(mark)] |= 1 << (9 * (board % 3) + cell)
+    x = sum(1 << b for b in range(9) if overall[b] in "X#")
+    o = sum(1 << b for b in range(9) if overall[b] in "O#")
+    other = (o & ~x, x & ~o)["XO".index(side)]
+    if any(all(other >> i & 1 for i in line) for line in LINES):
+        state = (3, 2)["XO".index(side)]
+    else:
+        state = 1 if x | o == 0x1FF else 0
+    due = overall.rfind("@")
+    return ["XO".index(side), 255 if due < 0 else due] + rows + [x, o, state]
+
+
+def fields(answer):
+    return dict(re.findall(r"(\w+)=(\S+)", answer))
+
+
+def tail(answer):
+    f = fields(answer)
+    rows = [int(n, 16) for row in f["rows"].split(",") for n in row.split(".")]
+    return rows + [int(f["hash"]), int(f["fresh"]), int(f["zobrist"]), STATES[f["state"]], "XO".index(f["player"]),
+                   255 if f["next"] == "-" else int(f["next"]), int(f["bound"]), int(f["open"])]
+
+
+def listed(answer):
+    f = fields(answer)
+    if f["state"] != "InPlay":
+        return [1, 0]
+    moves = [] if f["moves"] == "-" else letters(f["moves"])
+    return [0, len(moves)] + moves
+
+
+def tried(moves, answer):
+    results = answer.split(" ")[0]
+    results = [] if results == "-" else [ERRORS[r] for r in results.split(",")]
+    assert len(results) == len(moves)
+    return [len(moves)] + moves + results + tail(answer) + listed(answer)
+
+
+def game(folder):
+    for request, answer in pairs(folder, "play"):
+        yield [1] + tried(letters(request[1]), answer)
+    for request, answer in pairs(folder, "from"):
+        if not answer.startswith(("ERR", "PANIC")):
+            yield [2] + position(request[1]) + tried(letters(request[2]) if len(request) > 2 else [], answer)
+    for request, answer in pairs(folder, "equiv"):
+        a, b = answer.split()
+        yield [3] + position(request[1]) + position(request[2]) + [int(a == "true"), int(b == "true")]
+
+
+def bad_mark(text):
+    overall = text.split(b";")[1]
+    return next(i for i, c in enumerate(overall) if c not in b"XO#@.")
+
+
+def notation(folder):
+    for request, answer in pairs(folder, "parse"):
+        text = b"\t".join(request[1:])
+        head = [len(text)] + list(text)
+        if len(text) > 256:
+            yield [4] + head + [1, 0, 0]
+        elif answer.startswith("PANIC") or answer.startswith("NOTUTF8"):
+            yield [4] + head + [5, 2 + bad_mark(text), 1]
+        elif answer.startswith("ERR"):
+            _, kind, offset, length = answer.split()
+            yield [4] + head + [KINDS[kind], int(offset), int(length)]
+        else:
+            yield [5] + head + tail(answer)
+    for request, answer in pairs(folder, "move"):
+        text = b"\t".join(request[1:])
+        head = [len(text)] + list(text)
+        words = answer.split()
+        if words[0] == "ok":
+            yield [6] + head + [0, 0, int(words[1])]
+        elif words[0] == "BadLength":
+            yield [6] + head + [7, 0, 255]
+        else:
+            byte = next(c for c in text if not 97 <= c <= 105)
+            yield [6] + head + [8, byte, 255]
+    for request, answer in pairs(folder, "status"):
+        numbers = [int(n) for n in request[1:]]
+        value = 0 if answer == "none" else int(answer.split()[0])
+        yield ([8] if request[0] == b"merge" else [7]) + numbers + [value]
+
+
+if __name__ == "__main__":
+    if len(sys.argv) != 3 or sys.argv[1] not in ("game", "notation"):
+        sys.exit(__doc__)
+    for record in (game if sys.argv[1] == "game" else notation)(sys.argv[2]):
+        print(*record)
