@@ -12,10 +12,11 @@ engine gives them (docs/ORACLE.md). A list has a record to a line, decimal numbe
     then x o x o x o hash fresh zobrist state player next bound open apart n m..
   3 POSITION POSITION a b           whether each is equivalent to the other
   4 n byte.. number offset length   a text that is refused
-  5 n byte.. then as above from x o, without apart n m..   a text that is read
+  5 n byte.. byte*101 hash zobrist state bound   a text that is read, with the text that its game is rendered as
   6 n byte.. number byte move       a move's text: 0, 7 or 8, the byte that 8 names, the move
   7 byte set                        from_byte: 0 for none
   8 byte byte set                   merge
+  9 k m.. byte*101                  k moves tried from the empty board, and the text of the game at their end
 
 POSITION is: side (X 0, O 1), next board (255 for free choice), x and o of each row, x and o of the states, in play 0,
 drawn 1, won by X 2, won by O 3. apart is 1 where the Rust's list of moves differs from document 01's (a finished game
@@ -115,7 +116,8 @@ def notation(folder):
             _, kind, offset, length = answer.split()
             yield [4] + head + [KINDS[kind], int(offset), int(length)]
         else:
-            yield [5] + head + tail(answer)
+            f = fields(answer)
+            yield [5] + head + list(f["render"].encode()) + [int(f["hash"]), int(f["zobrist"]), STATES[f["state"]], int(f["bound"])]
     for request, answer in pairs(folder, "move"):
         text = b"\t".join(request[1:])
         head = [len(text)] + list(text)
@@ -131,6 +133,9 @@ def notation(folder):
         numbers = [int(n) for n in request[1:]]
         value = 0 if answer == "none" else int(answer.split()[0])
         yield ([8] if request[0] == b"merge" else [7]) + numbers + [value]
+    for request, answer in pairs(folder, "play"):
+        moves = letters(request[1])
+        yield [9, len(moves)] + moves + list(fields(answer)["render"].encode())
 
 
 if __name__ == "__main__":

@@ -17,7 +17,7 @@ use Rattle.theory.specs.Memory.{Memory}
 use Rattle.theory.specs.OrderedSearch.{Allowance}
 use Rattle.theory.specs.Deepening.{analyze}
 use Rattle.theory.proofs.Alike.{Alike, alike-analyze}
-use Rattle.reference.specs.Reference.{game, Kept, kept-tried, kept-game}
+use Rattle.reference.specs.Reference.{game, Kept, kept-tried, kept-reached, kept-game}
 
 -- ---- a move, tried: refused or not, it leaves position and hash in step
 module _ (k : Kept) (m : ℕ) where
@@ -35,11 +35,6 @@ module _ (k : Kept) (m : ℕ) where
       (λ t. e ∙ ap hash (sym (tried-refused (k .position) m t)))
 
 -- ---- a list of moves, tried
--- what is kept at the end of the list
-unfoldable pub kept-reached : Kept → List ℕ → Kept
-kept-reached k [] = k
-kept-reached k (m ∷ ms) = kept-reached (kept-tried k m) ms
-
 -- the position at the end is the one that the rules reach
 pub kept-reached-position : (k : Kept) (ms : List ℕ) → kept-reached k ms .position ≡ reached (k .position) ms
 unfolding kept-reached reached

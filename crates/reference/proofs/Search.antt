@@ -22,35 +22,17 @@ use Rattle.rules.proofs.Sound.{Good, start-is-good, reached-good}
 use Rattle.theory.specs.Table.{off}
 use Rattle.theory.specs.Memory.{Memory}
 use Rattle.theory.specs.OrderedSearch.{Allowance, unlimited, at-most}
-use Rattle.theory.specs.Deepening.{Whole, nothing-yet, Answer, deepen, analyze}
-use Rattle.theory.specs.Line.{Begins, Right}
-use Rattle.theory.proofs.Allowance.{Limited, allowance-limits, mark-means-spent, stopped-right}
+use Rattle.theory.specs.Deepening.{Whole, Answer, deepen, analyze}
+use Rattle.theory.specs.Line.{Right}
+use Rattle.theory.specs.Allowance.{Limited}
+use Rattle.theory.proofs.Allowance.{allowance-limits, mark-means-spent, stopped-right}
 use Rattle.theory.proofs.Deepening.{analyze-right}
 use Rattle.reference.specs.Reference.{game, win-for}
 use Rattle.reference.specs.Truth.{StatusTells}
+use Rattle.reference.specs.Answers.{entries, AnswersWhole, AnswersSpent}
 use Rattle.reference.proofs.Lawful.{rules-lawful}
 use Rattle.reference.proofs.Wins.{unfinished}
 use Rattle.reference.proofs.Truth.{good-status-tells}
-
--- how many positions the ordered search enters, from none counted
-abbrev pub entries : DrawWinner → ℕ → Position → Memory → ℕ
-entries draws limit p s = analyze (game draws) unlimited limit p s .memory .count
-
--- x answers a search of p to a limit of k + 1: it is not stopped, and its score is plain minimax's to that limit, attained by its first move, which is
--- listed, and by its line, whose moves are accepted
-pub record AnswersWhole (draws : DrawWinner) (k : ℕ) (p : Position) (x : Answer) : Type 0 where
-  pub unmarked : T (not (x .is-stopped))
-  pub right : Right (game draws) k p (x .whole)
-  pub first-attains : Begins (game draws) k p (x .whole .line) (x .whole .score)
-
--- x answers a search of p that was stopped inside such a limit with its allowance of n spent: it is right so for the last whole depth, and nothing
--- where there is none
-pub record AnswersSpent (draws : DrawWinner) (n k : ℕ) (p : Position) (x : Answer) : Type 0 where
-  pub marked : T (x .is-stopped)
-  pub counted : x .memory .count ≡ n
-  pub shallower : x .whole .depth ≤ k
-  pub right-so-far : (j : ℕ) → x .whole .depth ≡ suc j → Right (game draws) j p (x .whole)
-  pub nothing-so-far : x .whole .depth ≡ 0 → x .whole ≡ nothing-yet
 
 -- a win is not nothing
 not-nothing : (v w : Player) → pos 0 ≡ seen-by v (seen-by w won) → ⊥
@@ -83,12 +65,14 @@ module _ (ms : List ℕ) (t : T (going (reached start ms))) (s : Memory) (table-
         r = analyze-right (game draws) (rules-lawful draws) (at-most n) k p g s table-off unmarked
 
     -- else the search is stopped, and its answer is right for the last whole depth
-    pub stopped-right-too : n < entries draws (suc k) p s → AnswersSpent draws n k p (analyze (game draws) (at-most n) (suc k) p s)
+    pub stopped-right-too : n < entries draws (suc k) p s → AnswersSpent draws n k p s (analyze (game draws) (at-most n) (suc k) p s)
     unfolding analyze deepen
     stopped-right-too h = let z = limited .spent h in record {
       marked = z .marked;
       counted = z .counted;
       shallower = omega (arith, z .shallower);
+      fits = z .fits;
+      next-too-many = z .next-too-many;
       right-so-far = stopped-right (game draws) (rules-lawful draws) n (suc k) p g s table-off (omega arith) (z .marked);
       nothing-so-far = λ e. z .whole-is ∙ ap (λ (d : ℕ). analyze (game draws) unlimited d p s .whole) e;
     }
@@ -113,7 +97,7 @@ module _ (ms : List ℕ) (t : T (going (reached start ms))) (s : Memory) (table-
         x : Answer
         x = analyze (game Nobody) (at-most n) (suc k) p s
 
-        z : AnswersSpent Nobody n k p x
+        z : AnswersSpent Nobody n k p s x
         z = stopped-right-too Nobody n (mark-means-spent (game Nobody) n (suc k) p s (omega arith) u)
 
         by-depth : (d : ℕ) → x .whole .depth ≡ d → ⊥

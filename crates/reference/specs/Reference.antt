@@ -1,5 +1,6 @@
 -- The written rules as a game for the search; and the same game with the hash that play keeps.
 use mathlib.Core.Bool.{not}
+use mathlib.Core.List.{List, [], _∷_}
 use Prim.Native.Nat.{ℕ}
 use lib.IntN.{ℤ}
 use Rattle.base.specs.Branch.{if_then_else_}
@@ -44,6 +45,11 @@ kept-tried k m = let p = k .position in
     if accepts p m
     then (λ _. record { position = tried p m; hash = hash-after p (board-of m) (cell-of m) (k .hash) })
     else λ _. k
+
+-- what is kept at the end of a list of tried moves
+unfoldable pub kept-reached : Kept → List ℕ → Kept
+kept-reached k [] = k
+kept-reached k (m ∷ ms) = kept-reached (kept-tried k m) ms
 
 -- the key is made of the hash that went along
 abbrev pub kept-game : DrawWinner → Game

@@ -20,6 +20,7 @@ use Rattle.theory.specs.Memory.{Memory, begin, enter, leaf, cut}
 use Rattle.theory.specs.OrderedSearch.{Allowance, unlimited, at-most, Outcome, stopped, found, unless-stopped, entering, Probed, known, missed, probe, on-probe, set-first, told, candidates, Search, over-moves, search}
 use Rattle.theory.specs.Deepening.{Whole, nothing-yet, one-deeper, Answer, decided, on-outcome, deepen, analyze}
 use Rattle.theory.specs.Line.{Right}
+use Rattle.theory.specs.Allowance.{Limited}
 use Rattle.theory.proofs.Plain.{Lawful}
 use Rattle.theory.proofs.Memory.{Leaves, count-enter, count-begin, count-leaf, count-cut, count-probe, count-told, Off}
 use Rattle.theory.proofs.Deepening.{analyze-right}
@@ -87,32 +88,43 @@ module _ (n : ℕ) where
       no-more (stopped z) o h w = w
       no-more (found r line s') o h w = record { grows = omega (arith, w .grows, count-enter s); same = λ k. absurd (omega (arith, w .grows, count-enter s)); stops = λ i j. (s, refl, omega arith) }
 
-  -- ---- depth after depth. y stopped with n counted, after fewer than k depths from w on; `upto j` is what the unlimited search to j depths comes to
-  record Spent-at (k : ℕ) (w : Whole) (upto : ℕ → Whole) (y : Answer) : Type 0 where
+  -- ---- depth after depth. y stopped with n counted, after fewer than k depths from w on; `upto j` is the unlimited search's answer to j depths
+  record Spent-at (k : ℕ) (w : Whole) (upto : ℕ → Answer) (y : Answer) : Type 0 where
     marked : T (y .is-stopped)
     counted : y .memory .count ≡ n
     depths : ℕ
     fewer : depths < k
     depth-is : y .whole .depth ≡ depths + w .depth
-    whole-is : y .whole ≡ upto depths
+    whole-is : y .whole ≡ upto depths .whole
+    fits : upto depths .memory .count ≤ n
+    next-too-many : n < upto (suc depths) .memory .count
 
   -- the unlimited answer x and the limited one y, to k depths more, from w and s
-  record Beside (k : ℕ) (w : Whole) (s : Memory) (upto : ℕ → Whole) (x y : Answer) : Type 0 where
+  record Beside (k : ℕ) (w : Whole) (s : Memory) (upto : ℕ → Answer) (x y : Answer) : Type 0 where
     x-grows : s .count ≤ x .memory .count
     x-whole : T (not (x .is-stopped))
     y-same : x .memory .count ≤ n → y ≡ x
     y-stops : s .count ≤ n → n < x .memory .count → Spent-at k w upto y
 
-  beside-whole : (k : ℕ) (w w' : Whole) (s : Memory) (upto : ℕ → Whole) → let x : Answer = record { is-stopped = false; whole = w'; memory = s } in Beside k w s upto x x
+  beside-whole : (k : ℕ) (w w' : Whole) (s : Memory) (upto : ℕ → Answer) → let x : Answer = record { is-stopped = false; whole = w'; memory = s } in Beside k w s upto x x
   beside-whole k w w' s upto = record { x-grows = omega arith; x-whole = tt; y-same = λ _. refl; y-stops = λ h k. absurd (omega arith) }
 
   -- the depth after w came to w', and k depths more are as said
-  beside-suc : (k : ℕ) (w w' : Whole) (s : Memory) (upto' upto : ℕ → Whole) (x y : Answer) → w' .depth ≡ suc (w .depth) → ((j : ℕ) → upto' j ≡ upto (suc j)) → Beside k w' s upto' x y → Beside (suc k) w s upto x y
+  beside-suc : (k : ℕ) (w w' : Whole) (s : Memory) (upto' upto : ℕ → Answer) (x y : Answer) → w' .depth ≡ suc (w .depth) → ((j : ℕ) → upto' j ≡ upto (suc j)) → Beside k w' s upto' x y → Beside (suc k) w s upto x y
   beside-suc k w w' s upto' upto x y e same h = record {
     x-grows = h .x-grows;
     x-whole = h .x-whole;
     y-same = h .y-same;
-    y-stops = λ i j. let z = h .y-stops i j in record { marked = z .marked; counted = z .counted; depths = suc (z .depths); fewer = omega (arith, z .fewer); depth-is = omega (arith, z .depth-is); whole-is = z .whole-is ∙ same (z .depths) };
+    y-stops = λ i j. let z = h .y-stops i j in record {
+      marked = z .marked;
+      counted = z .counted;
+      depths = suc (z .depths);
+      fewer = omega (arith, z .fewer);
+      depth-is = omega (arith, z .depth-is);
+      whole-is = z .whole-is ∙ ap (λ (a : Answer). a .whole) (same (z .depths));
+      fits = subst (λ (a : Answer). a .memory .count ≤ n) (same (z .depths)) (z .fits);
+      next-too-many = subst (λ (a : Answer). n < a .memory .count) (same (suc (z .depths))) (z .next-too-many);
+    };
   }
 
   module _ (G : Game) where
@@ -147,17 +159,17 @@ module _ (n : ℕ) where
           (λ r line s'. let w' = one-deeper w r line (s' .tally) in
           if decided r then (λ _. record { is-stopped = false; whole = w'; memory = s' }) else λ _. deepen G allowed k p w' s')
 
-      beside-next : (k : ℕ) (w : Whole) (s : Memory) (upto : ℕ → Whole) (u o : Outcome) → w ≡ upto 0 → ((j : ℕ) → next-depth unlimited j w u .whole ≡ upto (suc j)) → Agree s u o →
-          ((w' : Whole) (s' : Memory) → Beside k w' s' (λ j. deepen G unlimited j p w' s' .whole) (deepen G unlimited k p w' s') (deepen G (at-most n) k p w' s')) →
+      beside-next : (k : ℕ) (w : Whole) (s : Memory) (upto : ℕ → Answer) (u o : Outcome) → record { is-stopped = false; whole = w; memory = s } ≡ upto 0 → ((j : ℕ) → next-depth unlimited j w u ≡ upto (suc j)) → Agree s u o →
+          ((w' : Whole) (s' : Memory) → Beside k w' s' (λ j. deepen G unlimited j p w' s') (deepen G unlimited k p w' s') (deepen G (at-most n) k p w' s')) →
           Beside (suc k) w s upto (next-depth unlimited k w u) (next-depth (at-most n) k w o)
-      unfolding Agree on-outcome
+      unfolding Agree on-outcome deepen
       beside-next k w s upto (stopped z) o first later h f = absurd h
       beside-next k w s upto (found r line s') o first later h f = record {
         x-grows = omega (arith, h .grows, deeper .x-grows);
         x-whole = deeper .x-whole;
         y-same = λ i. at (h .same (omega (arith, deeper .x-grows))) ∙ deeper .y-same i;
         y-stops = λ i j. elim (lt-or n (s' .count)) [
-          | inl q ↦ here (h .stops i q)
+          | inl q ↦ here i q (h .stops i q)
           | inr q ↦ subst (Spent-at (suc k) w upto) (sym (at (h .same q))) (deeper .y-stops q j)
         ];
       }
@@ -168,46 +180,53 @@ module _ (n : ℕ) where
           at : o ≡ found r line s' → next-depth (at-most n) k w o ≡ next-depth (at-most n) k w (found r line s')
           at e = ap (next-depth (at-most n) k w) e
 
-          not-decided : T (not (decided r)) → (j : ℕ) → deepen G unlimited j p w' s' .whole ≡ next-depth unlimited j w (found r line s') .whole
-          not-decided t j = if-ind (λ (x : Answer). deepen G unlimited j p w' s' .whole ≡ x .whole) (decided r) _ _ (λ u. absurd (deny (decided r) t u)) (λ _. refl)
+          not-decided : T (not (decided r)) → (j : ℕ) → deepen G unlimited j p w' s' ≡ next-depth unlimited j w (found r line s')
+          not-decided t j = if-ind (λ (x : Answer). deepen G unlimited j p w' s' ≡ x) (decided r) _ _ (λ u. absurd (deny (decided r) t u)) (λ _. refl)
 
           deeper : Beside (suc k) w s' upto (next-depth unlimited k w (found r line s')) (next-depth (at-most n) k w (found r line s'))
           deeper = if-both (Beside (suc k) w s' upto) (decided r) _ _ _ _ (λ _. beside-whole (suc k) w w' s' upto)
-              (λ t. beside-suc k w w' s' (λ j. deepen G unlimited j p w' s' .whole) upto _ _ refl (λ j. not-decided t j ∙ later j) (f w' s'))
+              (λ t. beside-suc k w w' s' (λ j. deepen G unlimited j p w' s') upto _ _ refl (λ j. not-decided t j ∙ later j) (f w' s'))
 
-          here : (z : Memory) × (o ≡ stopped z) × (z .count ≡ n) → Spent-at (suc k) w upto (next-depth (at-most n) k w o)
-          here z = subst (λ (x : Outcome). Spent-at (suc k) w upto (next-depth (at-most n) k w x)) (sym (z .1))
-              (record { marked = tt; counted = z .2; depths = 0; fewer = omega arith; depth-is = omega arith; whole-is = first })
+          -- the next depth alone enters what it leaves counted
+          alone : next-depth unlimited 0 w (found r line s') .memory .count ≡ s' .count
+          alone = if-ind (λ (x : Answer). x .memory .count ≡ s' .count) (decided r) _ _ (λ _. refl) (λ _. refl)
+
+          here : s .count ≤ n → n < s' .count → (z : Memory) × (o ≡ stopped z) × (z .count ≡ n) → Spent-at (suc k) w upto (next-depth (at-most n) k w o)
+          here i q z = subst (λ (x : Outcome). Spent-at (suc k) w upto (next-depth (at-most n) k w x)) (sym (z .1))
+              (record {
+                marked = tt;
+                counted = z .2;
+                depths = 0;
+                fewer = omega arith;
+                depth-is = omega arith;
+                whole-is = ap (λ (a : Answer). a .whole) first;
+                fits = omega (arith, ap (λ (a : Answer). a .memory .count) first);
+                next-too-many = omega (arith, alone, ap (λ (a : Answer). a .memory .count) (later 0));
+              })
 
       -- the two answers, k depths more
-      beside : (k : ℕ) (w : Whole) (s : Memory) → Beside k w s (λ j. deepen G unlimited j p w s .whole) (deepen G unlimited k p w s) (deepen G (at-most n) k p w s)
+      beside : (k : ℕ) (w : Whole) (s : Memory) → Beside k w s (λ j. deepen G unlimited j p w s) (deepen G unlimited k p w s) (deepen G (at-most n) k p w s)
       unfolding deepen
       beside zero w s = beside-whole zero w w s _
-      beside (suc k) w s = beside-next k w s (λ j. deepen G unlimited j p w s .whole) _ _ refl (λ j. refl)
+      beside (suc k) w s = beside-next k w s (λ j. deepen G unlimited j p w s) _ _ refl (λ j. refl)
           (agree-from s (begin s) _ _ (count-begin s) (agree (suc (w .depth)) p lowest highest (w .line ++ (no-move ∷ [])) no-move (begin s))) (beside k)
 
 -- ---- the claim: with an allowance of n, and no more counted before the search
 module _ (G : Game) (n limit : ℕ) (p : G .Pos) (s : Memory) where
-  -- the limited search stopped
-  pub record Spent : Type 0 where
-    pub marked : T (analyze G (at-most n) limit p s .is-stopped)
-    pub counted : analyze G (at-most n) limit p s .memory .count ≡ n
-    pub shallower : analyze G (at-most n) limit p s .whole .depth < limit
-    -- depth, score, line and stats are the unlimited search's to that depth
-    pub whole-is : analyze G (at-most n) limit p s .whole ≡ analyze G unlimited (analyze G (at-most n) limit p s .whole .depth) p s .whole
-
-  pub record Limited : Type 0 where
-    pub unlimited-whole : T (not (analyze G unlimited limit p s .is-stopped))
-    pub enough : analyze G unlimited limit p s .memory .count ≤ n → analyze G (at-most n) limit p s ≡ analyze G unlimited limit p s
-    pub spent : n < analyze G unlimited limit p s .memory .count → Spent
-
   -- with the table on or off, for every game
-  pub allowance-limits : s .count ≤ n → Limited
+  pub allowance-limits : s .count ≤ n → Limited G n limit p s
   unfolding analyze
   allowance-limits le = let h = beside n G p limit nothing-yet s in record {
     unlimited-whole = h .x-whole;
     enough = h .y-same;
-    spent = λ i. let z = h .y-stops le i in record { marked = z .marked; counted = z .counted; shallower = omega (arith, z .fewer, z .depth-is); whole-is = subst (λ (j : ℕ). analyze G (at-most n) limit p s .whole ≡ analyze G unlimited j p s .whole) (omega (arith, z .depth-is)) (z .whole-is) };
+    spent = λ i. let z = h .y-stops le i in let e : z .depths ≡ analyze G (at-most n) limit p s .whole .depth = omega (arith, z .depth-is) in record {
+      marked = z .marked;
+      counted = z .counted;
+      shallower = omega (arith, z .fewer, z .depth-is);
+      whole-is = subst (λ (j : ℕ). analyze G (at-most n) limit p s .whole ≡ analyze G unlimited j p s .whole) e (z .whole-is);
+      fits = subst (λ (j : ℕ). analyze G unlimited j p s .memory .count ≤ n) e (z .fits);
+      next-too-many = subst (λ (j : ℕ). n < analyze G unlimited (suc j) p s .memory .count) e (z .next-too-many);
+    };
   }
 
   -- the mark means that the allowance is spent, and nothing else

@@ -23,7 +23,7 @@ use Rattle.rules.specs.Board.{other}
 use Rattle.rules.specs.Evaluation.{won, lost}
 use Rattle.rules.specs.Play.{no-move}
 use Rattle.theory.specs.Game.{Game}
-use Rattle.theory.specs.PlainMinimax.{best, plain}
+use Rattle.theory.specs.PlainMinimax.{highest, best, plain}
 use Rattle.theory.specs.Table.{value-of, entry-of, off, begins, look-up, store, suffices, bound-of}
 use Rattle.theory.specs.Memory.{Tally, Memory, fresh-memory, begin, enter, leaf, hit, answered, cut, some-move, hints}
 use Rattle.theory.specs.OrderedSearch.{Allowance, unlimited, at-most, unless-stopped, entering, probed, on-probe, told, set-first, fresh, candidates, over-moves, search}
@@ -206,6 +206,25 @@ table-left = refl
 table-sets-one-place : run unlimited 5 14 (table 21) ≡ seen false 168 (record { depth = 5; score = pos 3; line = 1 ∷ 2 ∷ 2 ∷ 255 ∷ 255 ∷ []; stats = at-depth 1 (pos 5) (tally 4 3 0 0 0) ∷ at-depth 2 (negsuc 3) (tally 13 9 2 1 0) ∷ at-depth 3 (pos 4) (tally 29 18 5 5 1) ∷ at-depth 4 (negsuc 2) (tally 33 12 9 10 5) ∷ at-depth 5 (pos 3) (tally 89 43 18 16 9) ∷ [] })
 unfolding answer
 table-sets-one-place = refl
+
+-- a position that fails low is stored with its line's first place as it stands: heap 4, X to move, is AtMost 2 at depth 3 with move 1, a sibling's
+fails-low-with-stale-move : answer unlimited 5 10 (table 30) .memory .table ≡ 20 ∷ 1152921504606846976 ∷ 131077 ∷ 11 ∷ 18446744073709551614 ∷ 65538 ∷ 12 ∷ 2 ∷ 65795 ∷ 13 ∷ 18446744073709551614 ∷ 65794 ∷ 14 ∷ 2 ∷ 131331 ∷ 15 ∷ 18446744073709551614 ∷ 196868 ∷ 16 ∷ 2 ∷ 196611 ∷ 17 ∷ 17293822569102704640 ∷ 196612 ∷ 8 ∷ 2 ∷ 66051 ∷ 19 ∷ 18446744073709551614 ∷ 65540 ∷ []
+unfolding answer
+fails-low-with-stale-move = refl
+
+-- a table's answer sets the line's first place, to the empty move too
+first-emptied : set-first 0xff (5 ∷ 6 ∷ []) ≡ 0xff ∷ 6 ∷ []
+unfolding set-first
+first-emptied = refl
+
+-- lent for heap 1, O to move: value -2^60 - 1, AtMost at depth 1, the empty move
+abbrev lent : Memory
+lent = fresh-memory no-answers no-answers (3 ∷ 17293822569102704639 ∷ 16712193 ∷ 0 ∷ 0 ∷ 0 ∷ 0 ∷ 0 ∷ 0 ∷ [])
+
+-- it suffices at depth 2, after a sibling has left a 2 in the line
+table-empties-one-place : run unlimited 2 4 lent ≡ seen false 9 (record { depth = 2; score = highest; line = 3 ∷ 255 ∷ []; stats = at-depth 1 (pos 2) (tally 4 3 0 0 0) ∷ at-depth 2 highest (tally 5 2 1 2 1) ∷ [] })
+unfolding answer
+table-empties-one-place = refl
 
 -- ---- the allowance
 -- the unlimited search enters 94: so many are enough, and one less is not

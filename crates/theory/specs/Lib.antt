@@ -4,4 +4,5 @@ pub mod Table
 pub mod Memory
 pub mod OrderedSearch
 pub mod Deepening
+pub mod Allowance
 pub mod Line

@@ -2,14 +2,16 @@
 use mathlib.Core.Path.{_≡_}
 use mathlib.Core.Bool.{Bool, true, false, not, cond, _&&_}
 use mathlib.Core.List.{List, [], _∷_}
+use mathlib.Core.Logic.{_⊎_}
 use Prim.Native.Nat.{ℕ, zero, suc, _≤_}
 use lib.Dec.{T}
 use lib.IntN.{ℤ, negℤ}
+use lib.ListN.{length}
 use Rattle.base.specs.Branch.{if_then_else_}
 use Rattle.base.specs.Lists.{In}
 use Rattle.theory.specs.Game.{Game}
 use Rattle.theory.specs.PlainMinimax.{plain, promises}
-use Rattle.theory.specs.Deepening.{Whole}
+use Rattle.theory.specs.Deepening.{Whole, decided}
 
 pub record Walk (P : Type 0) : Type 0 where
   -- each move was accepted
@@ -43,6 +45,10 @@ module _ (G : Game) where
     pub score-is : w .score ≡ plain G (suc n) p
     pub some-depth : 1 ≤ w .depth
     pub no-deeper : w .depth ≤ suc n
+    -- the limit is reached, or the score ended the search sooner
+    pub deep : (w .depth ≡ suc n) ⊎ T (decided (w .score))
+    -- one for each whole depth
+    pub stats-each : length (w .stats) ≡ w .depth
     pub first : T (not (G .over p)) → Begins n p (w .line) (w .score)
     pub accepted : T (walk (w .depth) p (w .line) .accepted)
     pub ends : w .score ≡ ends-on (w .depth) p (w .line)

@@ -1,0 +1,26 @@
+-- What the structs of the table mean.
+use mathlib.Core.Option.{Option, none, some}
+use Prim.Native.Nat.{ℕ, _*_, _/_, _%_}
+use Rattle.theory.specs.Table.{Entry as Meant}
+use Rattle.table.specs.declared.Bound.{Bound}
+use Rattle.table.specs.declared.Bound.the-variants.{Exact, AtLeast, AtMost}
+use Rattle.table.specs.declared.Entry.{Entry}
+use Rattle.table.specs.declared.Held.{Held}
+use Rattle.table.specs.declared.Held.the-variants.{Entry as Holds, Absent}
+
+-- document 01's numbers
+abbrev pub bound-number : Bound → ℕ
+bound-number Exact = 0
+bound-number AtLeast = 1
+bound-number AtMost = 2
+
+abbrev pub entry-means : Entry → Meant
+entry-means e = record { value = e .value; depth = e .depth; bound = bound-number (e .bound); move = e .pv .bits }
+
+abbrev pub held-means : Held → Option Meant
+held-means (Holds e) = some (entry-means e)
+held-means Absent = none
+
+-- where the three words of a hash begin, in so many words
+abbrev pub begins-in : ℕ → ℕ → ℕ
+begins-in n h = 3 * (h % (n / 3))
