@@ -2,14 +2,14 @@
 use mathlib.Core.Path.{_≡_, refl, sym, ap, subst}
 use mathlib.Core.Bool.{Bool, true, false, not, cond}
 use mathlib.Core.List.{List, [], _∷_}
-use mathlib.Core.Logic.{inl, inr}
+use mathlib.Core.Logic.{_↔_, inl, inr}
 use Prim.Native.Nat.{ℕ, _+_, _≤_, _<_}
 use native.Mathlib.Omega.{arith}
-use lib.Dec.{T, eqb-refl}
+use lib.Dec.{T, eqb→eq, eqb-refl}
 use Rattle.base.specs.Lists.{all, how-many, In, total}
 use Rattle.base.specs.Change.{put}
-use Rattle.base.proofs.Bool.{→and, →or-r, _⇒_}
-use Rattle.base.proofs.Lists.{each-all}
+use Rattle.base.proofs.Bool.{and→, →and, _⇒_, ⇒→, →⇒}
+use Rattle.base.proofs.Lists.{all-each, each-all}
 use Rattle.base.proofs.Change.{put-ind, put-at, put-ind₂}
 use Rattle.rules.specs.declared.CellState.{CellState}
 use Rattle.rules.specs.declared.CellState.the-variants.{Empty, Played}
@@ -19,7 +19,7 @@ use Rattle.rules.specs.Board.{same, blank, same-cell, same-state, in-pla
 use Rattle.rules.specs.Position.{Due, free, at, same-due, Position, start, open-board, free-cell}
 use Rattle.rules.specs.Play.{board-of, cell-of, accepts, after, tried}
 use Rattle.rules.specs.Compare.{bound-depth, open-boards, equivalent}
-use Rattle.rules.proofs.Board.{same-self, in-nine}
+use Rattle.rules.proofs.Board.{same-self, same→eq, in-nine, nine-in}
 use Rattle.rules.proofs.Play.{Legal, accepts→, tried-accepted}
 use Rattle.rules.proofs.Sound.{row, made}
 
@@ -107,19 +107,68 @@ same-state-self InPlay = tt
 same-state-self Drawn = tt
 same-state-self (Won w) = same-self w
 
+same-due→eq : (d e : Due) → T (same-due d e) → d ≡ e
+same-due→eq free free t = refl
+same-due→eq free (at c) t = absurd t
+same-due→eq (at b) free t = absurd t
+same-due→eq (at b) (at c) t = ap at (eqb→eq b c t)
+
+same-cell→eq : (s r : CellState) → T (same-cell s r) → s ≡ r
+same-cell→eq Empty Empty t = refl
+same-cell→eq Empty (Played v) t = absurd t
+same-cell→eq (Played w) Empty t = absurd t
+same-cell→eq (Played w) (Played v) t = ap Played (same→eq w v t)
+
+same-state→eq : (g h : GameState) → T (same-state g h) → g ≡ h
+same-state→eq InPlay InPlay t = refl
+same-state→eq InPlay Drawn t = absurd t
+same-state→eq InPlay (Won v) t = absurd t
+same-state→eq Drawn InPlay t = absurd t
+same-state→eq Drawn Drawn t = refl
+same-state→eq Drawn (Won v) t = absurd t
+same-state→eq (Won w) InPlay t = absurd t
+same-state→eq (Won w) Drawn t = absurd t
+same-state→eq (Won w) (Won v) t = ap Won (same→eq w v t)
+
+-- what is compared: of the cells, those of the boards that are open in the first position
+pub record Alike (p q : Position) : Type 0 where
+  pub turns : p .turn ≡ q .turn
+  pub dues : p .due ≡ q .due
+  pub game : p .state ≡ q .state
+  pub open-cells : (b c : ℕ) → b < 9 → c < 9 → T (open-board p b) → p .cells b c ≡ q .cells b c
+
+module _ (p q : Position) where
+  same-row : ℕ → Bool
+  same-row b = all (λ c. same-cell (p .cells b c) (q .cells b c)) nine
+
+  -- two positions are equivalent exactly if all of it is equal
+  pub equivalent-is-alike : T (equivalent p q) ↔ Alike p q
+  unfolding equivalent same-row
+  equivalent-is-alike = (
+    λ t.
+        let r1 = and→ (same (p .turn) (q .turn)) _ t in
+        let r2 = and→ (same-due (p .due) (q .due)) _ (r1 .1) in
+        let r3 = and→ (same-state (p .state) (q .state)) _ (r2 .1) in
+        let r4 = and→ (all (λ b. same-state (p .states b) (p .states b)) nine) _ (r3 .1) in
+        record {
+          turns = same→eq _ _ (r1 .0);
+          dues = same-due→eq _ _ (r2 .0);
+          game = same-state→eq _ _ (r3 .0);
+          open-cells = λ b c h k o. same-cell→eq _ _ (all-each (λ c. same-cell (p .cells b c) (q .cells b c)) c nine
+              (⇒→ (open-board p b) (same-row b) (all-each (λ b. open-board p b ⇒ same-row b) b nine (r4 .1) (in-nine b h)) o) (in-nine c k));
+        },
+    λ r.
+        →and (same (p .turn) (q .turn)) _ (rw (r .turns) (same-self (q .turn)))
+        (→and (same-due (p .due) (q .due)) _ (rw (r .dues) (same-due-self (q .due)))
+        (→and (same-state (p .state) (q .state)) _ (rw (r .game) (same-state-self (q .state)))
+        (→and (all (λ b. same-state (p .states b) (p .states b)) nine) _ (each-all (λ b. same-state (p .states b) (p .states b)) nine (λ b _. same-state-self (p .states b)))
+        (each-all (λ b. open-board p b ⇒ same-row b) nine (λ b i. →⇒ (open-board p b) (same-row b) (λ o.
+        each-all (λ c. same-cell (p .cells b c) (q .cells b c)) nine (λ c j. rw (r .open-cells b c (nine-in b i) (nine-in c j) o) (same-cell-self (q .cells b c))))))))),
+  )
+
 -- every position is equivalent to itself
 pub equivalent-self : (p : Position) → T (equivalent p p)
-unfolding equivalent
-equivalent-self p =
-    →and (same (p .turn) (p .turn)) _ (same-self (p .turn))
-    (→and (same-due (p .due) (p .due)) _ (same-due-self (p .due))
-    (→and (same-state (p .state) (p .state)) _ (same-state-self (p .state))
-    (→and (all (λ b. same-state (p .states b) (p .states b)) nine) _ (each-all (λ b. same-state (p .states b) (p .states b)) nine (λ b _. same-state-self (p .states b)))
-    (each-all (λ b. open-board p b ⇒ same-cells b) nine (λ b _.
-    →or-r (not (open-board p b)) _ (each-all (λ c. same-cell (p .cells b c) (p .cells b c)) nine (λ c _. same-cell-self (p .cells b c))))))))
-  where
-    same-cells : ℕ → Bool
-    same-cells b = all (λ c. same-cell (p .cells b c) (p .cells b c)) nine
+equivalent-self p = equivalent-is-alike p p .1 (record { turns = refl; dues = refl; game = refl; open-cells = λ _ _ _ _ _. refl })
 
 abbrev pub with-states : Position → (ℕ → GameState) → Position
 with-states q gs = record { turn = q .turn; due = q .due; cells = q .cells; states = gs; state = q .state }

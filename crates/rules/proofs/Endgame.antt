@@ -21,12 +21,12 @@ use Rattle.rules.specs.declared.GameState.{GameState}
 use Rattle.rules.specs.declared.GameState.the-variants.{Won}
 use Rattle.rules.specs.Board.{other, same, sides, blank, mine, in-play, won-by, nine, has-line}
 use Rattle.rules.specs.Position.{Due, free, at, Position, going, open-board, won-boards, free-cell}
-use Rattle.rules.specs.Play.{may, after}
+use Rattle.rules.specs.Play.{board-of, cell-of, may, accepts, after, Tried, played, refused, play}
 use Rattle.rules.specs.Sound.{sound}
-use Rattle.rules.specs.Status.{Status, unproven, allows, alone, from-byte, merge}
-use Rattle.rules.specs.Endgame.{completes, winning, critical, has-critical, suits, all-suit, lure, attack, prove-attacker, forced, forced-loss, winnable, proven, narrow, combine, merged, no-stats, stats, Analysis, or-unproven, analysis}
+use Rattle.rules.specs.Status.{Status, unproven, for-player, allows, alone, from-byte, merge}
+use Rattle.rules.specs.Endgame.{completes, winning, critical, has-critical, suits, all-suit, lure, attack, prove-attacker, forced, forced-loss, winnable, proven, narrow, combine, merged, no-stats, stats, Analysis, or-unproven, analysis, Judged, judge, judge-tried, evaluate-move}
 use Rattle.rules.proofs.Board.{same-self, same→eq, side, in-sides, in-nine, open-not-won, won-by-is, line-mono, no-line-mono, result-line, result-left, result-other, result-won}
-use Rattle.rules.proofs.Play.{Legal}
+use Rattle.rules.proofs.Play.{Legal, accepts→, play-accepted, play-refused, refusal-is-first}
 use Rattle.rules.proofs.Sound.{Fair, row, made, states-other}
 
 -- ---- one place more
@@ -222,6 +222,11 @@ pub record StatusSays (p : Position) (s : Status) : Type 0 where
   pub decided-is-alone : (w : Player) → Decided p w → T (alone s w)
   -- it leaves out only a side that can no longer win, or whose opponent is proved to win
   pub left-out : (w : Player) → T (not (allows s w)) → T (not (winnable p w)) ⊎ Decided p (other w)
+  -- and each side that can no longer win
+  pub unwinnable-is-out : (w : Player) → T (not (winnable p w)) → T (not (allows s w))
+  -- which set it is, where a side is proved to win and where none is
+  pub decided-set : (w : Player) → Decided p w → s ≡ for-player w
+  pub undecided-set : T (not (prove-attacker p)) → T (not (forced-loss p)) → s ≡ record { x = winnable p X; o = winnable p O; draw = true }
 
 -- the same as tests, of t to move, of the two proofs, and of what X and O can win
 decides : Player → Bool → Bool → Player → Bool
@@ -232,7 +237,7 @@ of-side x o X = x
 of-side x o O = o
 
 says : Player → Bool → Bool → Bool → Bool → Status → Player → Bool
-says t wins loses x o s w = (alone s w ⇒ decides t wins loses w) && ((decides t wins loses w ⇒ alone s w) && (not (allows s w) ⇒ (not (of-side x o w) || decides t wins loses (other w))))
+says t wins loses x o s w = (alone s w ⇒ decides t wins loses w) && ((decides t wins loses w ⇒ alone s w) && ((not (allows s w) ⇒ (not (of-side x o w) || decides t wins loses (other w))) && (not (of-side x o w) ⇒ not (allows s w))))
 
 holds : (Status → Bool) → Option Status → Bool
 holds f none = false
@@ -247,6 +252,29 @@ always-merges-right : (t : Player) (wins loses x o : Bool) → T (merges-right t
 unfolding all merges-right says holds decides of-side combine narrow proven merge from-byte if_then_else_
 always-merges-right X = always 4 (merges-right X) tt
 always-merges-right O = always 4 (merges-right O) tt
+
+-- where neither side is proved to win
+undecided : (t : Player) (wins loses x o : Bool) → T (not wins) → T (not loses) → combine t wins loses x o ≡ some (record { x = x; o = o; draw = true })
+unfolding combine narrow proven merge from-byte if_then_else_
+undecided t false false true true n m = refl
+undecided t false false true false n m = refl
+undecided t false false false true n m = refl
+undecided t false false false false n m = refl
+undecided t true loses x o n m = absurd n
+undecided t false true x o n m = absurd m
+
+yes : (b : Bool) → T b → b ≡ true
+yes true t = refl
+yes false t = absurd t
+
+no : (b : Bool) → T (not b) → b ≡ false
+no true t = absurd t
+no false t = refl
+
+-- a side alone is one set
+alone-is : (s : Status) (w : Player) → T (alone s w) → s ≡ for-player w
+alone-is s X t = let a = and→ (s .x) _ t in let b = and→ (not (s .o)) _ (a .1) in λ i. record { x = yes (s .x) (a .0) i; o = no (s .o) (b .0) i; draw = no (s .draw) (b .1) i }
+alone-is s O t = let a = and→ (s .o) _ t in let b = and→ (not (s .x)) _ (a .1) in λ i. record { x = no (s .x) (b .0) i; o = yes (s .o) (a .0) i; draw = no (s .draw) (b .1) i }
 
 module _ (p : Position) where
   proved : Player → Bool
@@ -294,16 +322,25 @@ module _ (p : Position) where
         record {
           is-merged = e;
           alone-is-decided = λ w a. proved→ w (⇒→ (alone s w) _ (each w .0) a);
-          decided-is-alone = λ w d. ⇒→ (proved w) _ (and→ (proved w ⇒ alone s w) _ (each w .1) .0) (→proved w d);
-          left-out = λ w n. elim (or→ (not (can w)) _ (⇒→ (not (allows s w)) _ (and→ (proved w ⇒ alone s w) _ (each w .1) .1) n)) [
+          decided-is-alone = lone;
+          left-out = λ w n. elim (or→ (not (can w)) _ (⇒→ (not (allows s w)) _ (outs w .0) n)) [
             | inl v ↦ inl (subst (λ (x : Bool). T (not x)) (winnable-of w) v)
             | inr v ↦ inr (proved→ (other w) v)
           ];
+          unwinnable-is-out = λ w n. ⇒→ (not (can w)) _ (outs w .1) (subst (λ (x : Bool). T (not x)) (sym (winnable-of w)) n);
+          decided-set = λ w d. alone-is s w (lone w d);
+          undecided-set = λ n m. let u = undecided (p .turn) (prove-attacker p) (forced-loss p) (winnable p X) (winnable p O) n m in cc;
         },
       )
         where
-          each : (w : Player) → T (alone s w ⇒ proved w) × T ((proved w ⇒ alone s w) && (not (allows s w) ⇒ (not (can w) || proved (other w))))
+          each : (w : Player) → T (alone s w ⇒ proved w) × T ((proved w ⇒ alone s w) && ((not (allows s w) ⇒ (not (can w) || proved (other w))) && (not (can w) ⇒ not (allows s w))))
           each w = and→ (alone s w ⇒ proved w) _ (all-each (test s) w sides (unfold holds in u) (in-sides w))
+
+          lone : (w : Player) → Decided p w → T (alone s w)
+          lone w d = ⇒→ (proved w) _ (and→ (proved w ⇒ alone s w) _ (each w .1) .0) (→proved w d)
+
+          outs : (w : Player) → T (not (allows s w) ⇒ (not (can w) || proved (other w))) × T (not (can w) ⇒ not (allows s w))
+          outs w = and→ (not (allows s w) ⇒ (not (can w) || proved (other w))) _ (and→ (proved w ⇒ alone s w) _ (each w .1) .1)
 
   -- no panic
   pub merged-is-a-set : (s : Status) × (merged p ≡ some s)
@@ -345,3 +382,81 @@ analysis-refuses p = (
   analysis-cases p (λ a. a .refusal ≡ 14 → T (going p) × T (not (sound p))) (λ _ e. absurd (omega arith)) (λ _ _ e. absurd (omega arith)) (λ t u _. (t, u)),
   λ h. ap (λ (a : Analysis). a .refusal) (analysis-unsound p (h .0) (h .1)),
 )
+
+-- ---- a move, judged
+-- the number that a try gives: 0 where the move is played
+abbrev pub number-of : Tried → ℕ
+number-of (played q) = 0
+number-of (refused n) = n
+
+-- what a move takes to be called lost: v, the other side, has a critical board, the move is not in one, and sends v to one or to a closed board
+pub record CalledLost (p : Position) (m : ℕ) (v : Player) : Type 0 where
+  pub accepted : T (accepts p m)
+  pub sound-before : T (sound p)
+  pub threatened : T (has-critical p v)
+  pub elsewhere : T (not (critical p v (board-of m)))
+  pub sends : T (open-board p (cell-of m)) → T (critical p v (cell-of m))
+
+module _ (p : Position) (m : ℕ) where
+  abbrev v : Player
+  v = other (p .turn)
+
+  lost-test : Bool
+  lost-test = has-critical p v && (not (critical p v (board-of m)) && suits p v (cell-of m))
+
+  -- the four cases
+  evaluate-cases {κ} : (P : Judged → Type κ) →
+      (T (going p) → T (not (sound p)) → P (record { refusal = 14; status = unproven })) →
+      ((n : ℕ) → play p m ≡ refused n → (T (going p) → T (sound p)) → P (record { refusal = n; status = unproven })) →
+      (CalledLost p m v → P (record { refusal = 0; status = for-player v })) →
+      (T (accepts p m) → T (sound p) → (CalledLost p m v → ⊥) → P (record { refusal = 0; status = unproven })) → P (evaluate-move p m)
+  unfolding evaluate-move judge-tried judge suits lost-test
+  evaluate-cases P a b c d = if-ind P (going p && not (sound p)) _ _ (λ t. let r = and→ (going p) _ t in a (r .0) (r .1)) (λ t. by-try (fine t) (play p m) refl)
+    where
+      fine : T (not (going p && not (sound p))) → T (going p) → T (sound p)
+      fine t g = elim (is (sound p)) [ inl s ↦ s | inr n ↦ absurd (deny (going p && not (sound p)) t (→and (going p) _ g n)) ]
+
+      by-try : (T (going p) → T (sound p)) → (r : Tried) → play p m ≡ r → P (judge-tried p m r)
+      by-try f (refused n) e = b n e f
+      by-try f (played q) e = elim (is (accepts p m)) [
+        | inl t ↦ if-ind (λ s. P (record { refusal = 0; status = s })) lost-test _ _
+            (λ u. let r = and→ (has-critical p v) _ u in let q = and→ (not (critical p v (board-of m))) _ (r .1) in c (record {
+              accepted = t;
+              sound-before = f (accepts→ p m t .unfinished);
+              threatened = r .0;
+              elsewhere = q .0;
+              sends = ⇒→ (open-board p (cell-of m)) _ (q .1);
+            }))
+            (λ n. d t (f (accepts→ p m t .unfinished)) (λ l. deny lost-test n (→and (has-critical p v) _ (l .threatened)
+            (→and (not (critical p v (board-of m))) _ (l .elsewhere) (→⇒ (open-board p (cell-of m)) _ (l .sends))))))
+        | inr n ↦ (let x = play-refused p m n in let z : _≡_ {A = ℕ} 0 1 = cc in absurd (omega arith))
+      ]
+
+  -- its number is 14 exactly for an unfinished unsound position
+  pub evaluate-move-14 : (evaluate-move p m .refusal ≡ 14) ↔ (T (going p) × T (not (sound p)))
+  evaluate-move-14 = (
+    evaluate-cases (λ j. j .refusal ≡ 14 → T (going p) × T (not (sound p))) (λ t u _. (t, u)) (λ n e _ h. absurd (omega (arith, refusal-is-first p m n e .highest)))
+        (λ _ h. absurd (omega arith)) (λ _ _ _ h. absurd (omega arith)),
+    λ h. evaluate-cases (λ j. j .refusal ≡ 14) (λ _ _. refl) (λ _ _ f. absurd (deny (sound p) (h .1) (f (h .0))))
+        (λ l. absurd (deny (sound p) (h .1) (l .sound-before))) (λ _ s _. absurd (deny (sound p) (h .1) s)),
+  )
+
+  -- else it is play's
+  pub evaluate-move-number : (T (going p) → T (sound p)) → evaluate-move p m .refusal ≡ number-of (play p m)
+  evaluate-move-number f = evaluate-cases (λ j. j .refusal ≡ number-of (play p m)) (λ t u. absurd (deny (sound p) u (f t))) (λ n e _. sym (ap number-of e))
+      (λ l. sym (ap number-of (play-accepted p m (l .accepted)))) (λ t _ _. sym (ap number-of (play-accepted p m t)))
+
+  -- its status is the other side's win exactly for a move that is called lost
+  pub evaluate-move-lost : (evaluate-move p m .status ≡ for-player v) ↔ CalledLost p m v
+  evaluate-move-lost = (
+    evaluate-cases (λ j. j .status ≡ for-player v → CalledLost p m v) (λ _ _ e. absurd (full e)) (λ _ _ _ e. absurd (full e)) (λ l _. l) (λ _ _ _ e. absurd (full e)),
+    λ l. evaluate-cases (λ j. j .status ≡ for-player v) (λ _ n. absurd (deny (sound p) n (l .sound-before)))
+        (λ n e _. let x = play-accepted p m (l .accepted) in let z : _≡_ {A = ℕ} 0 1 = cc in absurd (omega arith)) (λ _. refl) (λ _ _ n. absurd (n l)),
+  )
+    where
+      full : unproven ≡ for-player v → ⊥
+      full e = subst (λ (s : Status). T (s .draw)) e tt
+
+  -- and else the full set
+  pub evaluate-move-else : (CalledLost p m v → ⊥) → evaluate-move p m .status ≡ unproven
+  evaluate-move-else n = evaluate-cases (λ j. j .status ≡ unproven) (λ _ _. refl) (λ _ _ _. refl) (λ l. absurd (n l)) (λ _ _ _. refl)

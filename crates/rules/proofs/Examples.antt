@@ -28,11 +28,11 @@ use Rattle.rules.specs.Status.{unproven, for-player, as-byte, from-byte,
 use Rattle.rules.specs.Endgame.{completes, winning, critical, has-critical, suits, all-suit, lure, attack, prove-attacker, forced, forced-loss, winnable, proven, narrow, combine, merged, stats, or-unproven, analysis, judge, judge-tried, evaluate-move}
 
 -- ---- what the facts compute with
-playing : Unit {0}
+unfoldable pub playing : Unit {0}
 unfolding reached tried left-by play accepts all any first-failed after put result has-line if_then_else_
 playing = tt
 
-listing : Unit {0}
+unfoldable pub listing : Unit {0}
 unfolding moves keep places each playing
 listing = tt
 
@@ -44,7 +44,7 @@ valuing : Unit {0}
 unfolding evaluate score board-score sum count unless-both board-line overall-line if_then_else_
 valuing = tt
 
-analysing : Unit {0}
+unfoldable pub analysing : Unit {0}
 unfolding analysis or-unproven stats merged combine narrow proven merge from-byte prove-attacker attack forced-loss forced has-critical critical completes winning lure suits all-suit winnable sound playing
 analysing = tt
 

@@ -10,3 +10,4 @@ pub mod Critical
 pub mod Endgame
 pub mod StatusFacts
 pub mod Examples
+pub mod EndgameExamples

@@ -202,6 +202,37 @@ pub read-looks-at-the-mover : (t : List ℕ) (p : Position) → read t ≡ reads
 unfolding said
 read-looks-at-the-mover = read-ind LeftByOther (λ w os cs _. refl)
 
+-- ---- the shortest text that reads: a letter, nine marks and 89 bytes, parted by two semicolons
+-- the lengths of sections, each with the byte that parts it from the next
+spread : List (List ℕ) → ℕ
+spread [] = 0
+spread (s ∷ ss) = suc (length s) + spread ss
+
+spread-sections : (t : List ℕ) → spread (sections t) ≡ suc (length t)
+unfolding sections spread if_then_else_
+spread-sections [] = refl
+spread-sections (c ∷ cs) = go (eqb c semicolon) (sections cs) (spread-sections cs)
+  where
+    go : (b : Bool) (ss : List (List ℕ)) → spread ss ≡ suc (length cs) → spread (if b then (λ _. [] ∷ ss) else λ _. first-longer c ss) ≡ suc (suc (length cs))
+    go true ss e = omega arith
+    go false [] e = absurd (omega arith)
+    go false (s ∷ ss) e = omega arith
+
+-- without a fault all 89 bytes stand there
+cells-there : (cs : List ℕ) → first-fault cs (from 0 89) ≡ 0 → (i : ℕ) → i < 89 → i < length cs
+cells-there cs e i l = faultless-is-there cs i (no-fault→ cs 0 89 e i (omega arith) (omega arith))
+
+shortest : {t : List ℕ} {p : Position} → Answer t (reads p) → 101 ≤ length t
+unfolding spread
+shortest {t} (good {s = s} {os = os} {cs = cs} m e) = omega (arith, spread-sections t, ap spread (m .sided .parted .parts), lettered s (m .sided .letter-is), m .nine-marks, cells-there cs e 88 (lit< tt))
+  where
+    lettered : {w : Player} (s : List ℕ) → lone-side s ≡ some w → 1 ≤ length s
+    lettered [] h = let z : _≡_ {A = ℕ} 0 1 = cc in absurd (omega arith)
+    lettered (c ∷ s) h = omega arith
+
+pub shortest-is-101 : (t : List ℕ) (p : Position) → read t ≡ reads p → 101 ≤ length t
+shortest-is-101 t p e = shortest (subst (Answer t) e (read-answers t))
+
 -- ---- what follows the ninth board is ignored
 -- a text without semicolons makes the last section longer
 last-longer : List (List ℕ) → List ℕ → List (List ℕ)
@@ -237,13 +268,10 @@ said-kept w os cs u h = same-position (said w os (cs ++ u)) (said w os cs) refl 
 
 tailed : {t : List ℕ} {p : Position} (u : List ℕ) → Clear u 0 (length u) → length (t ++ u) ≤ 256 → Answer t (reads p) → read (t ++ u) ≡ reads p
 unfolding last-longer
-tailed {t} u f h (good {s = s} {os = os} {cs = cs} {w = w} m e) = answer-is-read (good marked faultless) ∙ ap reads (said-kept w os cs u (there 88 (lit< tt)))
+tailed {t} u f h (good {s = s} {os = os} {cs = cs} {w = w} m e) = answer-is-read (good marked faultless) ∙ ap reads (said-kept w os cs u (cells-there cs e 88 (lit< tt)))
   where
-    there : (i : ℕ) → i < 89 → i < length cs
-    there i l = faultless-is-there cs i (no-fault→ cs 0 89 e i (omega arith) (omega arith))
-
     faultless : first-fault (cs ++ u) (from 0 89) ≡ 0
-    faultless = no-fault (cs ++ u) 0 89 (λ i a l. fault-kept cs u i (there i (omega arith)) ∙ no-fault→ cs 0 89 e i a l)
+    faultless = no-fault (cs ++ u) 0 89 (λ i a l. fault-kept cs u i (cells-there cs e i (omega arith)) ∙ no-fault→ cs 0 89 e i a l)
 
     marked : Marked (t ++ u) s os (cs ++ u) w
     marked = record {
