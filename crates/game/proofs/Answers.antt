@@ -1,6 +1,6 @@
 -- The number of a refusal is that of the first check that fails.
 use mathlib.Core.Path.{_≡_, refl, sym, ap, _∙_}
-use mathlib.Core.Bool.{Bool, true, false, not, _&&_, and-false}
+use mathlib.Core.Bool.{Bool, true, false, not, cond, _&&_, and-false}
 use mathlib.Core.List.{List, [], _∷_}
 use mathlib.Core.Logic.{inl, inr}
 use Prim.Native.Nat.{ℕ, _≤_}
@@ -11,9 +11,7 @@ use Rattle.base.specs.Branch.{if_then_else_}
 use Rattle.base.specs.Lists.{all}
 use Rattle.base.proofs.Bool.{and→, deny, →not, is}
 use Rattle.base.proofs.Branch.{if-ind}
-use Rattle.rules.specs.declared.Player.{Player}
 use Rattle.rules.specs.declared.CellState.{CellState}
-use Rattle.rules.specs.declared.CellState.the-variants.{Empty, Played}
 use Rattle.rules.specs.Board.{blank}
 use Rattle.rules.specs.Position.{Position, going, open-board, free-cell}
 use Rattle.rules.specs.Play.{board-of, cell-of, may, checks, first-failed, accepts, play}
@@ -76,13 +74,10 @@ module _ (p : Position) (m b c : ℕ) (eb : b ≡ board-of m) (ec : c ≡ cell-o
           allowed : may (p .due) b ≡ true
           allowed = sym ea ∙ not-false ok a
 
-          pub accepted : s ≡ Empty → 0 ≡ refusal (play p m)
+          pub looked : (e : Bool) → blank s ≡ e → cond e 0 13 ≡ refusal (play p m)
           unfolding first-failed if_then_else_
-          accepted e = checked true true true true true ranged unfinished opened allowed (ap blank (sym es ∙ e))
-
-          pub taken : (w : Player) → s ≡ Played w → 13 ≡ refusal (play p m)
-          unfolding first-failed if_then_else_
-          taken w e = checked true true true true false ranged unfinished opened allowed (ap blank (sym es ∙ e))
+          looked true e = checked true true true true true ranged unfinished opened allowed (ap blank (sym es) ∙ e)
+          looked false e = checked true true true true false ranged unfinished opened allowed (ap blank (sym es) ∙ e)
 
 -- a refusal has a number from 9 on, so 0 is said of an accepted move alone
 pub nought-accepts : (p : Position) (m : ℕ) → refusal (play p m) ≡ 0 → T (accepts p m)

@@ -38,7 +38,7 @@ use Rattle.game.specs.declared.NextBoard.the-variants.{Any, Only}
 use Rattle.game.specs.declared.Game.{Game}
 use Rattle.game.specs.Meaning.{due-of, position-of}
 use Rattle.game.specs.After.{next-board, after-move, game-after}
-use Rattle.game.specs.Built.{no-boards, no-states, new-game}
+use Rattle.game.specs.Built.{no-boards, no-states, new-game, recalculated}
 
 pub due-again : (d : Due) → due-of (next-board d) ≡ d
 due-again free = refl
@@ -162,6 +162,13 @@ module _ (g : Game) (m : ℕ) where
     | inl t ↦ (let l = accepts→ (position-of g) m t in ap position-of (game-accepted t) ∙ after-move-means g (board-of m) (cell-of m) n (l .board) (l .cell) (l .opened) (l .empty) ∙ sym (tried-accepted (position-of g) m t))
     | inr t ↦ ap position-of (game-refused t) ∙ sym (tried-refused (position-of g) m t)
   ]
+
+-- ---- the game's state, looked at again for the side v
+pub recalculates : (g : Game) (v : Player) (t : GameState) → v ≡ other (g .«next_player»)
+    → t ≡ result v (λ b. won-by v (state-at (g .«global_states») b)) (λ b. in-play (state-at (g .«global_states») b))
+    → _≡_ {A = Game} (record { «next_player» = g .«next_player»; «next_board» = g .«next_board»; «local_boards» = g .«local_boards»; «global_states» = g .«global_states»; «game_state» = t; hash = g .hash }) (recalculated g)
+unfolding recalculated
+recalculates g v t e f = rw (f, e)
 
 -- ---- the empty game
 module _ (b c : ℕ) where

@@ -220,12 +220,14 @@ impl Game {
         let hash = local_boards.hash_after(played, global, state);
         let game_state = global_states.check_winner(who);
         let next_board = if global_states.in_play(local) {
-            NextBoard::Only(local as u8)
+            let due = local as u8;
+            NextBoard::Only(due)
         } else {
             NextBoard::Any
         };
+        let next_player = who.other();
         Game {
-            next_player: who.other(),
+            next_player,
             next_board,
             local_boards,
             global_states,

@@ -1,6 +1,12 @@
 -- The checks of the rules stand in their order, and the first that fails gives the number.
+use mathlib.Core.Path.{_≡_, ap}
+use mathlib.Core.Bool.{Bool, true, false, cond}
 use borrow.Author.Needs.{needs}
-use Rattle.game.proofs.Answers.{over-board, over-cell, finished, shut, elsewhere, accepted, taken}
+use Rattle.rules.specs.Board.{blank}
+use Rattle.rules.specs.Play.{play}
+use Rattle.game.specs.Meaning.{position-of}
+use Rattle.game.specs.After.{refusal}
+use Rattle.game.proofs.Answers.{over-board, over-cell, finished, shut, elsewhere, looked}
 use Rattle.game.proofs.Game.check_move.Statement.{statement}
 use Rattle.game.proofs.Game.check_move.Tie as tie
 
@@ -20,19 +26,43 @@ terminal-requires : tie.Need-terminal-requires
 terminal-requires c κs = search needs
 
 returns-3 : tie.Need-returns-3
-returns-3 c = finished _ _ _ _ (c .before .before .before .before .before .global .ensures) (c .before .before .before .before .local .ensures) (c .before .before .before .if1 .left) (c .before .before .if2 .left) _ (c .before .terminal .ensures) (c .if3 .taken)
+returns-3 c =
+    let t = c .before in
+    let i2 = t .before in
+    let i1 = i2 .before in
+    let l = i1 .before in
+    let g = l .before in
+    finished _ _ _ _ (g .global .ensures) (l .local .ensures) (i1 .if1 .left) (i2 .if2 .left) _ (t .terminal .ensures) (c .if3 .taken)
 
 in-play-requires : tie.Need-in-play-requires
 in-play-requires c κs = search needs
 
 returns-4 : tie.Need-returns-4
-returns-4 c = shut _ _ _ _ (c .before .before .before .before .before .before .before .before .global .ensures) (c .before .before .before .before .before .before .before .local .ensures) (c .before .before .before .before .before .before .if1 .left) (c .before .before .before .before .before .if2 .left) _ (c .before .before .before .before .terminal .ensures) (c .before .before .before .if3 .left) _ (c .before .in-play .ensures) (c .if4 .taken)
+returns-4 c =
+    let p = c .before in
+    let i3 = p .before .before in
+    let t = i3 .before in
+    let i2 = t .before in
+    let i1 = i2 .before in
+    let l = i1 .before in
+    let g = l .before in
+    shut _ _ _ _ (g .global .ensures) (l .local .ensures) (i1 .if1 .left) (i2 .if2 .left) _ (t .terminal .ensures) (i3 .if3 .left) _ (p .in-play .ensures) (c .if4 .taken)
 
 allows-requires : tie.Need-allows-requires
 allows-requires c κs = search needs
 
 returns-5 : tie.Need-returns-5
-returns-5 c = elsewhere _ _ _ _ (c .before .before .before .before .before .before .before .before .before .before .global .ensures) (c .before .before .before .before .before .before .before .before .before .local .ensures) (c .before .before .before .before .before .before .before .before .if1 .left) (c .before .before .before .before .before .before .before .if2 .left) _ (c .before .before .before .before .before .before .terminal .ensures) (c .before .before .before .before .before .if3 .left) _ (c .before .before .before .in-play .ensures) (c .before .before .if4 .left) _ (c .before .allows .ensures) (c .if5 .taken)
+returns-5 c =
+    let a = c .before in
+    let i4 = a .before in
+    let p = i4 .before in
+    let i3 = p .before .before in
+    let t = i3 .before in
+    let i2 = t .before in
+    let i1 = i2 .before in
+    let l = i1 .before in
+    let g = l .before in
+    elsewhere _ _ _ _ (g .global .ensures) (l .local .ensures) (i1 .if1 .left) (i2 .if2 .left) _ (t .terminal .ensures) (i3 .if3 .left) _ (p .in-play .ensures) (i4 .if4 .left) _ (a .allows .ensures) (c .if5 .taken)
 
 at-requires : tie.Need-at-requires
 at-requires c κs = search needs
@@ -43,11 +73,26 @@ enum-told c = search needs
 enum-told-2 : tie.Need-enum-told-2
 enum-told-2 c = search needs
 
+-- the cell was looked at last
+cell-looked : (c : tie.After-at) (e : Bool) → blank (c .at .result) ≡ e → cond e 0 13 ≡ refusal (play (position-of (c .before .before .before .before .before .before .before .before .before .before .before .before .before .args .self)) (c .before .before .before .before .before .before .before .before .before .before .before .before .before .args .m .bits))
+cell-looked c e h =
+    let i5 = c .before .before in
+    let a = i5 .before in
+    let i4 = a .before in
+    let p = i4 .before in
+    let i3 = p .before .before in
+    let t = i3 .before in
+    let i2 = t .before in
+    let i1 = i2 .before in
+    let l = i1 .before in
+    let g = l .before in
+    looked _ _ _ _ (g .global .ensures) (l .local .ensures) (i1 .if1 .left) (i2 .if2 .left) _ (t .terminal .ensures) (i3 .if3 .left) _ (p .in-play .ensures) (i4 .if4 .left) _ (a .allows .ensures) (i5 .if5 .left) _ (c .at .ensures) e h
+
 returns-6 : tie.Need-returns-6
-returns-6 c = accepted _ _ _ _ (c .before .before .before .before .before .before .before .before .before .before .before .before .before .before .global .ensures) (c .before .before .before .before .before .before .before .before .before .before .before .before .before .local .ensures) (c .before .before .before .before .before .before .before .before .before .before .before .before .if1 .left) (c .before .before .before .before .before .before .before .before .before .before .before .if2 .left) _ (c .before .before .before .before .before .before .before .before .before .before .terminal .ensures) (c .before .before .before .before .before .before .before .before .before .if3 .left) _ (c .before .before .before .before .before .before .before .in-play .ensures) (c .before .before .before .before .before .before .if4 .left) _ (c .before .before .before .before .before .allows .ensures) (c .before .before .before .before .if5 .left) _ (c .before .before .at .ensures) (c .enum-told .given .1)
+returns-6 c = cell-looked (c .before .before) true (ap blank (c .enum-told .given .1))
 
 returns-7 : tie.Need-returns-7
-returns-7 c = taken _ _ _ _ (c .before .before .before .before .before .before .before .before .before .before .before .before .before .before .global .ensures) (c .before .before .before .before .before .before .before .before .before .before .before .before .before .local .ensures) (c .before .before .before .before .before .before .before .before .before .before .before .before .if1 .left) (c .before .before .before .before .before .before .before .before .before .before .before .if2 .left) _ (c .before .before .before .before .before .before .before .before .before .before .terminal .ensures) (c .before .before .before .before .before .before .before .before .before .if3 .left) _ (c .before .before .before .before .before .before .before .in-play .ensures) (c .before .before .before .before .before .before .if4 .left) _ (c .before .before .before .before .before .allows .ensures) (c .before .before .before .before .if5 .left) _ (c .before .before .at .ensures) _ (c .enum-told2 .given .1)
+returns-7 c = cell-looked (c .before .before) false (ap blank (c .enum-told2 .given .1))
 
 pub check-move-spec : {M : Type 1} → statement M
 check-move-spec =

@@ -13,19 +13,37 @@ as-bit-requires-2 : tie.Need-as-bit-requires-2
 as-bit-requires-2 c κs = search needs
 
 returns : tie.Need-returns
-returns c = other-turn (position-of (c .before .before .before .args .self)) (position-of (c .before .before .before .args .rhs)) _ _ (c .before .before .as-bit .ensures) (c .before .as-bit2 .ensures) (c .if1 .taken)
+returns c =
+    let by = c .before in
+    let who = by .before in
+    let start = who .before in
+    other-turn (position-of (start .args .self)) (position-of (start .args .rhs)) _ _ (who .as-bit .ensures) (by .as-bit2 .ensures) (c .if1 .taken)
 
 same-requires : tie.Need-same-requires
 same-requires c κs = search needs
 
 returns-2 : tie.Need-returns-2
-returns-2 c = other-due (position-of (c .before .before .before .before .before .args .self)) (position-of (c .before .before .before .before .before .args .rhs)) _ _ (c .before .before .before .before .as-bit .ensures) (c .before .before .before .as-bit2 .ensures) (c .before .before .if1 .left) _ (c .before .same .ensures) (c .if2 .taken)
+returns-2 c =
+    let due = c .before in
+    let i1 = due .before in
+    let by = i1 .before in
+    let who = by .before in
+    let start = who .before in
+    other-due (position-of (start .args .self)) (position-of (start .args .rhs)) _ _ (who .as-bit .ensures) (by .as-bit2 .ensures) (i1 .if1 .left) _ (due .same .ensures) (c .if2 .taken)
 
 same-state-requires : tie.Need-same-state-requires
 same-state-requires c κs = search needs
 
 returns-3 : tie.Need-returns-3
-returns-3 c = other-state (position-of (c .before .before .before .before .before .before .before .args .self)) (position-of (c .before .before .before .before .before .before .before .args .rhs)) _ _ (c .before .before .before .before .before .before .as-bit .ensures) (c .before .before .before .before .before .as-bit2 .ensures) (c .before .before .before .before .if1 .left) _ (c .before .before .before .same .ensures) (c .before .before .if2 .left) _ (c .before .same-state .ensures) (c .if3 .taken)
+returns-3 c =
+    let state = c .before in
+    let i2 = state .before in
+    let due = i2 .before in
+    let i1 = due .before in
+    let by = i1 .before in
+    let who = by .before in
+    let start = who .before in
+    other-state (position-of (start .args .self)) (position-of (start .args .rhs)) _ _ (who .as-bit .ensures) (by .as-bit2 .ensures) (i1 .if1 .left) _ (due .same .ensures) (i2 .if2 .left) _ (state .same-state .ensures) (c .if3 .taken)
 
 openbits-requires : tie.Need-openbits-requires
 openbits-requires c κs = search needs
@@ -34,7 +52,18 @@ same-in-requires : tie.Need-same-in-requires
 same-in-requires c κs = search needs
 
 returns-4 : tie.Need-returns-4
-returns-4 c = compared (position-of (c .before .before .before .before .before .before .before .before .before .before .before .before .args .self)) (position-of (c .before .before .before .before .before .before .before .before .before .before .before .before .args .rhs)) _ _ (c .before .before .before .before .before .before .before .before .before .before .before .as-bit .ensures) (c .before .before .before .before .before .before .before .before .before .before .as-bit2 .ensures) (c .before .before .before .before .before .before .before .before .before .if1 .left) _ (c .before .before .before .before .before .before .before .before .same .ensures) (c .before .before .before .before .before .before .before .if2 .left) _ (c .before .before .before .before .before .before .same-state .ensures) (c .before .before .before .before .before .if3 .left) _ (c .same-in .ensures ∙ same-boards (position-of (c .before .before .before .before .before .before .before .before .before .before .before .before .args .self)) _ _ _ (c .before .openbits .ensures))
+returns-4 c =
+    let boards = c .before in
+    let i3 = boards .before .before .before .before in
+    let state = i3 .before in
+    let i2 = state .before in
+    let due = i2 .before in
+    let i1 = due .before in
+    let by = i1 .before in
+    let who = by .before in
+    let start = who .before in
+    compared (position-of (start .args .self)) (position-of (start .args .rhs)) _ _ (who .as-bit .ensures) (by .as-bit2 .ensures) (i1 .if1 .left) _ (due .same .ensures) (i2 .if2 .left) _ (state .same-state .ensures) (i3 .if3 .left) _
+    (c .same-in .ensures ∙ same-boards (position-of (start .args .self)) _ _ _ (boards .openbits .ensures))
 
 pub equivalent-spec : {M : Type 1} → statement M
 equivalent-spec =

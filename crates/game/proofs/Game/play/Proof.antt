@@ -3,7 +3,6 @@ use mathlib.Core.Logic.{inl, inr}
 use mathlib.Core.Path.{_≡_, _∙_}
 use lib.ListN.{length, length-map}
 use borrow.Author.Needs.{needs}
-use Rattle.rules.specs.Position.{at}
 use Rattle.game.proofs.Meaning.{play-makes, next-only, next-any}
 use Rattle.game.proofs.Game.play.Statement.{statement}
 use Rattle.game.proofs.Game.play.Tie as tie
@@ -35,24 +34,30 @@ check-winner-requires-2 c κs = search needs
 in-play-requires : tie.Need-in-play-requires
 in-play-requires c κs = search needs
 
-cast-t19 : tie.Need-cast-t19
-cast-t19 c = search needs
+cast-due : tie.Need-cast-due
+cast-due c = search needs
 
 other-requires : tie.Need-other-requires
 other-requires c κs = search needs
 
 returns : tie.Need-returns
 returns c =
-    let a = c .before .before .before .before .before .before .before .before .before .before .before .before .args in
-    let h = c .before .before .before .before .before .before .before .before .before .before .before .before .pre in
-    let n : length (a .self .«local_boards» .rows) ≡ 3 = simp length-map at (c .before .before .before .before .before .before .before .before .before .before .before .before .good .0 .1 .1 .1 .1 .0 .1 .1 .0 .1 .0 .1) in
-    play-makes (a .self) (a .global) (a .local) n (h .0) (h .1) (h .2) (h .3) _ _ _ _ _ _ _ _
+    let closing = c .before .before .before .before in
+    let square = closing .before .before in
+    let states = square .before in
+    let winner = states .before in
+    let boards = winner .before in
+    let start = boards .before .before .before in
+    let g = start .args .self in
+    let h = start .pre in
+    let n : length (g .«local_boards» .rows) ≡ 3 = simp length-map at (start .good .0 .1 .1 .1 .1 .0 .1 .1 .0 .1 .0 .1) in
+    play-makes g (start .args .global) (start .args .local) n (h .0) (h .1) (h .2) (h .3) _ _ _ _ _ _ _ _
     (c .other .ensures)
     (elim (c .before .if1 .came) [
       | inl w ↦ w .1 ∙ next-only _ _ _ (c .before .before .in-play .ensures) (w .0 .taken)
       | inr w ↦ w .1 ∙ next-any _ _ _ (c .before .before .in-play .ensures) (w .0 .left)
     ])
-    (c .before .before .before .before .before .before .before .before .before .set .ensures) (c .before .before .before .before .before .before .before .before .check-winner .ensures) (c .before .before .before .before .before .before .before .set2 .ensures) (c .before .before .before .check-winner2 .ensures) (c .before .before .before .before .before .before .for-square .ensures) (c .before .before .before .before .hash-after .ensures)
+    (boards .set .ensures) (winner .check-winner .ensures) (states .set2 .ensures) (c .before .before .before .check-winner2 .ensures) (square .for-square .ensures) (closing .hash-after .ensures)
 
 pub play-spec : {M : Type 1} → statement M
 play-spec =
@@ -67,6 +72,6 @@ play-spec =
     hash-after-requires
     check-winner-requires-2
     in-play-requires
-    cast-t19
+    cast-due
     other-requires
     returns)
