@@ -8,6 +8,7 @@ pub use lines::BOARD_MASK;
 pub use lines::WIN_MASKS;
 pub use lines::WIN_PATTERNS;
 pub use lines::has_line;
+pub use lines::win_mask;
 pub use lines::win_pattern;
 pub use local::LocalBoards;
 pub use local::Row;

@@ -2,9 +2,10 @@
 // Ported from src/lib/game.rs of nelhage/ultimattt at commit 87ef0d9c7c (Apache-2.0, see NOTICE), changed: eight masks in turn for the
 // lanes of a vector.
 ghost use mathlib.Core.Path.{_≡_};
+ghost use lib.ListN.{getD};
 ghost use Rattle.base.specs.Bits.{bit};
 ghost use Rattle.rules.specs.Board.{has-line};
-ghost use Rattle.boards.specs.Masks.{pattern-at};
+ghost use Rattle.boards.specs.Masks.{masks, pattern-at};
 
 pub const WIN_PATTERNS: [[usize; 3]; 8] = [
     // rows
@@ -36,6 +37,16 @@ pub fn win_pattern(i: usize, j: usize) -> usize
 pub const WIN_MASKS: [u32; 8] = [0x7, 0x38, 0x1c0, 0x49, 0x92, 0x124, 0x111, 0x54];
 
 pub const BOARD_MASK: u32 = 0x1ff;
+
+// The mask of a line, none over 7.
+pub fn win_mask(i: usize) -> u32
+    ensures { λ r. ⌜ r ≡ getD masks i 0 ⌝ }
+{
+    if i > 7 {
+        return 0;
+    }
+    WIN_MASKS[i]
+}
 
 // Whether one of the eight lines lies in the bits.
 pub fn has_line(bits: u32) -> bool

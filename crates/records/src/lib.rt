@@ -1,8 +1,5 @@
 // Lines of decimal numbers parted by blanks, read byte by byte into lent words.
 ghost use mathlib.Core.Path.{_≡_};
-ghost use mathlib.Core.Bool.{Bool, _&&_};
-ghost use Prim.Native.Nat.{ℕ, _+_, _-_, _*_, _%_, _^_, _≤_};
-ghost use lib.Dec.{leb};
 ghost use lib.ListN.{length, getD};
 ghost use Rattle.records.specs.Records.{is-digit, longer, scanned, written};
 

@@ -4,7 +4,7 @@
 ghost use mathlib.Core.Path.{_≡_};
 ghost use lib.Bits.{bitAnd};
 ghost use lib.Dec.{eqb};
-ghost use Rattle.rules.specs.Status.{unproven, for-player, draw-or-other, as-byte, allows, alone, from-byte};
+ghost use Rattle.rules.specs.Status.{unproven, for-player, draw-or-other, allows, from-byte};
 ghost use Rattle.status.specs.Sets.{set-of, only-draw, status-of, read-of, won-byte};
 use rules::Player;
 

@@ -2,8 +2,7 @@
 // Ported from src/lib/table.rs and the entry of src/lib/minimax.rs of nelhage/ultimattt at commit 87ef0d9c7c (Apache-2.0, see NOTICE),
 // changed: one slot, lent words for a box of entries, no index bytes and no statistics.
 ghost use mathlib.Core.Path.{_≡_};
-ghost use Prim.Native.Nat.{ℕ, _+_, _*_, _≤_, _<_};
-ghost use lib.ListN.{length};
+ghost use Prim.Native.Nat.{_+_, _≤_, _<_};
 ghost use Rattle.theory.specs.Table.{value-of, word-of, rest-of, entry-of, look-up, replaces, store};
 ghost use Rattle.table.specs.Entries.{begins-in, bound-number, entry-means, held-means};
 use boards::Move;
