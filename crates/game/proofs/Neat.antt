@@ -137,12 +137,12 @@ module _ (s : GlobalStates) (b : ℕ) (h : b < 9) (x : s .x < 2 ^ 9) (o : s .o <
   state-with-neat (Won X) = (or-lt 9 (s .x) (2 ^ b) x (pow-lt h), o)
   state-with-neat (Won O) = (x, or-lt 9 (s .o) (2 ^ b) o (pow-lt h))
 
-  with-state-neat : (g : GameState) → (with-state s b g .x < 2 ^ 9) × (with-state s b g .o < 2 ^ 9)
+  pub with-state-neat : (g : GameState) → (with-state s b g .x < 2 ^ 9) × (with-state s b g .o < 2 ^ 9)
   unfolding with-state
   with-state-neat g = if-ind (λ (z : GlobalStates). (z .x < 2 ^ 9) × (z .o < 2 ^ 9)) (ltb b 9) _ _ (λ _. state-with-neat g) (λ _. (x, o))
 
 module _ (l : LocalBoards) (b c : ℕ) (w : Player) (hb : b < 9) (hc : c < 9) (t : T (blank (cell-at l b c))) (n : length (l .rows) ≡ 3) (a : T (all neat-row (l .rows))) where
-  with-cell-neat : (length (with-cell l b c w .rows) ≡ 3) × T (all neat-row (with-cell l b c w .rows))
+  pub with-cell-neat : (length (with-cell l b c w .rows) ≡ 3) × T (all neat-row (with-cell l b c w .rows))
   unfolding with-cell
   with-cell-neat = if-ind (λ (z : LocalBoards). (length (z .rows) ≡ 3) × T (all neat-row (z .rows))) (ltb b 9 && ltb c 9) _ _
       (λ _. (

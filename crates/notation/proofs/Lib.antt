@@ -1,0 +1,7 @@
+pub mod Marks
+pub mod Overall
+pub mod Cells
+pub mod Answers
+pub mod Bytes
+pub mod RoundTrip
+pub mod Moves

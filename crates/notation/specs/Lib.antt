@@ -1,0 +1,2 @@
+pub mod Parsed
+pub mod Parts

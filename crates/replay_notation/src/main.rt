@@ -1,0 +1,397 @@
+// Replays the Rust's answers on texts and on `Status`, and prints how many agree and each record that does not.
+// The records are made by tools/lists.py, which says what the numbers of a record are.
+ghost use mathlib.Core.Path.{_≡_};
+ghost use Prim.Native.Nat.{_<_};
+ghost use lib.ListN.{length};
+use boards::Move;
+use game::Game;
+use libc::STDIN_FILENO;
+use libc::STDOUT_FILENO;
+use notation::ErrorKind;
+use notation::MoveTextAnswer;
+use notation::ParseAnswer;
+use records::Scan;
+use rules::GameState;
+use rules::Player;
+use status::Read;
+use status::Status;
+
+// The most numbers of a record.
+const MOST: usize = 1024;
+
+fn kind_number(e: ErrorKind) -> u64 {
+    match e {
+        ErrorKind::TooLong => 1,
+        ErrorKind::MissingSection => 2,
+        ErrorKind::BadPlayer => 3,
+        ErrorKind::TooFewSquares => 4,
+        ErrorKind::BadBoard => 5,
+        ErrorKind::TooShort => 6,
+    }
+}
+
+fn won_number(p: Player) -> u64 {
+    match p {
+        Player::X => 2,
+        Player::O => 3,
+    }
+}
+
+fn state_number(s: GameState) -> u64 {
+    match s {
+        GameState::InPlay => 0,
+        GameState::Drawn => 1,
+        GameState::Won(p) => won_number(p),
+    }
+}
+
+// How many bytes of text, or moves, a record has: the number at place 1.
+fn text_length(words: &[u64]) -> usize
+    ensures { λ r. ⌜ r < 512 ⌝ }
+{
+    let n = records::at(words, 1);
+    if n < 512 { n as usize } else { 511 }
+}
+
+// The bytes of a record, from place 2 on.
+fn text_bytes(words: &[u64]) -> [u8; 512]
+    ensures { λ r. ⌜ 512 ≡ length r ⌝ }
+{
+    let mut text = [0u8; 512];
+    let mut k: usize = 0;
+    while k < 512 {
+        text[k] = (records::at(words, k + 2) % 256) as u8;
+        k += 1;
+    }
+    text
+}
+
+// Whether a game is rendered as the 101 bytes from place `i` on.
+fn same_render(words: &[u64], i: usize, g: Game) -> bool
+    requires { ⌜ i < 100000 ⌝ }
+{
+    let text = notation::render(g);
+    let mut good = true;
+    let mut k: usize = 0;
+    while k < 101 {
+        if text[k] as u64 != records::at(words, i + k) {
+            good = false;
+        }
+        k += 1;
+    }
+    good
+}
+
+// Whether a game's text is read as that very game: its hash, and its text again.
+fn reads_back(g: Game) -> bool {
+    let text = notation::render(g);
+    let parsed = notation::parse(&text);
+    let h = parsed.game;
+    if h.hash != g.hash {
+        return false;
+    }
+    h.equivalent(g)
+}
+
+fn same_refusal(words: &[u64], n: usize, text: &[u8]) -> bool
+    requires { ⌜ n < 512 ⌝ }
+{
+    let parsed = notation::parse(text);
+    let answer = parsed.answer;
+    match answer {
+        ParseAnswer::Accepted => false,
+        ParseAnswer::Refused(e) => {
+            let why = e.why;
+            if kind_number(why) != records::at(words, n + 2) {
+                return false;
+            }
+            if e.offset as u64 != records::at(words, n + 3) {
+                return false;
+            }
+            e.length as u64 == records::at(words, n + 4)
+        }
+    }
+}
+
+fn same_game(words: &[u64], n: usize, g: Game) -> bool
+    requires { ⌜ n < 512 ⌝ }
+{
+    if !same_render(words, n + 2, g) {
+        return false;
+    }
+    if g.hash != records::at(words, n + 103) {
+        return false;
+    }
+    if g.zobrist() != records::at(words, n + 104) {
+        return false;
+    }
+    if state_number(g.game_state()) != records::at(words, n + 105) {
+        return false;
+    }
+    g.bound_depth() as u64 == records::at(words, n + 106)
+}
+
+fn same_reading(words: &[u64], n: usize, text: &[u8]) -> bool
+    requires { ⌜ n < 512 ⌝ }
+{
+    let parsed = notation::parse(text);
+    let answer = parsed.answer;
+    match answer {
+        ParseAnswer::Refused(_) => false,
+        ParseAnswer::Accepted => same_game(words, n, parsed.game),
+    }
+}
+
+fn same_move(words: &[u64], n: usize, text: &[u8]) -> bool
+    requires { ⌜ n < 512 ⌝ }
+{
+    let parsed = notation::parse_move(text);
+    let answer = parsed.answer;
+    let m = parsed.m;
+    if m.bits as u64 != records::at(words, n + 4) {
+        return false;
+    }
+    match answer {
+        MoveTextAnswer::Read => records::at(words, n + 2) == 0,
+        MoveTextAnswer::BadLength => records::at(words, n + 2) == 7,
+        MoveTextAnswer::BadCharacter(c) => {
+            if records::at(words, n + 2) != 8 {
+                return false;
+            }
+            c as u64 == records::at(words, n + 3)
+        }
+    }
+}
+
+// Whether a set, or 0 for none, is the expected byte.
+fn same_set(set: Read, byte: u64) -> bool {
+    match set {
+        Read::Nothing => byte == 0,
+        Read::Set(s) => s.as_byte() as u64 == byte,
+    }
+}
+
+fn status_at(words: &[u64], i: usize) -> Status {
+    Status {
+        bits: (records::at(words, i) % 256) as u8,
+    }
+}
+
+fn same_merge(words: &[u64]) -> bool {
+    let a = status_at(words, 1);
+    let b = status_at(words, 2);
+    same_set(a.merge(b), records::at(words, 3))
+}
+
+fn same_byte(words: &[u64]) -> bool {
+    let s = status_at(words, 1);
+    same_set(Status::from_byte(s.bits), records::at(words, 2))
+}
+
+// The game after the moves of a record, from place 2 on.
+fn after_moves(words: &[u64], count: usize) -> Game
+    requires { ⌜ count < 512 ⌝ }
+{
+    let mut game = Game::new();
+    let mut k: usize = 0;
+    while k < count {
+        let m = Move {
+            bits: (records::at(words, k + 2) % 256) as u8,
+        };
+        let made = game.make_move(m);
+        game = made.game;
+        k += 1;
+    }
+    game
+}
+
+fn same_text(words: &[u64]) -> bool {
+    let n = text_length(words);
+    let g = after_moves(words, n);
+    if !reads_back(g) {
+        return false;
+    }
+    same_render(words, n + 2, g)
+}
+
+fn same_parse(words: &[u64], kind: u64) -> bool {
+    let n = text_length(words);
+    let bytes = text_bytes(words);
+    match kind {
+        4 => same_refusal(words, n, &bytes[0..n]),
+        5 => same_reading(words, n, &bytes[0..n]),
+        _ => same_move(words, n, &bytes[0..n]),
+    }
+}
+
+fn agrees(words: &[u64]) -> bool {
+    let kind = records::at(words, 0);
+    match kind {
+        4 => same_parse(words, kind),
+        5 => same_parse(words, kind),
+        6 => same_parse(words, kind),
+        7 => same_byte(words),
+        8 => same_merge(words),
+        9 => same_text(words),
+        _ => false,
+    }
+}
+
+// Whether a byte of a record's text is not ASCII.
+fn is_wide(words: &[u64], offset: u64) -> bool {
+    if offset < 512 {
+        records::at(words, (offset as usize) + 2) > 127
+    } else {
+        false
+    }
+}
+
+// Whether the record holds document 01's answer and not the Rust's: a text of over 256 bytes, or a mark on which the Rust panics.
+fn is_apart(words: &[u64]) -> bool {
+    if records::at(words, 0) != 4 {
+        return false;
+    }
+    let n = text_length(words);
+    match records::at(words, n + 2) {
+        1 => true,
+        5 => is_wide(words, records::at(words, n + 3)),
+        _ => false,
+    }
+}
+
+pub struct Totals {
+    pub records: u64,
+    pub agreed: u64,
+    pub apart: u64,
+}
+
+// Where the reading stands.
+pub struct Progress {
+    pub scan: Scan,
+    pub totals: Totals,
+}
+
+fn one_more(n: u64) -> u64 {
+    if n < 1000000000 { n + 1 } else { n }
+}
+
+fn report(line: u64) {
+    io::write_all(STDOUT_FILENO, b"differs: record ");
+    io::print_decimal(STDOUT_FILENO, line);
+    io::write_all(STDOUT_FILENO, b"\n");
+}
+
+// The totals with one record more.
+fn tally(totals: Totals, words: &[u64]) -> Totals {
+    let records = one_more(totals.records);
+    if !agrees(words) {
+        report(records);
+        return Totals {
+            records,
+            agreed: totals.agreed,
+            apart: totals.apart,
+        };
+    }
+    let apart = if is_apart(words) {
+        one_more(totals.apart)
+    } else {
+        totals.apart
+    };
+    Totals {
+        records,
+        agreed: one_more(totals.agreed),
+        apart,
+    }
+}
+
+// After one byte: a line feed ends a record.
+fn step(progress: Progress, b: u8, words: &mut [u64]) -> Progress {
+    let scan = progress.scan;
+    let totals = progress.totals;
+    let after = scan.push(b, words);
+    if b != b'\n' {
+        return Progress {
+            scan: after,
+            totals,
+        };
+    }
+    let n = after.count;
+    if n > words.len() {
+        return Progress {
+            scan: Scan::NEW,
+            totals,
+        };
+    }
+    Progress {
+        scan: Scan::NEW,
+        totals: tally(totals, &words[0..n]),
+    }
+}
+
+fn feed(bytes: &[u8], progress: Progress, words: &mut [u64]) -> Progress {
+    let mut p = progress;
+    let mut i: usize = 0;
+    while i < bytes.len() {
+        p = step(p, bytes[i], words);
+        i += 1;
+    }
+    p
+}
+
+// After one read, and whether there may be more to read.
+pub struct Turn {
+    pub progress: Progress,
+    pub more: bool,
+}
+
+fn read_some(progress: Progress, words: &mut [u64]) -> Turn {
+    let mut buffer = io::large_buffer();
+    let got = libc::read(STDIN_FILENO, &mut buffer);
+    let n = io::count(got, &buffer);
+    if n == 0 {
+        return Turn {
+            progress,
+            more: false,
+        };
+    }
+    let after = feed(&buffer[..n], progress, words);
+    Turn {
+        progress: after,
+        more: true,
+    }
+}
+
+fn print_totals(t: Totals) {
+    io::print_decimal(STDOUT_FILENO, t.agreed);
+    io::write_all(STDOUT_FILENO, b" of ");
+    io::print_decimal(STDOUT_FILENO, t.records);
+    io::write_all(STDOUT_FILENO, b" records agree, ");
+    io::print_decimal(STDOUT_FILENO, t.apart);
+    io::write_all(
+        STDOUT_FILENO,
+        b" of them with document 01's answer for the Rust's\n",
+    );
+}
+
+// A proved loop has to end, and nothing says that the input does: the turns are counted down from a number that no run uses up.
+fn main() {
+    let mut words = [0u64; MOST];
+    let mut progress = Progress {
+        scan: Scan::NEW,
+        totals: Totals {
+            records: 0,
+            agreed: 0,
+            apart: 0,
+        },
+    };
+    let mut turns = u64::MAX;
+    while turns > 0 {
+        let turn = read_some(progress, &mut words);
+        progress = turn.progress;
+        if !turn.more {
+            break;
+        }
+        turns -= 1;
+    }
+    print_totals(progress.totals);
+}
