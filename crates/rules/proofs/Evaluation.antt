@@ -64,13 +64,13 @@ unfolding hi lo
 halves-within (pos n) a b e = (omega arith, omega arith)
 halves-within (negsuc n) a b e = (omega arith, omega arith)
 
-within-+ : (j k : ℕ) (a b : ℤ) → Within j a → Within k b → Within (j + k) (a +ℤ b)
+pub within-+ : (j k : ℕ) (a b : ℤ) → Within j a → Within k b → Within (j + k) (a +ℤ b)
 within-+ j k a b h q = let u = halves-within (a +ℤ b) (hi a + hi b) (lo a + lo b) (omega (arith, sm a b)) in (omega arith, omega arith)
 
-within-neg : (k : ℕ) (z : ℤ) → Within k z → Within k (negℤ z)
+pub within-neg : (k : ℕ) (z : ℤ) → Within k z → Within k (negℤ z)
 within-neg k z h = (omega (arith, hi-neg z), omega (arith, lo-neg z))
 
-within-pos : (k n : ℕ) → n ≤ k → Within k (pos n)
+pub within-pos : (k n : ℕ) → n ≤ k → Within k (pos n)
 unfolding hi lo
 within-pos k n h = (h, omega arith)
 
@@ -92,7 +92,7 @@ within-seen k X z h = h
 within-seen k O z h = within-neg k z h
 
 -- ---- the lines
-within-unless : (k x o : ℕ) (z : ℤ) → Within k z → Within k (unless-both x o z)
+pub within-unless : (k x o : ℕ) (z : ℤ) → Within k z → Within k (unless-both x o z)
 unfolding unless-both
 within-unless k x o z h = if-ind (Within k) (ltb 0 x && ltb 0 o) _ _ (λ _. within-pos k 0 (omega arith)) (λ _. h)
 
@@ -110,7 +110,7 @@ pub count-le : (own : ℕ → Bool) (l : Line) → count own l ≤ 3
 unfolding count
 count-le own l = omega (arith, bit-le (own (l .i)), bit-le (own (l .j)), bit-le (own (l .k)))
 
-board-line-within : (xs os : ℕ → Bool) (l : Line) → Within 3 (board-line xs os l)
+pub board-line-within : (xs os : ℕ → Bool) (l : Line) → Within 3 (board-line xs os l)
 unfolding board-line
 board-line-within xs os l = within-unless 3 (count xs l) (count os l) _ (within-minus 3 _ _ (worth-le (count xs l)) (worth-le (count os l)))
 

@@ -1,0 +1,5 @@
+pub mod Signed
+pub mod Lines
+pub mod Boards
+pub mod Overall
+pub mod Ends

@@ -1,0 +1,98 @@
+-- An overall line by the values of its three boards is the line of the definition, which counts won boards and adds scores.
+use mathlib.Core.Path.{_≡_, refl, ap, _∙_}
+use mathlib.Core.Bool.{Bool}
+use mathlib.Core.List.{List}
+use Prim.Native.Nat.{ℕ, _*_, _<_}
+use lib.Bits.{bitAnd}
+use lib.Dec.{T}
+use lib.IntN.{ℤ, pos, negℤ, _+ℤ_, _-ℤ_, +ℤ-assoc}
+use Rattle.base.specs.Bits.{bit, digits}
+use Rattle.base.specs.Integers.{sum}
+use Rattle.base.proofs.Integers.{hi, lo, zarith, sm, ng}
+use Rattle.rules.specs.declared.Player.the-variants.{X, O}
+use Rattle.rules.specs.Board.{Line, lines}
+use Rattle.rules.specs.Position.{Position, won-boards}
+use Rattle.rules.specs.Evaluation.{count, board-score, overall-line, score}
+use Rattle.rules.proofs.Evaluation.{Within, within-+, within-unless}
+use Rattle.evaluation.specs.Values.{line-at, board-value, values-of, value-at, overall-value, small-values}
+use Rattle.evaluation.proofs.Signed.{Held, held}
+use Rattle.evaluation.proofs.Lines.{mask-at, place-at, places, low, count-digits, sum-same, none-there, some-there, both-sides, no-x, no-o}
+use Rattle.evaluation.proofs.Boards.{value-parts, small-at, nine-values}
+
+-- at most three times 24
+pub overall-within : (xs os : ℕ → Bool) (values : List ℤ) → T (small-values values) → (l : Line) → Within 72 (overall-value xs os values l)
+unfolding overall-value
+overall-within xs os values t l = within-unless 72 (count xs l) (count os l) _
+    (within-+ 24 48 _ _ (small-at values (l .i) t) (within-+ 24 24 _ _ (small-at values (l .j) t) (small-at values (l .k) t)))
+
+-- ---- as the code finds it
+abbrev pub held-at : (values : List ℤ) (i j : ℕ) → T (small-values values) → Held 24
+held-at values i j t = held {r = value-at values (place-at i j)} refl (small-at values (place-at i j) t)
+
+module _ (i x o : ℕ) (values : List ℤ) (h : i < 8) where
+  pub overall-both : (bitAnd x (mask-at i) ≡ 0 → ⊥) → (bitAnd o (mask-at i) ≡ 0 → ⊥) → pos 0 ≡ overall-value (bit x) (bit o) values (line-at i)
+  unfolding overall-value
+  overall-both q r = both-sides (count (bit x) (line-at i)) (count (bit o) (line-at i)) _ (some-there i x h q) (some-there i o h r)
+
+  abbrev three : ℤ
+  three = value-at values (place-at i 0) +ℤ value-at values (place-at i 1) +ℤ value-at values (place-at i 2)
+
+  three-is : three ≡ value-at values (line-at i .i) +ℤ (value-at values (line-at i .j) +ℤ value-at values (line-at i .k))
+  three-is = let e = places i h in rw (e .0, e .1, e .2) (+ℤ-assoc (value-at values (line-at i .i)) (value-at values (line-at i .j)) (value-at values (line-at i .k)))
+
+  pub overall-x : bitAnd o (mask-at i) ≡ 0 → three ≡ overall-value (bit x) (bit o) values (line-at i)
+  unfolding overall-value
+  overall-x e = three-is ∙ no-o (count (bit x) (line-at i)) (count (bit o) (line-at i)) _ (none-there i o h e)
+
+  pub overall-o : bitAnd x (mask-at i) ≡ 0 → three ≡ overall-value (bit x) (bit o) values (line-at i)
+  unfolding overall-value
+  overall-o e = three-is ∙ no-x (count (bit x) (line-at i)) (count (bit o) (line-at i)) _ (none-there i x h e)
+
+-- ---- the definition
+module _ (p : Position) where
+  abbrev v : ℕ → ℤ
+  v = board-value p
+
+  abbrev s : ℕ → ℤ
+  s = board-score p
+
+  -- three boards: their values are their scores, and 20 for each that is won
+  three-boards : (l : Line) → v (l .i) +ℤ (v (l .j) +ℤ v (l .k)) ≡ (pos (count (won-boards p X) l * 20) -ℤ pos (count (won-boards p O) l * 20)) +ℤ (s (l .i) +ℤ (s (l .j) +ℤ s (l .k)))
+  unfolding count hi lo
+  three-boards l =
+      let x = count (won-boards p X) l * 20 in
+      let o = count (won-boards p O) l * 20 in
+      omega (
+        zarith,
+        value-parts p (l .i),
+        value-parts p (l .j),
+        value-parts p (l .k),
+        sm (v (l .i)) (v (l .j) +ℤ v (l .k)),
+        sm (v (l .j)) (v (l .k)),
+        sm (pos x -ℤ pos o) (s (l .i) +ℤ (s (l .j) +ℤ s (l .k))),
+        sm (pos x) (negℤ (pos o)),
+        ng (pos o),
+        sm (s (l .i)) (s (l .j) +ℤ s (l .k)),
+        sm (s (l .j)) (s (l .k)),
+      )
+
+  line-is : (x o : ℕ) → x ≡ digits (won-boards p X) 9 → o ≡ digits (won-boards p O) 9 → (i : ℕ) → i < 8
+      → overall-value (bit x) (bit o) (values-of p) (line-at i) ≡ overall-line (won-boards p X) (won-boards p O) s (line-at i)
+  unfolding overall-value overall-line
+  line-is x o e d i h =
+      let k = low i h in
+      rw (
+        count-digits (won-boards p X) x i e h,
+        count-digits (won-boards p O) o i d h,
+        nine-values p (line-at i .i) (k .0),
+        nine-values p (line-at i .j) (k .1),
+        nine-values p (line-at i .k) (k .2),
+        three-boards (line-at i),
+      )
+
+  pub score-is : (x o : ℕ) (values : List ℤ) → x ≡ digits (won-boards p X) 9 → o ≡ digits (won-boards p O) 9 → values ≡ values-of p
+      → sum (overall-value (bit x) (bit o) values) lines ≡ score p
+  unfolding score
+  score-is x o values e d f =
+      ap (λ (zs : List ℤ). sum (overall-value (bit x) (bit o) zs) lines) f
+      ∙ sum-same (overall-value (bit x) (bit o) (values-of p)) (overall-line (won-boards p X) (won-boards p O) s) (line-is x o e d)

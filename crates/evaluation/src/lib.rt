@@ -1,0 +1,187 @@
+// The evaluation of a position for the side to move.
+// Ported from src/lib/minimax.rs of nelhage/ultimattt at commit 87ef0d9c7c (Apache-2.0, see NOTICE), changed: the draw winner is an argument, and
+// a board's own score and what it is won for are one value.
+ghost use mathlib.Core.Path.{_≡_};
+ghost use Prim.Native.Nat.{_<_};
+ghost use lib.IntN.{pos};
+ghost use lib.Dec.{T};
+ghost use Rattle.base.specs.Bits.{bit};
+ghost use Rattle.base.specs.Integers.{sum};
+ghost use Rattle.rules.specs.Board.{lines, mine};
+ghost use Rattle.rules.specs.Evaluation.{won, count, worth, board-line, seen-by, draw-value, score, evaluate};
+ghost use Rattle.boards.specs.Packed.{cell-at};
+ghost use Rattle.game.specs.Meaning.{position-of};
+ghost use Rattle.evaluation.specs.Values.{line-at, board-value, values-of, overall-value, small-values};
+use boards::LocalBoards;
+use boards::WIN_MASKS;
+use boards::WIN_PATTERNS;
+use game::Game;
+use rules::DrawWinner;
+use rules::GameState;
+use rules::Player;
+
+pub const EVAL_WON: i64 = 1152921504606846976;
+
+pub const EVAL_LOST: i64 = -1152921504606846976;
+
+const EVAL_PARTIAL_ONE: i64 = 1;
+
+const EVAL_PARTIAL_TWO: i64 = 3;
+
+const OVERALL_PARTIAL_WIN: i64 = 20;
+
+// The value of a won game, for the side to move.
+fn won_by(who: Player, turn: Player) -> i64
+    ensures { λ r. ⌜ r ≡ seen-by turn (seen-by who won) ⌝ }
+{
+    if who.as_bit() == turn.as_bit() {
+        EVAL_WON
+    } else {
+        EVAL_LOST
+    }
+}
+
+fn drawn(draw_winner: DrawWinner, turn: Player) -> i64
+    ensures { λ r. ⌜ r ≡ seen-by turn (draw-value «draw_winner») ⌝ }
+{
+    match draw_winner {
+        DrawWinner::Nobody => 0,
+        DrawWinner::Side(who) => won_by(who, turn),
+    }
+}
+
+// What a side's places in line i give, if the other side has none there: nothing for three.
+fn potential(bits: u32, i: usize) -> i64
+    requires { ⌜ i < 8 ⌝ }
+    ensures { λ r. ⌜ r ≡ pos (worth (count (bit bits) (line-at i))) ⌝ }
+{
+    let mask = WIN_MASKS[i];
+    let places = bits & mask;
+    if places == 0 {
+        return 0;
+    }
+    if places & (places - 1) == 0 {
+        return EVAL_PARTIAL_ONE;
+    }
+    if places == mask {
+        return 0;
+    }
+    EVAL_PARTIAL_TWO
+}
+
+// A line with both sides in it gives nothing.
+fn score_line(i: usize, xbits: u32, obits: u32) -> i64
+    requires { ⌜ i < 8 ⌝ }
+    ensures { λ r. ⌜ r ≡ board-line (bit xbits) (bit obits) (line-at i) ⌝ }
+{
+    let mask = WIN_MASKS[i];
+    if obits & mask == 0 {
+        return potential(xbits, i);
+    }
+    if xbits & mask == 0 {
+        return -potential(obits, i);
+    }
+    0
+}
+
+// The score of a board in play.
+fn score_board(boards: LocalBoards, board: usize) -> i64
+    ensures { λ r. ⌜ r ≡ sum (board-line (λ c. mine Player.X (cell-at boards board c)) (λ c. mine Player.O (cell-at boards board c))) lines ⌝ }
+{
+    let x = boards.xbits(board);
+    let o = boards.obits(board);
+    score_line(0, x, o)
+        + score_line(1, x, o)
+        + score_line(2, x, o)
+        + score_line(3, x, o)
+        + score_line(4, x, o)
+        + score_line(5, x, o)
+        + score_line(6, x, o)
+        + score_line(7, x, o)
+}
+
+// What a board gives in each overall line that counts: its own score while in play, and what it is won for.
+fn value_of(g: Game, board: usize) -> i64
+    ensures { λ r. ⌜ r ≡ board-value (position-of g) board ⌝ }
+{
+    let states = g.global_states;
+    let boards = g.local_boards;
+    let state = states.at(board);
+    match state {
+        GameState::InPlay => score_board(boards, board),
+        GameState::Drawn => 0,
+        GameState::Won(who) => match who {
+            Player::X => OVERALL_PARTIAL_WIN,
+            Player::O => -OVERALL_PARTIAL_WIN,
+        },
+    }
+}
+
+fn all_values(g: Game) -> [i64; 9]
+    ensures { λ r. ⌜ r ≡ values-of (position-of g) ⌝ }
+{
+    [
+        value_of(g, 0),
+        value_of(g, 1),
+        value_of(g, 2),
+        value_of(g, 3),
+        value_of(g, 4),
+        value_of(g, 5),
+        value_of(g, 6),
+        value_of(g, 7),
+        value_of(g, 8),
+    ]
+}
+
+// An overall line with both sides in it gives nothing.
+fn score_overall(i: usize, x: u32, o: u32, values: [i64; 9]) -> i64
+    requires { ⌜ (i < 8) × T (small-values values) ⌝ }
+    ensures { λ r. ⌜ r ≡ overall-value (bit x) (bit o) values (line-at i) ⌝ }
+{
+    let mask = WIN_MASKS[i];
+    let a = WIN_PATTERNS[i][0];
+    let b = WIN_PATTERNS[i][1];
+    let c = WIN_PATTERNS[i][2];
+    if x & mask != 0 {
+        if o & mask != 0 {
+            return 0;
+        }
+    }
+    values[a] + values[b] + values[c]
+}
+
+// The evaluation of an unfinished position for X.
+fn score_game(g: Game) -> i64
+    ensures { λ r. ⌜ r ≡ score (position-of g) ⌝ }
+{
+    let states = g.global_states;
+    let x = states.xbits();
+    let o = states.obits();
+    let values = all_values(g);
+    score_overall(0, x, o, values)
+        + score_overall(1, x, o, values)
+        + score_overall(2, x, o, values)
+        + score_overall(3, x, o, values)
+        + score_overall(4, x, o, values)
+        + score_overall(5, x, o, values)
+        + score_overall(6, x, o, values)
+        + score_overall(7, x, o, values)
+}
+
+pub fn evaluate(g: Game, draw_winner: DrawWinner) -> i64
+    ensures { λ r. ⌜ r ≡ evaluate «draw_winner» (position-of g) ⌝ }
+{
+    let turn = g.next_player;
+    let state = g.game_state;
+    match state {
+        GameState::Drawn => drawn(draw_winner, turn),
+        GameState::Won(who) => won_by(who, turn),
+        GameState::InPlay => {
+            let score = score_game(g);
+            match turn {
+                Player::X => score,
+                Player::O => -score,
+            }
+        }
+    }
+}
