@@ -41,9 +41,11 @@ use Rattle.notation.specs.declared.CellsRead.{CellsRead}
 use Rattle.notation.specs.Parsed.{kind-number, game-for, Parses}
 use Rattle.notation.specs.Parts.{refused, Gives, Finds, Marks-say, Reads-overall, Cells-say, Answers-cells, Reads-cells}
 
+-- ---- a refusal
 pub refusal-gives : (x : Reading) (r : Parsed) (why : ErrorKind) (o l : ℕ) → r ≡ refused why o l → x ≡ refuses (kind-number why) o l → Gives x r
 refusal-gives x r why o l e f = rw (e, f) (record { says = refl; game-is = refl })
 
+-- its number is not 0
 pub kind-is-a-fault : (why : ErrorKind) → kind-number why ≡ 0 → ⊥
 kind-is-a-fault TooLong e = omega arith
 kind-is-a-fault MissingSection e = omega arith
@@ -76,10 +78,12 @@ module _ (s os cs : List ℕ) where
   abbrev answer : Reading
   answer = read-side (lone-side s) s os cs
 
+  -- the side is not one letter
   pub side-bad : lone-side s ≡ none → answer ≡ refuses 3 0 (length s)
   side-bad e = rw e
 
   module _ (w : Player) (e : lone-side s ≡ some w) where
+    -- the overall marks are not nine
     pub marks-not-nine : (length os ≡ 9 → ⊥) → answer ≡ refuses 4 2 (length os)
     unfolding read-overall if_then_else_
     marks-not-nine n = rw (e, ne-eqb (length os) 9 n)
@@ -89,14 +93,17 @@ module _ (s os cs : List ℕ) where
       unfolding read-overall if_then_else_
       by-marks = rw (e, eq-eqb (length os) 9 n)
 
+      -- one of them is bad
       pub mark-bad : (i : ℕ) → first-bad os ≡ some i → answer ≡ refuses 5 (2 + i) 1
       mark-bad i f = by-marks ∙ rw f
 
       module _ (f : first-bad os ≡ none) where
+        -- a cell or a `/` is bad or lacks
         pub cells-bad : (why : ErrorKind) → kind-number why ≡ first-fault cs (from 0 89) → answer ≡ refuses (kind-number why) 12 (length cs)
         unfolding read-cells if_then_else_
         cells-bad why e' = by-marks ∙ rw (f, ne-eqb (first-fault cs (from 0 89)) 0 (λ z. kind-is-a-fault why (e' ∙ z)), e')
 
+        -- nothing is
         pub all-good : first-fault cs (from 0 89) ≡ 0 → answer ≡ reads (said w os cs)
         unfolding read-cells if_then_else_
         all-good z = by-marks ∙ rw (f, eq-eqb (first-fault cs (from 0 89)) 0 z)
@@ -138,6 +145,7 @@ module _ (w : Player) (os cs : List ℕ) (s : GlobalStates) (n : NextBoard) (l :
   g-is : g ≡ game-of (said w os cs) (hash (said w os cs))
   g-is = sym (neat-is-fixed g g-neat) ∙ ap₂ game-of g-means (g-fresh ∙ ap hash g-means)
 
+  -- it is the neat game of the position, with its fresh hash
   pub accepted-gives : (x : Reading) (h : Game) → x ≡ reads (said w os cs) → h ≡ g → Gives x (record { game = h; answer = Accepted })
   accepted-gives x h e f = rw (e, f) (record { says = ap reads g-means; game-is = g-is })
 
@@ -156,8 +164,8 @@ slice-is-part t i j h l =
     ext-getD 0 (slice i j t) (part t i j) (n ∙ sym m)
     (λ k q. slice-at t i j k (omega arith) ∙ sym (getD-take (j - i) (drop i t) k 0 (omega arith) ∙ getD-drop i t k 0))
 
--- refused before its sections are looked at
 module _ (t : List ℕ) (r : Parsed) where
+  -- too long
   pub parses-too-long : 256 < length t → r ≡ refused TooLong 0 0 → Parses t r
   parses-too-long h e = gives-parses t _ r (answer-is-read (too-long h)) (refusal-gives _ r TooLong 0 0 e refl)
 
@@ -165,9 +173,11 @@ module _ (t : List ℕ) (r : Parsed) where
     parses-not-three : (length (sections t) ≡ 3 → ⊥) → r ≡ refused MissingSection 0 (length t) → Parses t r
     parses-not-three m e = gives-parses t _ r (answer-is-read (not-three short m)) (refusal-gives _ r MissingSection 0 (length t) e refl)
 
+    -- no semicolon
     pub parses-one : (i : ℕ) → Finds t 0 semicolon i → i ≡ length t → r ≡ refused MissingSection 0 (length t) → Parses t r
     parses-one i a h = parses-not-three (λ m. omega (arith, ap length (one-section t (λ k p q. a .before k p (omega arith)))))
 
+    -- one alone
     pub parses-two : (i j : ℕ) → Finds t 0 semicolon i → i < length t → Finds t (i + 1) semicolon j → j ≡ length t → r ≡ refused MissingSection 0 (length t) → Parses t r
     parses-two i j a h b k = parses-not-three (λ m. omega (arith, ap length (two-sections t i h (a .before) (a .found h) (λ n p q. b .before n (omega arith) (omega arith)))))
 
@@ -175,6 +185,7 @@ module _ (t : List ℕ) (r : Parsed) where
       ordered : (i < j) × (j < k) × (i < length t)
       ordered = (omega (arith, b .low), omega (arith, d .low), omega (arith, b .low))
 
+      -- a third
       pub parses-four : k < length t → r ≡ refused MissingSection 0 (length t) → Parses t r
       parses-four l = parses-not-three (λ m. omega (arith, more-sections t i j k (ordered .0) (ordered .1) l (a .found (ordered .2)) (b .found h) (d .found l)))
 
@@ -184,6 +195,7 @@ module _ (t : List ℕ) (r : Parsed) where
           (rw (← add-one i) (slice-is-part t (i + 1) j (omega (arith, ordered)) (omega arith)))
           (rw (← add-one j) (sym (take-all (length t - (j + 1)) (drop (j + 1) t) (omega (arith, length-drop (j + 1) t)))))
 
+      -- two: what the three sections give
       pub parses-three : k ≡ length t → Gives (read-side (lone-side (take i t)) (take i t) (part t (i + 1) j) (part t (j + 1) (length t))) r → Parses t r
       unfolding read if_then_else_
       parses-three l = gives-parses t _ r (rw (le-ltb 256 (length t) short, three l))

@@ -17,10 +17,12 @@ use Rattle.text.specs.Writing.{state-byte, cell-byte, overall-byte, text-of}
 use Rattle.text.proofs.Writing.{cells-byte, slash-every-tenth, cell-elsewhere, byte-at, text-at, text-has-101-bytes}
 
 module _ (p : Position) (i : ℕ) where
+  -- the side
   pub at-side : i ≡ 0 → letter (p .turn) ≡ byte-at p i
   unfolding byte-at if_then_else_
   at-side e = rw e
 
+  -- the two semicolons
   pub at-first : i ≡ 1 → semicolon ≡ byte-at p i
   unfolding byte-at if_then_else_
   at-first e = rw e
@@ -34,6 +36,7 @@ module _ (p : Position) (i : ℕ) where
     unfolding byte-at if_then_else_
     by-mark h = rw (ne-eqb i 0 n0, ne-eqb i 1 n1, ne-eqb i 11 (λ e. omega arith), lt-ltb i 11 h)
 
+    -- the board that is due, and another
     pub at-due : (r : Bool) → i < 11 → r ≡ same-due (p .due) (at (i - 2)) → r ≡ true → at-mark ≡ byte-at p i
     unfolding overall-byte if_then_else_
     at-due r h e t = sym (by-mark h ∙ rw (sym e ∙ t))
@@ -47,6 +50,7 @@ module _ (p : Position) (i : ℕ) where
       unfolding byte-at if_then_else_
       by-cell = rw (ne-eqb i 0 n0, ne-eqb i 1 n1, ne-eqb i 11 n11, le-ltb i 11 h)
 
+      -- a `/`, and a cell
       pub at-slash : (i - 12) % 10 ≡ 9 → slash ≡ byte-at p i
       at-slash e = sym (by-cell ∙ slash-every-tenth p (i - 12) e)
 
@@ -54,6 +58,7 @@ module _ (p : Position) (i : ℕ) where
       at-cell s n e = rw e (sym (by-cell ∙ cell-elsewhere p (i - 12) n))
 
 -- ---- an array, written from the front
+-- the first i bytes are those of the text
 pub record Rendered (p : Position) (out : List ℕ) (i : ℕ) : Type 0 where
   pub size : length out ≡ 101
   pub done : (k : ℕ) → k < i → getD out k 0 ≡ byte-at p k

@@ -19,6 +19,7 @@ use Rattle.notation.specs.Parsed.{move-reading-of, move-for, Parses-move
 lettered : (c : ℕ) → coordinate c ≡ true → Lettered c
 lettered c e = let r = and→ (leb 0x61 c) (leb c 0x69) (rw e tt) in record { low = leb→le _ _ (r .0); high = leb→le _ _ (r .1) }
 
+-- what the code answers, with a move
 abbrev answered : MoveTextAnswer → ℕ → ParsedMove
 answered a m = record { answer = a; m = record { bits = m } }
 
@@ -32,10 +33,12 @@ two (b ∷ c ∷ []) n = refl
 two (b ∷ c ∷ d ∷ cs) n = absurd (omega arith)
 
 module _ (t : List ℕ) where
+  -- another length
   pub not-two : (length t ≡ 2 → ⊥) → Parses-move t (answered BadLength 255)
   not-two n = parsed t BadLength 255 (not-two-is-bad-length t n) refl
 
   module _ (n : length t ≡ 2) (ok : Bool) (e : ok ≡ coordinate (getD t 0 0)) where
+    -- the first byte is no letter
     pub first-bad : not ok ≡ true → Parses-move t (answered (BadCharacter (getD t 0 0)) 255)
     unfolding read-letters if_then_else_
     first-bad f = parsed t (BadCharacter (getD t 0 0)) 255 (two t n ∙ rw (sym e ∙ not-true ok f)) refl
@@ -44,6 +47,7 @@ module _ (t : List ℕ) where
     first-lettered f = lettered (getD t 0 0) (sym e ∙ not-false ok f)
 
     module _ (f : not ok ≡ false) (ok' : Bool) (e' : ok' ≡ coordinate (getD t 1 0)) where
+      -- only the second is none
       pub second-bad : not ok' ≡ true → Parses-move t (answered (BadCharacter (getD t 1 0)) 255)
       unfolding read-letters if_then_else_
       second-bad g = parsed t (BadCharacter (getD t 1 0)) 255 (two t n ∙ rw (sym e ∙ not-false ok f, sym e' ∙ not-true ok' g)) refl
@@ -51,6 +55,7 @@ module _ (t : List ℕ) where
       pub second-lettered : not ok' ≡ false → Lettered (getD t 1 0)
       second-lettered g = lettered (getD t 1 0) (sym e' ∙ not-false ok' g)
 
+      -- both are
       pub both-good : (m : ℕ) → not ok' ≡ false → m ≡ (getD t 0 0 - 0x61) * 16 + (getD t 1 0 - 0x61) → Parses-move t (answered Read m)
       unfolding read-letters if_then_else_
       both-good m g q = parsed t Read m (two t n ∙ rw (sym e ∙ not-false ok f, sym e' ∙ not-false ok' g) (ap reads-move (omega arith))) refl

@@ -1,0 +1,17 @@
+-- Nothing is marked, and the cursor has the list of moves.
+use Rattle.minimax.proofs.Walks.{walk-new}
+use borrow.Author.Needs.{needs}
+use Rattle.minimax.proofs.order.Walk.new.Statement.{statement}
+use Rattle.minimax.proofs.order.Walk.new.Tie as tie
+
+all-moves-requires : tie.Need-all-moves-requires
+all-moves-requires c κs = search needs
+
+new-requires : tie.Need-new-requires
+new-requires c κs = search needs
+
+returns : tie.Need-returns
+returns c = walk-new (c .before .before .args .game) (c .before .before .args .first) (c .before .before .args .second) _ _ (c .before .all-moves .ensures) (c .new .ensures)
+
+pub new-spec : {M : Type 1} → statement M
+new-spec = tie.close (tie.spec all-moves-requires new-requires returns)

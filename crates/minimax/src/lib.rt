@@ -1,0 +1,2 @@
+// The deepening search over the ordered search.
+mod order;
