@@ -5,3 +5,4 @@ pub mod Answers
 pub mod Bytes
 pub mod RoundTrip
 pub mod Moves
+pub mod ReadGames
