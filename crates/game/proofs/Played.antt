@@ -7,16 +7,12 @@ use Rattle.rules.specs.Position.{Position, start}
 use Rattle.rules.specs.Play.{reached}
 use Rattle.game.specs.declared.Game.{Game}
 use Rattle.game.specs.Meaning.{position-of}
-use Rattle.game.specs.After.{game-after}
+use Rattle.game.specs.After.{game-after, games-after}
 use Rattle.game.specs.Built.{new-game}
 use Rattle.game.specs.Neat.{neat}
 use Rattle.game.proofs.Meaning.{game-after-means, new-game-means}
 use Rattle.game.proofs.Hash.{Fresh, game-after-hash, new-game-hash}
 use Rattle.game.proofs.Neat.{neat→, game-after-neat, new-game-neat}
-
-unfoldable pub games-after : Game → List ℕ → Game
-games-after g [] = g
-games-after g (m ∷ ms) = games-after (game-after g m) ms
 
 -- ---- from any neat game
 pub played-neat : (g : Game) (ms : List ℕ) → T (neat g) → T (neat (games-after g ms))

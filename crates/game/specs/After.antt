@@ -1,5 +1,6 @@
 -- The game after a move, as a struct: one bit more in one row; the board's and the game's state, next board, side and hash replaced.
 use mathlib.Core.Path.{_≡_}
+use mathlib.Core.List.{List, [], _∷_}
 use Prim.Native.Nat.{ℕ}
 use Rattle.base.specs.Branch.{if_then_else_}
 use Rattle.rules.specs.Position.{Due, free, at}
@@ -34,6 +35,10 @@ after-move g b c =
 -- the game after a tried move: a refused one leaves the very struct
 unfoldable pub game-after : Game → ℕ → Game
 game-after g m = if accepts (position-of g) m then (λ _. after-move g (board-of m) (cell-of m)) else λ _. g
+
+unfoldable pub games-after : Game → List ℕ → Game
+games-after g [] = g
+games-after g (m ∷ ms) = games-after (game-after g m) ms
 
 -- the number of a refusal by the rules, 0 where the move is played
 unfoldable pub refusal : Tried → ℕ

@@ -117,6 +117,10 @@ module _ (g : Game) (left : Order) (seen : Seen) (m : Move) (rest : Order) (e : 
         ∙ an-accepted (ok g) (marked seen) (m .bits) (order-left rest) (marked new) more (sym f ∙ h) a in
         rw l (refl, p .exact, refl)
 
-pub ended : (g : Game) (left : Order) (seen : Seen) (ms : List ℕ) → order-left left ≡ [] → rest-of g left seen ≡ ms → (r : Child) → r .m .bits ≡ no-move → NextIs g ms r
+pub ended : (g : Game) (left : Order) (seen : Seen) (ms : List ℕ) → order-left left ≡ [] → rest-of g left seen ≡ ms → (m : Move) → m .bits ≡ no-move
+    → NextIs g ms (record { m = m; game = g; walk = record { left = left; seen = seen } })
 unfolding unmarked
-ended g left seen ms e s r z = let l : ms ≡ [] = sym s ∙ ap (unmarked (ok g) (marked seen)) e in rw l z
+ended g left seen ms e s m z =
+    let n : rest-of g left seen ≡ [] = ap (unmarked (ok g) (marked seen)) e in
+    let l : ms ≡ [] = sym s ∙ n in
+    rw l (z, refl, n)

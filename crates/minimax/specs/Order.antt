@@ -44,7 +44,7 @@ unmarked ok seen (m ∷ ms) =
 abbrev pub walk-left : Game → Walk → List ℕ
 walk-left g w = unmarked (accepts (position-of g)) (marked (w .seen)) (order-left (w .left))
 
--- the next move and the game after it, with the rest; or the empty move where there is none
+-- the next move and the game after it, with the rest; where there is none the empty move and the game itself, with nothing left
 abbrev pub NextIs : Game → List ℕ → Child → Type 0
-NextIs g [] r = r .m .bits ≡ no-move
+NextIs g [] r = (r .m .bits ≡ no-move) × (r .game ≡ g) × (walk-left g (r .walk) ≡ [])
 NextIs g (m ∷ ms) r = (r .m .bits ≡ m) × (r .game ≡ game-after g m) × (walk-left g (r .walk) ≡ ms)

@@ -1,2 +1,2 @@
-// The deepening search over the ordered search.
+// The search. So far: the order in which a position's moves are searched.
 mod order;

@@ -13,8 +13,8 @@ use Rattle.rules.specs.declared.CellState.{CellState}
 use Rattle.rules.specs.declared.GameState.{GameState}
 use Rattle.rules.specs.Position.{Position, at, same-due}
 use Rattle.text.specs.Bytes.{semicolon, slash, at-mark, letter}
-use Rattle.text.specs.Writing.{state-byte, cell-byte, overall-byte, text-of}
-use Rattle.text.proofs.Writing.{cells-byte, slash-every-tenth, cell-elsewhere, byte-at, text-at, text-has-101-bytes}
+use Rattle.text.specs.Writing.{state-byte, cell-byte, overall-byte, text-of, cells-byte, byte-at}
+use Rattle.text.proofs.Writing.{slash-every-tenth, cell-elsewhere, text-at, text-has-101-bytes}
 
 module _ (p : Position) (i : ℕ) where
   -- the side

@@ -9,12 +9,12 @@ use lib.ListN.{length, getD}
 use borrow.Author.Tests.{not-true, not-false}
 use Rattle.base.specs.Branch.{if_then_else_}
 use Rattle.base.proofs.Bool.{and→}
-use Rattle.text.specs.MoveText.{reads-move, coordinate, read-letters, read-move}
+use Rattle.text.specs.MoveText.{reads-move, coordinate, read-letters, read-move, move-refusal}
 use Rattle.text.proofs.MoveText.{Lettered, not-two-is-bad-length}
 use Rattle.notation.specs.declared.MoveTextAnswer.{MoveTextAnswer}
 use Rattle.notation.specs.declared.MoveTextAnswer.the-variants.{Read, BadLength, BadCharacter}
 use Rattle.notation.specs.declared.ParsedMove.{ParsedMove}
-use Rattle.notation.specs.Parsed.{move-reading-of, move-for, Parses-move}
+use Rattle.notation.specs.Parsed.{move-reading-of, move-for, move-number, Parses-move}
 
 lettered : (c : ℕ) → coordinate c ≡ true → Lettered c
 lettered c e = let r = and→ (leb 0x61 c) (leb c 0x69) (rw e tt) in record { low = leb→le _ _ (r .0); high = leb→le _ _ (r .1) }
@@ -23,8 +23,13 @@ lettered c e = let r = and→ (leb 0x61 c) (leb c 0x69) (rw e tt) in record { lo
 abbrev answered : MoveTextAnswer → ℕ → ParsedMove
 answered a m = record { answer = a; m = record { bits = m } }
 
+same-number : (a : MoveTextAnswer) (m : ℕ) → move-number a ≡ move-refusal (move-reading-of a m)
+same-number Read m = refl
+same-number BadLength m = refl
+same-number (BadCharacter c) m = refl
+
 parsed : (t : List ℕ) (a : MoveTextAnswer) (m : ℕ) → read-move t ≡ move-reading-of a m → m ≡ move-for (move-reading-of a m) → Parses-move t (answered a m)
-parsed t a m e f = record { says = sym e; move-is = f ∙ ap move-for (sym e) }
+parsed t a m e f = record { number = same-number a m ∙ ap move-refusal (sym e); says = sym e; move-is = f ∙ ap move-for (sym e) }
 
 two : (t : List ℕ) → length t ≡ 2 → read-move t ≡ read-letters (getD t 0 0) (getD t 1 0)
 two [] n = absurd (omega arith)

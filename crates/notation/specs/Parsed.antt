@@ -5,7 +5,7 @@ use Prim.Native.Nat.{ℕ}
 use Rattle.rules.specs.Play.{no-move}
 use Rattle.rules.specs.Hash.{hash}
 use Rattle.text.specs.Reading.{Reading, reads, refuses, read}
-use Rattle.text.specs.MoveText.{MoveReading, reads-move, bad-length, bad-character, read-move}
+use Rattle.text.specs.MoveText.{MoveReading, reads-move, bad-length, bad-character, move-refusal, read-move}
 use Rattle.game.specs.declared.Game.{Game}
 use Rattle.game.specs.Meaning.{position-of}
 use Rattle.game.specs.Built.{new-game}
@@ -59,5 +59,6 @@ move-number BadLength = 7
 move-number (BadCharacter c) = 8
 
 pub record Parses-move (text : List ℕ) (r : ParsedMove) : Type 0 where
+  pub number : move-number (r .answer) ≡ move-refusal (read-move text)
   pub says : move-reading-of (r .answer) (r .m .bits) ≡ read-move text
   pub move-is : r .m .bits ≡ move-for (read-move text)

@@ -29,10 +29,10 @@ use Rattle.rules.proofs.Play.{same-position, Legal}
 use Rattle.rules.proofs.Sound.{row, made, after-is-proper, start-is-proper, tried-keeps}
 use Rattle.text.specs.Bytes.{semicolon, at-mark, letter}
 use Rattle.text.specs.Reading.{reads, side-of, overall-mark, cell-mark, sections, first-bad, last-at, fault-at, first-fault, cell-in, state-in, said, read}
-use Rattle.text.specs.Writing.{state-byte, cell-byte, overall-byte, text-of}
+use Rattle.text.specs.Writing.{state-byte, cell-byte, overall-byte, text-of, cells-byte, byte-at}
 use Rattle.text.proofs.Scan.{if-equal, Clear, three-sections, →none-bad, last-at-none, last-at-is, slash-stands, cell-stands, no-fault}
 use Rattle.text.proofs.Reading.{good, answer-is-read, state-in-at, cell-in-at, Filled, said-fills, LeftByOther, read-is-proper, read-fills-the-board, read-looks-at-the-mover}
-use Rattle.text.proofs.Writing.{cells-byte, slash-every-tenth, cell-elsewhere, byte-at, text-has-101-bytes, text-at, marks-of, marks-at, cells-of, cells-have-89-bytes, cells-at}
+use Rattle.text.proofs.Writing.{slash-every-tenth, cell-elsewhere, text-has-101-bytes, text-at, marks-of, marks-at, cells-of, cells-have-89-bytes, cells-at}
 
 -- ---- each byte reads as what it was written for
 side-reads : (w : Player) → side-of (letter w) ≡ some w

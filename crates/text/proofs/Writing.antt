@@ -12,7 +12,7 @@ use Rattle.base.specs.Lists.{from}
 use Rattle.rules.specs.Board.{nine}
 use Rattle.rules.specs.Position.{Position}
 use Rattle.text.specs.Bytes.{semicolon, slash, letter}
-use Rattle.text.specs.Writing.{cell-byte, overall-byte, board-text, joined, text-of}
+use Rattle.text.specs.Writing.{cell-byte, overall-byte, board-text, joined, text-of, cells-byte, byte-at}
 
 -- ---- a list made from a run of numbers
 -- it has as many elements
@@ -26,11 +26,6 @@ run-at f d i zero k h = absurd (omega arith)
 run-at f d i (suc n) zero h = ap f (omega arith)
 run-at f d i (suc n) (suc k) h = run-at f d (suc i) n k (omega arith) ∙ ap f (omega arith)
 
--- ---- the text of a position
--- what stands at place k of the cells' 89: cell k % 10 of board k / 10, and a `/` after nine of them
-unfoldable pub cells-byte : Position → ℕ → ℕ
-cells-byte p k = if eqb (k % 10) 9 then (λ _. slash) else λ _. cell-byte (p .cells (k / 10) (k % 10))
-
 -- each tenth byte is a `/`
 pub slash-every-tenth : (p : Position) (k : ℕ) → k % 10 ≡ 9 → cells-byte p k ≡ slash
 unfolding cells-byte if_then_else_
@@ -40,13 +35,6 @@ slash-every-tenth p k e = rw (eq-eqb (k % 10) 9 e)
 pub cell-elsewhere : (p : Position) (k : ℕ) → (k % 10 ≡ 9 → ⊥) → cells-byte p k ≡ cell-byte (p .cells (k / 10) (k % 10))
 unfolding cells-byte if_then_else_
 cell-elsewhere p k n = rw (ne-eqb (k % 10) 9 n)
-
--- what stands at place i of the 101: side, `;`, nine overall marks, `;`, cells
-unfoldable pub byte-at : Position → ℕ → ℕ
-byte-at p i =
-    if eqb i 0 then (λ _. letter (p .turn)) else
-    λ _. if eqb i 1 || eqb i 11 then (λ _. semicolon) else
-    λ _. if ltb i 11 then (λ _. overall-byte p (i - 2)) else λ _. cells-byte p (i - 12)
 
 -- the text is those bytes
 pub text-is-bytes : (p : Position) → text-of p ≡ map (byte-at p) (from 0 101)

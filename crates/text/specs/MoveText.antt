@@ -14,6 +14,12 @@ pub data MoveReading : Type 0 where
   -- 8, with the byte that is not `a` to `i`, the first one first
   bad-character : ℕ → MoveReading
 
+-- document 01's numbers, 0 where nothing is refused
+abbrev pub move-refusal : MoveReading → ℕ
+move-refusal (reads-move m) = 0
+move-refusal bad-length = 7
+move-refusal (bad-character c) = 8
+
 abbrev pub coordinate : ℕ → Bool
 coordinate c = leb first-letter c && leb c (first-letter + 8)
 

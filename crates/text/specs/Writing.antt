@@ -1,7 +1,8 @@
 -- A position as a text of 101 bytes.
+use mathlib.Core.Bool.{_||_}
 use mathlib.Core.List.{List, [], _∷_, _++_, map}
-use Prim.Native.Nat.{ℕ}
-use lib.Dec.{eqb}
+use Prim.Native.Nat.{ℕ, _-_, _/_, _%_}
+use lib.Dec.{eqb, ltb}
 use Rattle.rules.specs.declared.Player.{Player}
 use Rattle.rules.specs.declared.CellState.{CellState}
 use Rattle.rules.specs.declared.CellState.the-variants.{Empty, Played}
@@ -36,3 +37,16 @@ joined c f (b ∷ d ∷ bs) = f b ++ (c ∷ joined c f (d ∷ bs))
 
 unfoldable pub text-of : Position → List ℕ
 text-of p = letter (p .turn) ∷ semicolon ∷ (map (overall-byte p) nine ++ (semicolon ∷ joined slash (board-text p) nine))
+
+-- ---- the same, byte by byte
+-- ---- the text of a position
+-- what stands at place k of the cells' 89: cell k % 10 of board k / 10, and a `/` after nine of them
+unfoldable pub cells-byte : Position → ℕ → ℕ
+cells-byte p k = if eqb (k % 10) 9 then (λ _. slash) else λ _. cell-byte (p .cells (k / 10) (k % 10))
+
+-- what stands at place i of the 101: side, `;`, nine overall marks, `;`, cells
+unfoldable pub byte-at : Position → ℕ → ℕ
+byte-at p i =
+    if eqb i 0 then (λ _. letter (p .turn)) else
+    λ _. if eqb i 1 || eqb i 11 then (λ _. semicolon) else
+    λ _. if ltb i 11 then (λ _. overall-byte p (i - 2)) else λ _. cells-byte p (i - 12)
