@@ -8,5 +8,6 @@ pub mod Deepening
 pub mod Places
 pub mod Allowance
 pub mod Alike
+pub mod Arms
 pub mod Nim
 pub mod TableFacts
