@@ -9,5 +9,6 @@ pub mod Places
 pub mod Allowance
 pub mod Alike
 pub mod Arms
+pub mod Growth
 pub mod Nim
 pub mod TableFacts
