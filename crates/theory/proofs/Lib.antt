@@ -10,5 +10,6 @@ pub mod Allowance
 pub mod Alike
 pub mod Arms
 pub mod Growth
+pub mod Range
 pub mod Nim
 pub mod TableFacts
