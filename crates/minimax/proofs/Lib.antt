@@ -2,3 +2,9 @@ pub mod Marks
 pub mod Cursors
 pub mod Orders
 pub mod Walks
+pub mod Scores
+pub mod States
+pub mod Lines
+pub mod Entries
+pub mod Outcomes
+pub mod Entering

@@ -35,7 +35,7 @@ is-some m b e h = some-some m (not-true (eqb m no-move) (sym e ∙ h))
 is-none : (m : ℕ) (b : Bool) → b ≡ not (eqb m no-move) → b ≡ false → some-move m ≡ []
 is-none m b e h = some-none m (not-false (eqb m no-move) (sym e ∙ h))
 
-emptied : (m : ℕ) → m ≡ no-move → some-move m ≡ []
+pub emptied : (m : ℕ) → m ≡ no-move → some-move m ≡ []
 emptied m e = some-none m (eq-eqb m no-move e)
 
 -- ---- the next move

@@ -1,2 +1,3 @@
-// The search. So far: the order in which a position's moves are searched.
+// The search. So far: the order in which a position's moves are searched, and the ordered search of one depth.
 mod order;
+mod search;

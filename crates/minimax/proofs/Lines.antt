@@ -1,0 +1,61 @@
+-- A line's places: the first one read and set, and a move put before the line below.
+use mathlib.Core.Path.{_≡_, refl, sym, ap, _∙_}
+use mathlib.Core.List.{List, [], _∷_, _++_}
+use Prim.Native.Nat.{ℕ, zero, suc, _+_, _-_, _≤_, _<_}
+use native.Mathlib.Omega.{arith}
+use native.Mathlib.Numerals.{unary-clauses}
+use lib.ListN.{length, getD, set, take, drop, replicate}
+use Rattle.rules.specs.Play.{no-move}
+use Rattle.theory.specs.OrderedSearch.{set-first}
+use Rattle.boards.specs.declared.moves.Move.{Move}
+use Rattle.minimax.specs.declared.search.Line.{Line}
+use Rattle.minimax.specs.State.{byte-of, bytes-of, line-of}
+
+-- ---- the first place
+pub first-place : (l : List Move) (x : Move) → 0 < length l → (d : ℕ) → 0 < d → byte-of (getD l 0 x) ≡ getD (take d (bytes-of l)) 0 no-move
+first-place [] x h d k = absurd (omega arith)
+first-place (y ∷ l) x h zero k = absurd (omega arith)
+first-place (y ∷ l) x h (suc d) k = refl
+
+pub set-first-place : (l : List Move) (m : Move) (d : ℕ) → take d (bytes-of (set l 0 m)) ≡ set-first (m .bits) (take d (bytes-of l))
+unfolding set-first
+set-first-place [] m zero = refl
+set-first-place [] m (suc d) = refl
+set-first-place (y ∷ l) m zero = refl
+set-first-place (y ∷ l) m (suc d) = refl
+
+pub set-first-drop : (l : List Move) (m : Move) (d : ℕ) → 0 < d → drop d (set l 0 m) ≡ drop d l
+set-first-drop l m zero h = absurd (omega arith)
+set-first-drop [] m (suc d) h = refl
+set-first-drop (y ∷ l) m (suc d) h = refl
+
+-- ---- a line's first place, i places of the line below, and the rest
+abbrev pub placed : List Move → List Move → ℕ → List Move
+placed [] below i = []
+placed (x ∷ line) below i = x ∷ (take i below ++ drop i line)
+
+place-next : (i : ℕ) (line below : List Move) (d : Move) → i < length line → i < length below → set (take i below ++ drop i line) i (getD below i d) ≡ take (suc i) below ++ drop (suc i) line
+place-next i [] below d h k = absurd (omega arith)
+place-next i (x ∷ line) [] d h k = absurd (omega arith)
+place-next zero (x ∷ line) (y ∷ below) d h k = refl
+place-next (suc i) (x ∷ line) (y ∷ below) d h k = ap (_∷_ y) (place-next i line below d (omega arith) (omega arith))
+
+pub placed-none : (line below : List Move) → line ≡ placed line below 0
+placed-none [] below = refl
+placed-none (x ∷ line) below = refl
+
+-- one place more
+pub placed-more : (old below now : List Move) (m : Move) (i : ℕ) (d : Move) → now ≡ placed (set old 0 m) below i → suc i < length old → i < length below → set now (i + 1) (getD below i d) ≡ placed (set old 0 m) below (i + 1)
+placed-more [] below now m i d e h k = absurd (omega arith)
+placed-more (x ∷ old) below now m i d e h k = rw e (simp unary-clauses (ap (_∷_ m) (place-next i old below d (omega arith) k)))
+
+-- all of the depth
+pub placed-all : (old below now : List Move) (m : Move) (d n : ℕ) → d ≡ suc n → 0 < length old → now ≡ placed (set old 0 m) below n → now ≡ m ∷ (take (d - 1) below ++ drop d old)
+placed-all [] below now m d n e h p = absurd (omega arith)
+placed-all (x ∷ old) below now m d n e h p = p ∙ rw e (simp unary-clauses refl)
+
+-- ---- the empty line
+pub empty-places : (n k : ℕ) → n ≤ k → replicate n no-move ≡ take n (bytes-of (replicate k (record { bits = no-move })))
+empty-places zero k h = refl
+empty-places (suc n) zero h = absurd (omega arith)
+empty-places (suc n) (suc k) h = ap (_∷_ no-move) (empty-places n k (omega arith))

@@ -1,0 +1,83 @@
+-- A search's struct beside the outcome that it means, and the table told of it.
+use mathlib.Core.Path.{_≡_, refl, sym, ap, ap₂, _∙_}
+use mathlib.Core.Bool.{Bool, true, false}
+use mathlib.Core.List.{List, [], _∷_, _++_}
+use Prim.Native.Nat.{ℕ}
+use lib.Dec.{eqb}
+use lib.IntN.{ℤ}
+use lib.ListN.{getD}
+use Rattle.base.specs.Branch.{if_then_else_}
+use Rattle.rules.specs.Board.{other}
+use Rattle.rules.specs.Play.{accepts, no-move}
+use Rattle.rules.specs.Moves.{moves}
+use Rattle.theory.specs.Table.{Entry as Meant, store, bound-of}
+use Rattle.theory.specs.Memory.{Memory, some-move, hints, answers-to}
+use Rattle.theory.specs.OrderedSearch.{Outcome, stopped, found, unless-stopped, told, fresh, candidates}
+use Rattle.boards.specs.declared.moves.Move.{Move}
+use Rattle.game.specs.Meaning.{position-of}
+use Rattle.table.specs.declared.Entry.{Entry}
+use Rattle.table.specs.Entries.{bound-number, entry-means}
+use Rattle.minimax.specs.declared.search.Search.{Search}
+use Rattle.minimax.specs.declared.search.Line.{Line}
+use Rattle.minimax.specs.declared.search.Ask.{Ask}
+use Rattle.minimax.specs.declared.search.Found.{Found}
+use Rattle.minimax.specs.State.{memory-of, line-of, asked-game, outcome-of, then-told}
+
+module _ (a : Ask) (r : Found) (words : List ℕ) where
+  pub outcome-stopped : r .stopped ≡ true → outcome-of a r words ≡ stopped (memory-of (r .state) words)
+  unfolding outcome-of if_then_else_
+  outcome-stopped e = rw e
+
+  pub outcome-found : r .stopped ≡ false → outcome-of a r words ≡ found (r .score) (line-of (r .line) (a .depth)) (memory-of (r .state) words)
+  unfolding outcome-of if_then_else_
+  outcome-found e = rw e
+
+  -- ---- the table, told
+  pub told-nothing : r .stopped ≡ true → outcome-of a r words ≡ then-told a (outcome-of a r words)
+  unfolding then-told unless-stopped
+  told-nothing e = outcome-stopped e ∙ sym (ap (then-told a) (outcome-stopped e))
+
+pub told-found : (a : Ask) (r : Found) (words words' : List ℕ) (key : ℕ) (e : Entry) → r .stopped ≡ false → key ≡ asked-game a .key (a .game) → words' ≡ store words key (entry-means e)
+    → e .value ≡ r .score → e .depth ≡ a .depth → bound-number (e .bound) ≡ bound-of (a .alpha) (a .beta) (r .score) → e .pv .bits ≡ getD (line-of (r .line) (a .depth)) 0 no-move
+    → outcome-of a r words' ≡ then-told a (outcome-of a r words)
+unfolding then-told unless-stopped told
+told-found a r words words' key e s k w v d b m =
+    outcome-found a r words' s
+    ∙ ap (λ (ws : List ℕ). found (r .score) (line-of (r .line) (a .depth)) (memory-of (r .state) ws))
+    (w ∙ ap₂ (λ (h : ℕ) (x : Meant). store words h x) k (λ i. record { value = v i; depth = d i; bound = b i; move = m i }))
+    ∙ sym (ap (then-told a) (outcome-found a r words s))
+
+-- ---- the moves in their order
+hint-by : (x : Bool) (answer line : Move) → some-move ((if x then (λ _. line) else λ _. answer) .bits) ≡ (if x then (λ _. some-move (line .bits)) else λ _. some-move (answer .bits))
+unfolding if_then_else_
+hint-by true answer line = refl
+hint-by false answer line = refl
+
+twice : (x : Bool) (n : ℕ) (ms : List ℕ) → (if x then (λ _. ms) else λ _. if x then (λ _. []) else λ _. n ∷ []) ≡ (if x then (λ _. ms) else λ _. n ∷ [])
+unfolding if_then_else_
+twice true n ms = refl
+twice false n ms = refl
+
+some-by : (n : ℕ) (ms : List ℕ) → (if eqb n no-move then (λ _. ms) else λ _. some-move n) ≡ (if eqb n no-move then (λ _. ms) else λ _. n ∷ [])
+unfolding some-move
+some-by n ms = twice (eqb n no-move) n ms
+
+module _ (a : Ask) (s : Search) (words : List ℕ) (l : Line) (answer line second : Move) where
+  hinted : second ≡ (if eqb (answer .bits) no-move then (λ _. line) else λ _. answer)
+      → answer .bits ≡ getD (answers-to (memory-of s words) (other (a .game .«next_player»))) (a .prev .bits) no-move
+      → line .bits ≡ getD (line-of l (a .depth)) 0 no-move
+      → some-move (second .bits) ≡ hints (a .game .«next_player») (memory-of s words) (a .prev .bits) (line-of l (a .depth))
+  unfolding hints
+  hinted e f g =
+      ap (λ (m : Move). some-move (m .bits)) e ∙ hint-by (eqb (answer .bits) no-move) answer line ∙ some-by (answer .bits) (some-move (line .bits))
+      ∙ ap₂ (λ (x y : ℕ). if eqb x no-move then (λ _. some-move y) else λ _. x ∷ []) f g
+
+  -- what a walk has left at first are the candidates
+  pub walk-candidates : (first : Move) (left : List ℕ) → left ≡ fresh (accepts (position-of (a .game))) [] (some-move (first .bits) ++ (some-move (second .bits) ++ moves (position-of (a .game))))
+      → second ≡ (if eqb (answer .bits) no-move then (λ _. line) else λ _. answer)
+      → answer .bits ≡ getD (answers-to (memory-of s words) (other (a .game .«next_player»))) (a .prev .bits) no-move
+      → line .bits ≡ getD (line-of l (a .depth)) 0 no-move
+      → left ≡ candidates (asked-game a) (some-move (first .bits)) (memory-of s words) (a .game) (a .prev .bits) (line-of l (a .depth))
+  unfolding candidates
+  walk-candidates first left n e f g =
+      n ∙ ap (λ (hs : List ℕ). fresh (accepts (position-of (a .game))) [] (some-move (first .bits) ++ (hs ++ moves (position-of (a .game))))) (hinted e f g)

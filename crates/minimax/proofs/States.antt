@@ -1,0 +1,83 @@
+-- The steps on the search's state are those on the memory that it means.
+use mathlib.Core.Path.{_≡_, refl, sym, ap, _∙_}
+use mathlib.Core.List.{List, [], _∷_, map}
+use Prim.Native.Nat.{ℕ, zero, suc, _+_, _<_}
+use native.Mathlib.Omega.{arith}
+use native.Mathlib.Numerals.{unary-clauses}
+use lib.ListN.{length, getD, set}
+use lib.Dec.{eqb}
+use mathlib.Core.Bool.{true, false}
+use Rattle.base.specs.Branch.{if_then_else_}
+use Rattle.rules.specs.declared.Player.{Player}
+use Rattle.rules.specs.declared.Player.the-variants.{X, O}
+use Rattle.rules.specs.Board.{other}
+use Rattle.rules.specs.Play.{no-move}
+use Rattle.theory.specs.Memory.{Memory, enter, leaf, hit, answered, answers-to, cut}
+use Rattle.boards.specs.declared.moves.Move.{Move}
+use Rattle.minimax.specs.declared.search.Search.{Search}
+use Rattle.minimax.specs.State.{byte-of, bytes-of, memory-of}
+
+-- the state with other counts
+abbrev with-counts : Search → ℕ → ℕ → ℕ → ℕ → ℕ → ℕ → Search
+with-counts s count visited terminal cuts hits suffice = record {
+  «answers_x» = s .«answers_x»;
+  «answers_o» = s .«answers_o»;
+  count = count;
+  visited = visited;
+  terminal = terminal;
+  cuts = cuts;
+  «tt_hit» = hits;
+  «tt_suffice» = suffice;
+}
+
+module _ (s : Search) (words : List ℕ) where
+  pub entered : memory-of (with-counts s (s .count + 1) (s .visited + 1) (s .terminal) (s .cuts) (s .«tt_hit») (s .«tt_suffice»)) words ≡ enter (memory-of s words)
+  unfolding enter
+  entered = simp unary-clauses refl
+
+  pub leaf-reached : memory-of (with-counts s (s .count) (s .visited) (s .terminal + 1) (s .cuts) (s .«tt_hit») (s .«tt_suffice»)) words ≡ leaf (memory-of s words)
+  unfolding leaf
+  leaf-reached = simp unary-clauses refl
+
+  pub was-hit : memory-of (with-counts s (s .count) (s .visited) (s .terminal) (s .cuts) (s .«tt_hit» + 1) (s .«tt_suffice»)) words ≡ hit (memory-of s words)
+  unfolding hit
+  was-hit = simp unary-clauses refl
+
+  pub sufficed : memory-of (with-counts s (s .count) (s .visited) (s .terminal) (s .cuts) (s .«tt_hit») (s .«tt_suffice» + 1)) words ≡ answered (memory-of s words)
+  unfolding answered
+  sufficed = simp unary-clauses refl
+
+-- ---- moves as bytes
+pub getD-bytes : (l : List Move) (i : ℕ) (d : Move) (n : ℕ) → i < length l → byte-of (getD l i d) ≡ getD (bytes-of l) i n
+getD-bytes [] i d n h = absurd (omega arith)
+getD-bytes (x ∷ l) zero d n h = refl
+getD-bytes (x ∷ l) (suc i) d n h = getD-bytes l i d n (omega arith)
+
+set-bytes : (l : List Move) (i : ℕ) (m : Move) → bytes-of (set l i m) ≡ set (bytes-of l) i (m .bits)
+set-bytes [] i m = refl
+set-bytes (x ∷ l) zero m = refl
+set-bytes (x ∷ l) (suc i) m = ap (_∷_ (x .bits)) (set-bytes l i m)
+
+-- ---- remembered answers
+module _ (s : Search) (words : List ℕ) (prev : Move) where
+  pub answer-by : (l : List Move) (w : Player) → answers-to (memory-of s words) (other w) ≡ bytes-of l → prev .bits < length l → (d : Move) → byte-of (getD l (prev .bits) d) ≡ getD (answers-to (memory-of s words) (other w)) (prev .bits) no-move
+  answer-by l w e h d = getD-bytes l (prev .bits) d no-move h ∙ ap (λ (bs : List ℕ). getD bs (prev .bits) no-move) (sym e)
+
+module _ (s : Search) (words : List ℕ) (prev m : Move) where
+  pub cut-x : (w : Player) → w ≡ X → memory-of (record { «answers_x» = s .«answers_x»; «answers_o» = set (s .«answers_o») (prev .bits) m; count = s .count; visited = s .visited; terminal = s .terminal; cuts = s .cuts + 1; «tt_hit» = s .«tt_hit»; «tt_suffice» = s .«tt_suffice» }) words ≡ cut w (memory-of s words) (prev .bits) (m .bits)
+  unfolding cut
+  cut-x w e = rw (e, set-bytes) (simp unary-clauses refl)
+
+  pub cut-o : (w : Player) → w ≡ O → memory-of (record { «answers_x» = set (s .«answers_x») (prev .bits) m; «answers_o» = s .«answers_o»; count = s .count; visited = s .visited; terminal = s .terminal; cuts = s .cuts + 1; «tt_hit» = s .«tt_hit»; «tt_suffice» = s .«tt_suffice» }) words ≡ cut w (memory-of s words) (prev .bits) (m .bits)
+  unfolding cut
+  cut-o w e = rw (e, set-bytes) (simp unary-clauses refl)
+
+-- ---- the remembered answer, or lacking one the line's move
+module _ (answer line : Move) where
+  pub hint-line : eqb (answer .bits) no-move ≡ true → line ≡ (if eqb (answer .bits) no-move then (λ _. line) else λ _. answer)
+  unfolding if_then_else_
+  hint-line e = rw e
+
+  pub hint-answer : eqb (answer .bits) no-move ≡ false → answer ≡ (if eqb (answer .bits) no-move then (λ _. line) else λ _. answer)
+  unfolding if_then_else_
+  hint-answer e = rw e

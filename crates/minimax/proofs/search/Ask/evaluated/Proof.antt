@@ -1,0 +1,18 @@
+-- The evaluation is read back.
+use mathlib.Core.Path.{_≡_, ap}
+use lib.IntN.{ℤ}
+use mathlib.Core.Bool.{false}
+use Rattle.evaluation.proofs.Signed.{result}
+use Rattle.minimax.specs.declared.search.Found.{Found}
+use borrow.Author.Needs.{needs}
+use Rattle.minimax.proofs.search.Ask.evaluated.Statement.{statement}
+use Rattle.minimax.proofs.search.Ask.evaluated.Tie as tie
+
+evaluate-requires : tie.Need-evaluate-requires
+evaluate-requires c κs = search needs
+
+returns : tie.Need-returns
+returns c = ap (λ (z : ℤ). record { state = c .before .before .args .state; line = c .before .before .args .line; score = z; stopped = false }) (result (c .evaluate .ok) (c .evaluate .ensures))
+
+pub evaluated-spec : {M : Type 1} → statement M
+evaluated-spec = tie.close (tie.spec evaluate-requires returns)
