@@ -8,3 +8,4 @@ pub mod Lines
 pub mod Entries
 pub mod Outcomes
 pub mod Entering
+pub mod Turns

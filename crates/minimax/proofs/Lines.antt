@@ -49,10 +49,23 @@ pub placed-more : (old below now : List Move) (m : Move) (i : ℕ) (d : Move) �
 placed-more [] below now m i d e h k = absurd (omega arith)
 placed-more (x ∷ old) below now m i d e h k = rw e (simp unary-clauses (ap (_∷_ m) (place-next i old below d (omega arith) k)))
 
--- all of the depth
-pub placed-all : (old below now : List Move) (m : Move) (d n : ℕ) → d ≡ suc n → 0 < length old → now ≡ placed (set old 0 m) below n → now ≡ m ∷ (take (d - 1) below ++ drop d old)
-placed-all [] below now m d n e h p = absurd (omega arith)
-placed-all (x ∷ old) below now m d n e h p = p ∙ rw e (simp unary-clauses refl)
+-- the first n places are those of the line below, the others as they were
+take-placed : (n : ℕ) (low rest : List Move) → n ≤ length low → take n (bytes-of (take n low ++ rest)) ≡ take n (bytes-of low)
+take-placed zero low rest h = refl
+take-placed (suc n) [] rest h = absurd (omega arith)
+take-placed (suc n) (x ∷ low) rest h = ap (_∷_ (x .bits)) (take-placed n low rest (omega arith))
+
+drop-placed : (n : ℕ) (low rest : List Move) → n ≤ length low → drop n (take n low ++ rest) ≡ rest
+drop-placed zero low rest h = refl
+drop-placed (suc n) [] rest h = absurd (omega arith)
+drop-placed (suc n) (x ∷ low) rest h = drop-placed n low rest (omega arith)
+
+pub placed-all : (old below now : List Move) (m : Move) (d n : ℕ) → d ≡ suc n → 0 < length old → n ≤ length below → now ≡ placed (set old 0 m) below n
+    → (take d (bytes-of now) ≡ m .bits ∷ take (d - 1) (bytes-of below)) × (drop d now ≡ drop d old)
+placed-all [] below now m d n e h k p = absurd (omega arith)
+placed-all (x ∷ old) below now m d n e h k p =
+    let q : d - 1 ≡ n = omega arith in
+    rw (p, q, e) (ap (_∷_ (m .bits)) (take-placed n below (drop n old) k), drop-placed n below (drop n old) k)
 
 -- ---- the empty line
 pub empty-places : (n k : ℕ) → n ≤ k → replicate n no-move ≡ take n (bytes-of (replicate k (record { bits = no-move })))

@@ -4,11 +4,11 @@
 // call each other, lines have 81 places, and an allowance counts the positions entered.
 ghost use mathlib.Core.Path.{_≡_};
 ghost use mathlib.Core.Bool.{true, false, not, _||_};
-ghost use mathlib.Core.List.{List, _∷_, _++_};
+ghost use mathlib.Core.List.{List, _∷_};
 ghost use Prim.Native.Nat.{ℕ, _-_, _<_, _≤_};
 ghost use lib.Dec.{eqb};
 ghost use lib.IntN.{pos, negℤ};
-ghost use lib.ListN.{getD, take, drop, set};
+ghost use lib.ListN.{getD, drop, set};
 ghost use lib.Signed.{leZ, ltZ};
 ghost use Rattle.base.specs.Branch.{if_then_else_};
 ghost use Rattle.rules.specs.Board.{other};
@@ -107,7 +107,7 @@ impl Line {
     // A move and the line below it, in so many places; the others stay.
     fn with_line(self, m: Move, below: Line, depth: u8) -> Line
         requires { ⌜ (0 < depth) × (depth ≤ 81) ⌝ }
-        ensures { λ r. ⌜ r ≡ record { moves = m ∷ (take (depth - 1) (below .moves) ++ drop depth (self .moves)) } ⌝ }
+        ensures { λ r. ⌜ (line-of r depth ≡ m .bits ∷ line-of below (depth - 1)) × (drop depth (r .moves) ≡ drop depth (self .moves)) ⌝ }
     {
         let mut line = self;
         line.moves[0] = m;
@@ -272,7 +272,7 @@ impl Best {
     // It becomes that edge, and the line is its move and the line below.
     fn raise(self, m: Move, r: Found, depth: u8) -> Best
         requires { ⌜ Within (r .score) × (0 < depth) × (depth ≤ 81) ⌝ }
-        ensures { λ b. ⌜ b ≡ record { line = record { moves = m ∷ (take (depth - 1) (r .line .moves) ++ drop depth (self .line .moves)) }; score = negℤ (r .score) } ⌝ }
+        ensures { λ b. ⌜ (b .score ≡ negℤ (r .score)) × (line-of (b .line) depth ≡ m .bits ∷ line-of (r .line) (depth - 1)) × (drop depth (b .line .moves) ≡ drop depth (self .line .moves)) ⌝ }
     {
         let below = r.line;
         let old = self.line;

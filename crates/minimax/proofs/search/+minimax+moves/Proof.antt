@@ -1,4 +1,11 @@
-use Prim.Native.Nat.{ℕ, _<_}
+-- The two functions together: a position is entered, answered or searched over its moves, and each turn over the moves is one of the definition's.
+use mathlib.Core.Path.{refl, _∙_}
+use Prim.Native.Nat.{ℕ, _+_, _*_, _<_}
+use native.Mathlib.Omega.{arith}
+use lib.ListN.{length}
+use denote.Ref.{now}
+use Rattle.minimax.specs.Order.{walk-left}
+use Rattle.minimax.proofs.Turns.{Turn, walk-shorter, turn-first, whole-is, turn-done, under-asked, under-counted, under-lower, turn-stopped, score-within, cut-room, turn-not, turn-better, turn-cut, entered-moves}
 use borrow.Fn.Kinds.{In}
 use borrow.Fn.PlainCycle.{Measures, is, falls, and}
 use Rattle.minimax.proofs.search.minimax.Reads as minimax
@@ -24,10 +31,10 @@ use Rattle.minimax.proofs.search.+minimax+moves.{statement}
 use Rattle.minimax.proofs.search.+minimax+moves.Tie.{close}
 
 abbrev μ-minimax : Measures 1 minimax-kinds.ps ℕ
-μ-minimax κs a = ?
+μ-minimax κs a = 2 * a .0 .depth + 1
 
 abbrev μ-moves : Measures 1 moves-kinds.ps ℕ
-μ-moves κs a = ?
+μ-moves κs a = 2 * a .0 .depth
 
 abbrev minimax-at : ℕ → In 1 minimax-kinds.ps
 minimax-at t = and 1 minimax-kinds.ps (is 1 minimax-kinds.ps μ-minimax t) minimax.Pre
@@ -41,794 +48,116 @@ moves-at t = and 1 moves-kinds.ps (is 1 moves-kinds.ps μ-moves t) moves.Pre
 abbrev moves-below : ℕ → In 1 moves-kinds.ps
 moves-below t = and 1 moves-kinds.ps (falls 1 moves-kinds.ps _<_ μ-moves t) moves.Pre
 
--- src/search.rt:453:9
-minimax-enter-requires : (t : ℕ) → minimax-lts.Need-enter-requires (
-  enter-reads.Asked,
-  enter-reads.Learnt,
-  moves-below t,
-  moves.Post,
-  leave-reads.Asked,
-  leave-reads.Learnt,
-) (minimax-at t) minimax.Post
-minimax-enter-requires t c κs = ?
+abbrev minimax-env : ℕ → minimax-lts.Claims
+minimax-env t = (enter-reads.Asked, enter-reads.Learnt, moves-below t, moves.Post, leave-reads.Asked, leave-reads.Learnt)
 
--- src/search.rt:456:9
-minimax-same-length : (t : ℕ) → minimax-lts.Need-same-length (
-  enter-reads.Asked,
-  enter-reads.Learnt,
-  moves-below t,
-  moves.Post,
-  leave-reads.Asked,
-  leave-reads.Learnt,
-) (minimax-at t) minimax.Post
-minimax-same-length t c = ?
+abbrev moves-env : ℕ → moves-lts.Claims
+moves-env t = (walk-reads.Asked, walk-reads.Learnt, best-reads.Asked, best-reads.Learnt, empty-reads.Asked, empty-reads.Learnt, next-reads.Asked, next-reads.Learnt, is-none-reads.Asked, is-none-reads.Learnt, of-reads.Asked, of-reads.Learnt, below-reads.Asked, below-reads.Learnt, minimax-below t, minimax.Post, is-below-reads.Asked, is-below-reads.Learnt, raise-reads.Asked, raise-reads.Learnt, is-cut-reads.Asked, is-cut-reads.Learnt, cut-reads.Asked, cut-reads.Learnt)
 
--- src/search.rt:456:9
-minimax-returns : (t : ℕ) → minimax-lts.Need-returns (
-  enter-reads.Asked,
-  enter-reads.Learnt,
-  moves-below t,
-  moves.Post,
-  leave-reads.Asked,
-  leave-reads.Learnt,
-) (minimax-at t) minimax.Post
-minimax-returns t c = ?
+minimax-enter-requires : (t : ℕ) → minimax-lts.Need-enter-requires (minimax-env t) (minimax-at t) minimax.Post
+minimax-enter-requires t c κs = c .before .before .pre .1
 
--- src/search.rt:461:9
-minimax-moves-requires : (t : ℕ) → minimax-lts.Need-moves-requires (
-  enter-reads.Asked,
-  enter-reads.Learnt,
-  moves-below t,
-  moves.Post,
-  leave-reads.Asked,
-  leave-reads.Learnt,
-) (minimax-at t) minimax.Post
-minimax-moves-requires t c κs = ?
+minimax-same-length : (t : ℕ) → minimax-lts.Need-same-length (minimax-env t) (minimax-at t) minimax.Post
+minimax-same-length t c = refl
 
--- src/search.rt:462:5
-minimax-leave-requires : (t : ℕ) → minimax-lts.Need-leave-requires (
-  enter-reads.Asked,
-  enter-reads.Learnt,
-  moves-below t,
-  moves.Post,
-  leave-reads.Asked,
-  leave-reads.Learnt,
-) (minimax-at t) minimax.Post
-minimax-leave-requires t c κs = ?
+minimax-returns : (t : ℕ) → minimax-lts.Need-returns (minimax-env t) (minimax-at t) minimax.Post
+minimax-returns t c = c .before .before .enter .ensures .at-once (c .if1 .taken)
 
--- src/search.rt:449:1
-minimax-same-length-2 : (t : ℕ) → minimax-lts.Need-same-length-2 (
-  enter-reads.Asked,
-  enter-reads.Learnt,
-  moves-below t,
-  moves.Post,
-  leave-reads.Asked,
-  leave-reads.Learnt,
-) (minimax-at t) minimax.Post
-minimax-same-length-2 t c = ?
+minimax-moves-requires : (t : ℕ) → minimax-lts.Need-moves-requires (minimax-env t) (minimax-at t) minimax.Post
+minimax-moves-requires t c κs = (omega (arith, c .before .before .before .before .before .before .before .before .before .pre .0), (c .before .before .before .before .before .before .before .before .before .pre .1 .0, c .before .before .before .before .before .before .enter .ensures .ready (c .before .before .before .before .if1 .left)))
 
--- src/search.rt:449:1
-minimax-returns-2 : (t : ℕ) → minimax-lts.Need-returns-2 (
-  enter-reads.Asked,
-  enter-reads.Learnt,
-  moves-below t,
-  moves.Post,
-  leave-reads.Asked,
-  leave-reads.Learnt,
-) (minimax-at t) minimax.Post
-minimax-returns-2 t c = ?
+minimax-leave-requires : (t : ℕ) → minimax-lts.Need-leave-requires (minimax-env t) (minimax-at t) minimax.Post
+minimax-leave-requires t c κs = (c .before .before .before .before .before .before .before .before .before .before .enter .ensures .ready (c .before .before .before .before .before .before .before .before .if1 .left) .deep, c .before .before .before .before .before .before .before .before .before .before .before .before .before .pre .1 .0 .deep)
+
+minimax-same-length-2 : (t : ℕ) → minimax-lts.Need-same-length-2 (minimax-env t) (minimax-at t) minimax.Post
+minimax-same-length-2 t c = c .before .before .leave .kept .1 .1 .0 ∙ c .before .before .before .before .before .before .moves .kept .1 .1 .1 .1 .0
+
+minimax-returns-2 : (t : ℕ) → minimax-lts.Need-returns-2 (minimax-env t) (minimax-at t) minimax.Post
+minimax-returns-2 t c = entered-moves (c .before .before .before .before .before .before .before .before .before .before .before .before .before .before .before .before .args .a) (c .before .before .before .before .before .before .before .before .before .before .before .before .before .before .before .before .args .state) (c .before .before .before .before .before .before .before .before .before .before .before .before .before .before .before .before .args .line) (now (c .before .before .before .before .before .before .before .before .before .before .before .before .before .before .before .before .args .words)) (c .before .before .before .before .before .before .before .before .before .before .before .before .before .enter .result) (c .before .before .before .before .before .before .before .before .before .before .before .before .before .enter .ensures) (c .before .before .before .before .before .before .before .before .before .before .before .if1 .left) (c .before .before .before .before .before .before .moves .result) _ _ (c .before .before .before .before .before .before .moves .ensures) (c .before .before .leave .ensures)
 
 abbrev moves-Inv-loop : moves-lts.InvT-loop
-moves-Inv-loop a words₀ game walk₀ s₀ best₀ local₀ words walk s best local = ?
+moves-Inv-loop a words₀ game walk₀ s₀ best₀ local₀ words walk s best local = Turn a words₀ walk₀ s₀ best₀ local₀ words walk s best local
 
 abbrev moves-μ-loop : moves-lts.MeasureT-loop
-moves-μ-loop a words₀ game walk₀ s₀ best₀ local₀ words walk s best local = ?
+moves-μ-loop a words₀ game walk₀ s₀ best₀ local₀ words walk s best local = length (walk-left (a .game) walk)
 
--- src/search.rt:471:9
-moves-walk-requires : (t : ℕ) → moves-lts.Need-walk-requires (
-  walk-reads.Asked,
-  walk-reads.Learnt,
-  best-reads.Asked,
-  best-reads.Learnt,
-  empty-reads.Asked,
-  empty-reads.Learnt,
-  next-reads.Asked,
-  next-reads.Learnt,
-  is-none-reads.Asked,
-  is-none-reads.Learnt,
-  of-reads.Asked,
-  of-reads.Learnt,
-  below-reads.Asked,
-  below-reads.Learnt,
-  minimax-below t,
-  minimax.Post,
-  is-below-reads.Asked,
-  is-below-reads.Learnt,
-  raise-reads.Asked,
-  raise-reads.Learnt,
-  is-cut-reads.Asked,
-  is-cut-reads.Learnt,
-  cut-reads.Asked,
-  cut-reads.Learnt,
-) (moves-at t) moves.Post moves-Inv-loop moves-μ-loop
-moves-walk-requires t c κs = ?
+moves-walk-requires : (t : ℕ) → moves-lts.Need-walk-requires (moves-env t) (moves-at t) moves.Post moves-Inv-loop moves-μ-loop
+moves-walk-requires t c κs = (c .before .before .pre .1 .1 .deep, c .before .before .pre .1 .0 .deep)
 
--- src/search.rt:473:9
-moves-best-requires : (t : ℕ) → moves-lts.Need-best-requires (
-  walk-reads.Asked,
-  walk-reads.Learnt,
-  best-reads.Asked,
-  best-reads.Learnt,
-  empty-reads.Asked,
-  empty-reads.Learnt,
-  next-reads.Asked,
-  next-reads.Learnt,
-  is-none-reads.Asked,
-  is-none-reads.Learnt,
-  of-reads.Asked,
-  of-reads.Learnt,
-  below-reads.Asked,
-  below-reads.Learnt,
-  minimax-below t,
-  minimax.Post,
-  is-below-reads.Asked,
-  is-below-reads.Learnt,
-  raise-reads.Asked,
-  raise-reads.Learnt,
-  is-cut-reads.Asked,
-  is-cut-reads.Learnt,
-  cut-reads.Asked,
-  cut-reads.Learnt,
-) (moves-at t) moves.Post moves-Inv-loop moves-μ-loop
-moves-best-requires t c κs = ?
+moves-best-requires : (t : ℕ) → moves-lts.Need-best-requires (moves-env t) (moves-at t) moves.Post moves-Inv-loop moves-μ-loop
+moves-best-requires t c κs = tt
 
--- src/search.rt:474:9
-moves-empty-requires : (t : ℕ) → moves-lts.Need-empty-requires (
-  walk-reads.Asked,
-  walk-reads.Learnt,
-  best-reads.Asked,
-  best-reads.Learnt,
-  empty-reads.Asked,
-  empty-reads.Learnt,
-  next-reads.Asked,
-  next-reads.Learnt,
-  is-none-reads.Asked,
-  is-none-reads.Learnt,
-  of-reads.Asked,
-  of-reads.Learnt,
-  below-reads.Asked,
-  below-reads.Learnt,
-  minimax-below t,
-  minimax.Post,
-  is-below-reads.Asked,
-  is-below-reads.Learnt,
-  raise-reads.Asked,
-  raise-reads.Learnt,
-  is-cut-reads.Asked,
-  is-cut-reads.Learnt,
-  cut-reads.Asked,
-  cut-reads.Learnt,
-) (moves-at t) moves.Post moves-Inv-loop moves-μ-loop
-moves-empty-requires t c κs = ?
+moves-empty-requires : (t : ℕ) → moves-lts.Need-empty-requires (moves-env t) (moves-at t) moves.Post moves-Inv-loop moves-μ-loop
+moves-empty-requires t c κs = tt
 
--- src/search.rt:475:5
-moves-loop-holds : (t : ℕ) → moves-lts.Need-loop-holds (
-  walk-reads.Asked,
-  walk-reads.Learnt,
-  best-reads.Asked,
-  best-reads.Learnt,
-  empty-reads.Asked,
-  empty-reads.Learnt,
-  next-reads.Asked,
-  next-reads.Learnt,
-  is-none-reads.Asked,
-  is-none-reads.Learnt,
-  of-reads.Asked,
-  of-reads.Learnt,
-  below-reads.Asked,
-  below-reads.Learnt,
-  minimax-below t,
-  minimax.Post,
-  is-below-reads.Asked,
-  is-below-reads.Learnt,
-  raise-reads.Asked,
-  raise-reads.Learnt,
-  is-cut-reads.Asked,
-  is-cut-reads.Learnt,
-  cut-reads.Asked,
-  cut-reads.Learnt,
-) (moves-at t) moves.Post moves-Inv-loop moves-μ-loop
-moves-loop-holds t c = ?
+moves-loop-holds : (t : ℕ) → moves-lts.Need-loop-holds (moves-env t) (moves-at t) moves.Post moves-Inv-loop moves-μ-loop
+moves-loop-holds t c = turn-first (c .before .before .before .before .before .args .a) (now (c .before .before .before .before .before .args .words)) (c .before .before .walk .result) (c .before .before .before .before .before .args .state) (c .before .best .result) (c .empty .result) (c .before .before .before .before .before .args .line) (c .before .before .before .before .before .pre .1 .0) (c .before .before .before .before .before .pre .1 .1) (c .before .best .ensures)
 
--- src/search.rt:476:13
-moves-next-requires : (t : ℕ) → moves-lts.Need-next-requires (
-  walk-reads.Asked,
-  walk-reads.Learnt,
-  best-reads.Asked,
-  best-reads.Learnt,
-  empty-reads.Asked,
-  empty-reads.Learnt,
-  next-reads.Asked,
-  next-reads.Learnt,
-  is-none-reads.Asked,
-  is-none-reads.Learnt,
-  of-reads.Asked,
-  of-reads.Learnt,
-  below-reads.Asked,
-  below-reads.Learnt,
-  minimax-below t,
-  minimax.Post,
-  is-below-reads.Asked,
-  is-below-reads.Learnt,
-  raise-reads.Asked,
-  raise-reads.Learnt,
-  is-cut-reads.Asked,
-  is-cut-reads.Learnt,
-  cut-reads.Asked,
-  cut-reads.Learnt,
-) (moves-at t) moves.Post moves-Inv-loop moves-μ-loop
-moves-next-requires t c κs = ?
+moves-next-requires : (t : ℕ) → moves-lts.Need-next-requires (moves-env t) (moves-at t) moves.Post moves-Inv-loop moves-μ-loop
+moves-next-requires t c κs = tt
 
--- src/search.rt:478:12
-moves-is-none-requires : (t : ℕ) → moves-lts.Need-is-none-requires (
-  walk-reads.Asked,
-  walk-reads.Learnt,
-  best-reads.Asked,
-  best-reads.Learnt,
-  empty-reads.Asked,
-  empty-reads.Learnt,
-  next-reads.Asked,
-  next-reads.Learnt,
-  is-none-reads.Asked,
-  is-none-reads.Learnt,
-  of-reads.Asked,
-  of-reads.Learnt,
-  below-reads.Asked,
-  below-reads.Learnt,
-  minimax-below t,
-  minimax.Post,
-  is-below-reads.Asked,
-  is-below-reads.Learnt,
-  raise-reads.Asked,
-  raise-reads.Learnt,
-  is-cut-reads.Asked,
-  is-cut-reads.Learnt,
-  cut-reads.Asked,
-  cut-reads.Learnt,
-) (moves-at t) moves.Post moves-Inv-loop moves-μ-loop
-moves-is-none-requires t c κs = ?
+moves-is-none-requires : (t : ℕ) → moves-lts.Need-is-none-requires (moves-env t) (moves-at t) moves.Post moves-Inv-loop moves-μ-loop
+moves-is-none-requires t c κs = tt
 
--- src/search.rt:479:13
-moves-of-requires : (t : ℕ) → moves-lts.Need-of-requires (
-  walk-reads.Asked,
-  walk-reads.Learnt,
-  best-reads.Asked,
-  best-reads.Learnt,
-  empty-reads.Asked,
-  empty-reads.Learnt,
-  next-reads.Asked,
-  next-reads.Learnt,
-  is-none-reads.Asked,
-  is-none-reads.Learnt,
-  of-reads.Asked,
-  of-reads.Learnt,
-  below-reads.Asked,
-  below-reads.Learnt,
-  minimax-below t,
-  minimax.Post,
-  is-below-reads.Asked,
-  is-below-reads.Learnt,
-  raise-reads.Asked,
-  raise-reads.Learnt,
-  is-cut-reads.Asked,
-  is-cut-reads.Learnt,
-  cut-reads.Asked,
-  cut-reads.Learnt,
-) (moves-at t) moves.Post moves-Inv-loop moves-μ-loop
-moves-of-requires t c κs = ?
+moves-of-requires : (t : ℕ) → moves-lts.Need-of-requires (moves-env t) (moves-at t) moves.Post moves-Inv-loop moves-μ-loop
+moves-of-requires t c κs = tt
 
--- src/search.rt:479:13
-moves-same-length : (t : ℕ) → moves-lts.Need-same-length (
-  walk-reads.Asked,
-  walk-reads.Learnt,
-  best-reads.Asked,
-  best-reads.Learnt,
-  empty-reads.Asked,
-  empty-reads.Learnt,
-  next-reads.Asked,
-  next-reads.Learnt,
-  is-none-reads.Asked,
-  is-none-reads.Learnt,
-  of-reads.Asked,
-  of-reads.Learnt,
-  below-reads.Asked,
-  below-reads.Learnt,
-  minimax-below t,
-  minimax.Post,
-  is-below-reads.Asked,
-  is-below-reads.Learnt,
-  raise-reads.Asked,
-  raise-reads.Learnt,
-  is-cut-reads.Asked,
-  is-cut-reads.Learnt,
-  cut-reads.Asked,
-  cut-reads.Learnt,
-) (moves-at t) moves.Post moves-Inv-loop moves-μ-loop
-moves-same-length t c = ?
+moves-same-length : (t : ℕ) → moves-lts.Need-same-length (moves-env t) (moves-at t) moves.Post moves-Inv-loop moves-μ-loop
+moves-same-length t c = c .before .before .before .before .before .loop .inv .long
 
--- src/search.rt:479:13
-moves-returns : (t : ℕ) → moves-lts.Need-returns (
-  walk-reads.Asked,
-  walk-reads.Learnt,
-  best-reads.Asked,
-  best-reads.Learnt,
-  empty-reads.Asked,
-  empty-reads.Learnt,
-  next-reads.Asked,
-  next-reads.Learnt,
-  is-none-reads.Asked,
-  is-none-reads.Learnt,
-  of-reads.Asked,
-  of-reads.Learnt,
-  below-reads.Asked,
-  below-reads.Learnt,
-  minimax-below t,
-  minimax.Post,
-  is-below-reads.Asked,
-  is-below-reads.Learnt,
-  raise-reads.Asked,
-  raise-reads.Learnt,
-  is-cut-reads.Asked,
-  is-cut-reads.Learnt,
-  cut-reads.Asked,
-  cut-reads.Learnt,
-) (moves-at t) moves.Post moves-Inv-loop moves-μ-loop
-moves-returns t c = ?
+moves-returns : (t : ℕ) → moves-lts.Need-returns (moves-env t) (moves-at t) moves.Post moves-Inv-loop moves-μ-loop
+moves-returns t c = whole-is (c .before .before .before .before .before .before .before .before .before .before .before .args .a) (c .before .before .before .before .before .before .before .before .before .before .before .args .first) (now (c .before .before .before .before .before .before .before .before .before .before .before .args .words)) (c .before .before .before .before .before .before .before .before .walk .result) (c .before .before .before .before .before .before .before .before .before .before .before .args .state) (c .before .before .before .before .before .before .before .before .before .before .before .args .line) (c .before .before .before .before .before .before .before .best .result) (c .before .before .before .before .before .before .empty .result) (c .before .before .before .before .before .before .before .before .walk .ensures (now (c .before .before .before .before .before .before .before .before .before .before .before .args .words))) (c .before .before .before .before .before .before .before .best .ensures) (c .before .before .before .before .before .before .empty .ensures)
+    (turn-done (c .before .before .before .before .before .before .before .before .before .before .before .args .a) (now (c .before .before .before .before .before .before .before .before .before .before .before .args .words)) (c .before .before .before .before .before .before .before .before .walk .result) (c .before .before .before .before .before .before .before .before .before .before .before .args .state) (c .before .before .before .before .before .before .before .best .result) (c .before .before .before .before .before .before .empty .result) (c .before .before .before .before .before .loop .words) (c .before .before .before .before .before .loop .walk) (c .before .before .before .before .before .loop .s) (c .before .before .before .before .before .loop .best) (c .before .before .before .before .before .loop .local) (c .before .before .before .before .before .before .before .before .before .before .before .pre .1 .0) (c .before .before .before .before .before .before .before .before .before .before .before .pre .1 .1) (c .before .before .before .before .before .loop .inv) (c .before .before .before .before .next .result) _ (c .before .before .before .before .next .ensures) (c .before .before .is-none .ensures) (c .before .if1 .taken) (c .of .result) (c .of .ensures))
 
--- src/search.rt:481:25
-moves-below-requires : (t : ℕ) → moves-lts.Need-below-requires (
-  walk-reads.Asked,
-  walk-reads.Learnt,
-  best-reads.Asked,
-  best-reads.Learnt,
-  empty-reads.Asked,
-  empty-reads.Learnt,
-  next-reads.Asked,
-  next-reads.Learnt,
-  is-none-reads.Asked,
-  is-none-reads.Learnt,
-  of-reads.Asked,
-  of-reads.Learnt,
-  below-reads.Asked,
-  below-reads.Learnt,
-  minimax-below t,
-  minimax.Post,
-  is-below-reads.Asked,
-  is-below-reads.Learnt,
-  raise-reads.Asked,
-  raise-reads.Learnt,
-  is-cut-reads.Asked,
-  is-cut-reads.Learnt,
-  cut-reads.Asked,
-  cut-reads.Learnt,
-) (moves-at t) moves.Post moves-Inv-loop moves-μ-loop
-moves-below-requires t c κs = ?
+moves-below-requires : (t : ℕ) → moves-lts.Need-below-requires (moves-env t) (moves-at t) moves.Post moves-Inv-loop moves-μ-loop
+moves-below-requires t c κs = (c .before .before .before .before .before .before .before .before .before .before .pre .1 .1 .deep, c .before .before .before .before .before .before .before .before .before .before .pre .1 .0 .beta-within, c .before .before .before .before .loop .inv .score)
 
--- src/search.rt:481:13
-moves-minimax-requires : (t : ℕ) → moves-lts.Need-minimax-requires (
-  walk-reads.Asked,
-  walk-reads.Learnt,
-  best-reads.Asked,
-  best-reads.Learnt,
-  empty-reads.Asked,
-  empty-reads.Learnt,
-  next-reads.Asked,
-  next-reads.Learnt,
-  is-none-reads.Asked,
-  is-none-reads.Learnt,
-  of-reads.Asked,
-  of-reads.Learnt,
-  below-reads.Asked,
-  below-reads.Learnt,
-  minimax-below t,
-  minimax.Post,
-  is-below-reads.Asked,
-  is-below-reads.Learnt,
-  raise-reads.Asked,
-  raise-reads.Learnt,
-  is-cut-reads.Asked,
-  is-cut-reads.Learnt,
-  cut-reads.Asked,
-  cut-reads.Learnt,
-) (moves-at t) moves.Post moves-Inv-loop moves-μ-loop
-moves-minimax-requires t c κs = ?
+moves-minimax-requires : (t : ℕ) → moves-lts.Need-minimax-requires (moves-env t) (moves-at t) moves.Post moves-Inv-loop moves-μ-loop
+moves-minimax-requires t c κs = (omega (arith, under-lower (c .before .before .before .before .before .before .before .before .before .before .before .before .args .a) (now (c .before .before .before .before .before .before .before .before .before .before .before .before .args .words)) (c .before .before .before .before .before .before .before .before .before .walk .result) (c .before .before .before .before .before .before .before .before .before .before .before .before .args .state) (c .before .before .before .before .before .before .before .before .best .result) (c .before .before .before .before .before .before .before .empty .result) (c .before .before .before .before .before .before .loop .words) (c .before .before .before .before .before .before .loop .walk) (c .before .before .before .before .before .before .loop .s) (c .before .before .before .before .before .before .loop .best) (c .before .before .before .before .before .before .loop .local) (c .before .before .before .before .before .before .before .before .before .before .before .before .pre .1 .0) (c .before .before .before .before .before .before .before .before .before .before .before .before .pre .1 .1) (c .before .before .before .before .before .before .loop .inv) (c .before .before .before .before .before .next .result) _ (c .before .before .before .before .before .next .ensures) (c .before .before .before .is-none .ensures) (c .before .before .if1 .left) (c .before .below .result) (c .before .below .ensures), c .before .before .before .before .before .before .before .before .before .before .before .before .pre .0), (under-asked (c .before .before .before .before .before .before .before .before .before .before .before .before .args .a) (now (c .before .before .before .before .before .before .before .before .before .before .before .before .args .words)) (c .before .before .before .before .before .before .before .before .before .walk .result) (c .before .before .before .before .before .before .before .before .before .before .before .before .args .state) (c .before .before .before .before .before .before .before .before .best .result) (c .before .before .before .before .before .before .before .empty .result) (c .before .before .before .before .before .before .loop .words) (c .before .before .before .before .before .before .loop .walk) (c .before .before .before .before .before .before .loop .s) (c .before .before .before .before .before .before .loop .best) (c .before .before .before .before .before .before .loop .local) (c .before .before .before .before .before .before .before .before .before .before .before .before .pre .1 .0) (c .before .before .before .before .before .before .before .before .before .before .before .before .pre .1 .1) (c .before .before .before .before .before .before .loop .inv) (c .before .before .before .before .before .next .result) _ (c .before .before .before .before .before .next .ensures) (c .before .before .before .is-none .ensures) (c .before .before .if1 .left) (c .before .below .result) (c .before .below .ensures), under-counted (c .before .before .before .before .before .before .before .before .before .before .before .before .args .a) (now (c .before .before .before .before .before .before .before .before .before .before .before .before .args .words)) (c .before .before .before .before .before .before .before .before .before .walk .result) (c .before .before .before .before .before .before .before .before .before .before .before .before .args .state) (c .before .before .before .before .before .before .before .before .best .result) (c .before .before .before .before .before .before .before .empty .result) (c .before .before .before .before .before .before .loop .words) (c .before .before .before .before .before .before .loop .walk) (c .before .before .before .before .before .before .loop .s) (c .before .before .before .before .before .before .loop .best) (c .before .before .before .before .before .before .loop .local) (c .before .before .before .before .before .before .before .before .before .before .before .before .pre .1 .0) (c .before .before .before .before .before .before .before .before .before .before .before .before .pre .1 .1) (c .before .before .before .before .before .before .loop .inv) (c .before .before .before .before .before .next .result) _ (c .before .before .before .before .before .next .ensures) (c .before .before .before .is-none .ensures) (c .before .before .if1 .left) (c .before .below .result) (c .before .below .ensures)))
 
--- src/search.rt:483:13
-moves-same-length-2 : (t : ℕ) → moves-lts.Need-same-length-2 (
-  walk-reads.Asked,
-  walk-reads.Learnt,
-  best-reads.Asked,
-  best-reads.Learnt,
-  empty-reads.Asked,
-  empty-reads.Learnt,
-  next-reads.Asked,
-  next-reads.Learnt,
-  is-none-reads.Asked,
-  is-none-reads.Learnt,
-  of-reads.Asked,
-  of-reads.Learnt,
-  below-reads.Asked,
-  below-reads.Learnt,
-  minimax-below t,
-  minimax.Post,
-  is-below-reads.Asked,
-  is-below-reads.Learnt,
-  raise-reads.Asked,
-  raise-reads.Learnt,
-  is-cut-reads.Asked,
-  is-cut-reads.Learnt,
-  cut-reads.Asked,
-  cut-reads.Learnt,
-) (moves-at t) moves.Post moves-Inv-loop moves-μ-loop
-moves-same-length-2 t c = ?
+moves-same-length-2 : (t : ℕ) → moves-lts.Need-same-length-2 (moves-env t) (moves-at t) moves.Post moves-Inv-loop moves-μ-loop
+moves-same-length-2 t c = c .before .before .before .minimax .kept .1 .1 .1 .0 ∙ c .before .before .before .before .before .before .before .before .before .before .loop .inv .long
 
--- src/search.rt:483:13
-moves-returns-2 : (t : ℕ) → moves-lts.Need-returns-2 (
-  walk-reads.Asked,
-  walk-reads.Learnt,
-  best-reads.Asked,
-  best-reads.Learnt,
-  empty-reads.Asked,
-  empty-reads.Learnt,
-  next-reads.Asked,
-  next-reads.Learnt,
-  is-none-reads.Asked,
-  is-none-reads.Learnt,
-  of-reads.Asked,
-  of-reads.Learnt,
-  below-reads.Asked,
-  below-reads.Learnt,
-  minimax-below t,
-  minimax.Post,
-  is-below-reads.Asked,
-  is-below-reads.Learnt,
-  raise-reads.Asked,
-  raise-reads.Learnt,
-  is-cut-reads.Asked,
-  is-cut-reads.Learnt,
-  cut-reads.Asked,
-  cut-reads.Learnt,
-) (moves-at t) moves.Post moves-Inv-loop moves-μ-loop
-moves-returns-2 t c = ?
+moves-returns-2 : (t : ℕ) → moves-lts.Need-returns-2 (moves-env t) (moves-at t) moves.Post moves-Inv-loop moves-μ-loop
+moves-returns-2 t c = whole-is (c .before .before .before .before .before .before .before .before .before .before .before .before .before .before .before .before .args .a) (c .before .before .before .before .before .before .before .before .before .before .before .before .before .before .before .before .args .first) (now (c .before .before .before .before .before .before .before .before .before .before .before .before .before .before .before .before .args .words)) (c .before .before .before .before .before .before .before .before .before .before .before .before .before .walk .result) (c .before .before .before .before .before .before .before .before .before .before .before .before .before .before .before .before .args .state) (c .before .before .before .before .before .before .before .before .before .before .before .before .before .before .before .before .args .line) (c .before .before .before .before .before .before .before .before .before .before .before .before .best .result) (c .before .before .before .before .before .before .before .before .before .before .before .empty .result) (c .before .before .before .before .before .before .before .before .before .before .before .before .before .walk .ensures (now (c .before .before .before .before .before .before .before .before .before .before .before .before .before .before .before .before .args .words))) (c .before .before .before .before .before .before .before .before .before .before .before .before .best .ensures) (c .before .before .before .before .before .before .before .before .before .before .before .empty .ensures)
+    (turn-stopped (c .before .before .before .before .before .before .before .before .before .before .before .before .before .before .before .before .args .a) (now (c .before .before .before .before .before .before .before .before .before .before .before .before .before .before .before .before .args .words)) (c .before .before .before .before .before .before .before .before .before .before .before .before .before .walk .result) (c .before .before .before .before .before .before .before .before .before .before .before .before .before .before .before .before .args .state) (c .before .before .before .before .before .before .before .before .before .before .before .before .best .result) (c .before .before .before .before .before .before .before .before .before .before .before .empty .result) (c .before .before .before .before .before .before .before .before .before .before .loop .words) (c .before .before .before .before .before .before .before .before .before .before .loop .walk) (c .before .before .before .before .before .before .before .before .before .before .loop .s) (c .before .before .before .before .before .before .before .before .before .before .loop .best) (c .before .before .before .before .before .before .before .before .before .before .loop .local) (c .before .before .before .before .before .before .before .before .before .before .before .before .before .before .before .before .pre .1 .0) (c .before .before .before .before .before .before .before .before .before .before .before .before .before .before .before .before .pre .1 .1) (c .before .before .before .before .before .before .before .before .before .before .loop .inv) (c .before .before .before .before .before .before .before .before .before .next .result) _ (c .before .before .before .before .before .before .before .before .before .next .ensures) (c .before .before .before .before .before .before .before .is-none .ensures) (c .before .before .before .before .before .before .if1 .left) (c .before .before .before .before .before .below .result) (c .before .before .before .before .before .below .ensures) (c .before .before .before .minimax .result) (c .before .before .before .minimax .last .1 .1 .1 .0) (c .before .before .before .minimax .ensures) (c .before .before .before .minimax .kept .1 .1 .1 .0) (c .if2 .taken))
 
--- src/search.rt:488:12
-moves-is-below-requires : (t : ℕ) → moves-lts.Need-is-below-requires (
-  walk-reads.Asked,
-  walk-reads.Learnt,
-  best-reads.Asked,
-  best-reads.Learnt,
-  empty-reads.Asked,
-  empty-reads.Learnt,
-  next-reads.Asked,
-  next-reads.Learnt,
-  is-none-reads.Asked,
-  is-none-reads.Learnt,
-  of-reads.Asked,
-  of-reads.Learnt,
-  below-reads.Asked,
-  below-reads.Learnt,
-  minimax-below t,
-  minimax.Post,
-  is-below-reads.Asked,
-  is-below-reads.Learnt,
-  raise-reads.Asked,
-  raise-reads.Learnt,
-  is-cut-reads.Asked,
-  is-cut-reads.Learnt,
-  cut-reads.Asked,
-  cut-reads.Learnt,
-) (moves-at t) moves.Post moves-Inv-loop moves-μ-loop
-moves-is-below-requires t c κs = ?
+moves-is-below-requires : (t : ℕ) → moves-lts.Need-is-below-requires (moves-env t) (moves-at t) moves.Post moves-Inv-loop moves-μ-loop
+moves-is-below-requires t c κs = score-within (c .before .before .before .before .before .before .before .before .before .before .before .before .before .before .before .before .before .before .before .args .a) (now (c .before .before .before .before .before .before .before .before .before .before .before .before .before .before .before .before .before .before .before .args .words)) (c .before .before .before .before .before .before .before .before .before .before .before .before .before .before .before .before .walk .result) (c .before .before .before .before .before .before .before .before .before .before .before .before .before .before .before .before .before .before .before .args .state) (c .before .before .before .before .before .before .before .before .before .before .before .before .before .before .before .best .result) (c .before .before .before .before .before .before .before .before .before .before .before .before .before .before .empty .result) (c .before .before .before .before .before .before .before .before .before .before .before .before .before .loop .words) (c .before .before .before .before .before .before .before .before .before .before .before .before .before .loop .walk) (c .before .before .before .before .before .before .before .before .before .before .before .before .before .loop .s) (c .before .before .before .before .before .before .before .before .before .before .before .before .before .loop .best) (c .before .before .before .before .before .before .before .before .before .before .before .before .before .loop .local) (c .before .before .before .before .before .before .before .before .before .before .before .before .before .before .before .before .before .before .before .pre .1 .0) (c .before .before .before .before .before .before .before .before .before .before .before .before .before .before .before .before .before .before .before .pre .1 .1) (c .before .before .before .before .before .before .before .before .before .before .before .before .before .loop .inv) (c .before .before .before .before .before .before .before .before .before .before .before .before .next .result) _ (c .before .before .before .before .before .before .before .before .before .before .before .before .next .ensures) (c .before .before .before .before .before .before .before .before .before .before .is-none .ensures) (c .before .before .before .before .before .before .before .before .before .if1 .left) (c .before .before .before .before .before .before .before .before .below .result) (c .before .before .before .before .before .before .before .before .below .ensures) (c .before .before .before .before .before .before .minimax .result) (c .before .before .before .before .before .before .minimax .last .1 .1 .1 .0) (c .before .before .before .before .before .before .minimax .ensures) (c .before .before .before .before .before .before .minimax .kept .1 .1 .1 .0) (c .before .before .before .if2 .left)
 
--- src/search.rt:489:13
-moves-raise-requires : (t : ℕ) → moves-lts.Need-raise-requires (
-  walk-reads.Asked,
-  walk-reads.Learnt,
-  best-reads.Asked,
-  best-reads.Learnt,
-  empty-reads.Asked,
-  empty-reads.Learnt,
-  next-reads.Asked,
-  next-reads.Learnt,
-  is-none-reads.Asked,
-  is-none-reads.Learnt,
-  of-reads.Asked,
-  of-reads.Learnt,
-  below-reads.Asked,
-  below-reads.Learnt,
-  minimax-below t,
-  minimax.Post,
-  is-below-reads.Asked,
-  is-below-reads.Learnt,
-  raise-reads.Asked,
-  raise-reads.Learnt,
-  is-cut-reads.Asked,
-  is-cut-reads.Learnt,
-  cut-reads.Asked,
-  cut-reads.Learnt,
-) (moves-at t) moves.Post moves-Inv-loop moves-μ-loop
-moves-raise-requires t c κs = ?
+moves-raise-requires : (t : ℕ) → moves-lts.Need-raise-requires (moves-env t) (moves-at t) moves.Post moves-Inv-loop moves-μ-loop
+moves-raise-requires t c κs = (score-within (c .before .before .before .before .before .before .before .before .before .before .before .before .before .before .before .before .before .before .before .before .before .args .a) (now (c .before .before .before .before .before .before .before .before .before .before .before .before .before .before .before .before .before .before .before .before .before .args .words)) (c .before .before .before .before .before .before .before .before .before .before .before .before .before .before .before .before .before .before .walk .result) (c .before .before .before .before .before .before .before .before .before .before .before .before .before .before .before .before .before .before .before .before .before .args .state) (c .before .before .before .before .before .before .before .before .before .before .before .before .before .before .before .before .before .best .result) (c .before .before .before .before .before .before .before .before .before .before .before .before .before .before .before .before .empty .result) (c .before .before .before .before .before .before .before .before .before .before .before .before .before .before .before .loop .words) (c .before .before .before .before .before .before .before .before .before .before .before .before .before .before .before .loop .walk) (c .before .before .before .before .before .before .before .before .before .before .before .before .before .before .before .loop .s) (c .before .before .before .before .before .before .before .before .before .before .before .before .before .before .before .loop .best) (c .before .before .before .before .before .before .before .before .before .before .before .before .before .before .before .loop .local) (c .before .before .before .before .before .before .before .before .before .before .before .before .before .before .before .before .before .before .before .before .before .pre .1 .0) (c .before .before .before .before .before .before .before .before .before .before .before .before .before .before .before .before .before .before .before .before .before .pre .1 .1) (c .before .before .before .before .before .before .before .before .before .before .before .before .before .before .before .loop .inv) (c .before .before .before .before .before .before .before .before .before .before .before .before .before .before .next .result) _ (c .before .before .before .before .before .before .before .before .before .before .before .before .before .before .next .ensures) (c .before .before .before .before .before .before .before .before .before .before .before .before .is-none .ensures) (c .before .before .before .before .before .before .before .before .before .before .before .if1 .left) (c .before .before .before .before .before .before .before .before .before .before .below .result) (c .before .before .before .before .before .before .before .before .before .before .below .ensures) (c .before .before .before .before .before .before .before .before .minimax .result) (c .before .before .before .before .before .before .before .before .minimax .last .1 .1 .1 .0) (c .before .before .before .before .before .before .before .before .minimax .ensures) (c .before .before .before .before .before .before .before .before .minimax .kept .1 .1 .1 .0) (c .before .before .before .before .before .if2 .left), c .before .before .before .before .before .before .before .before .before .before .before .before .before .before .before .before .before .before .before .before .before .pre .1 .1 .deep, c .before .before .before .before .before .before .before .before .before .before .before .before .before .before .before .before .before .before .before .before .before .pre .1 .0 .deep)
 
--- src/search.rt:490:16
-moves-is-cut-requires : (t : ℕ) → moves-lts.Need-is-cut-requires (
-  walk-reads.Asked,
-  walk-reads.Learnt,
-  best-reads.Asked,
-  best-reads.Learnt,
-  empty-reads.Asked,
-  empty-reads.Learnt,
-  next-reads.Asked,
-  next-reads.Learnt,
-  is-none-reads.Asked,
-  is-none-reads.Learnt,
-  of-reads.Asked,
-  of-reads.Learnt,
-  below-reads.Asked,
-  below-reads.Learnt,
-  minimax-below t,
-  minimax.Post,
-  is-below-reads.Asked,
-  is-below-reads.Learnt,
-  raise-reads.Asked,
-  raise-reads.Learnt,
-  is-cut-reads.Asked,
-  is-cut-reads.Learnt,
-  cut-reads.Asked,
-  cut-reads.Learnt,
-) (moves-at t) moves.Post moves-Inv-loop moves-μ-loop
-moves-is-cut-requires t c κs = ?
+moves-is-cut-requires : (t : ℕ) → moves-lts.Need-is-cut-requires (moves-env t) (moves-at t) moves.Post moves-Inv-loop moves-μ-loop
+moves-is-cut-requires t c κs = tt
 
--- src/search.rt:491:34
-moves-cut-requires : (t : ℕ) → moves-lts.Need-cut-requires (
-  walk-reads.Asked,
-  walk-reads.Learnt,
-  best-reads.Asked,
-  best-reads.Learnt,
-  empty-reads.Asked,
-  empty-reads.Learnt,
-  next-reads.Asked,
-  next-reads.Learnt,
-  is-none-reads.Asked,
-  is-none-reads.Learnt,
-  of-reads.Asked,
-  of-reads.Learnt,
-  below-reads.Asked,
-  below-reads.Learnt,
-  minimax-below t,
-  minimax.Post,
-  is-below-reads.Asked,
-  is-below-reads.Learnt,
-  raise-reads.Asked,
-  raise-reads.Learnt,
-  is-cut-reads.Asked,
-  is-cut-reads.Learnt,
-  cut-reads.Asked,
-  cut-reads.Learnt,
-) (moves-at t) moves.Post moves-Inv-loop moves-μ-loop
-moves-cut-requires t c κs = ?
+moves-cut-requires : (t : ℕ) → moves-lts.Need-cut-requires (moves-env t) (moves-at t) moves.Post moves-Inv-loop moves-μ-loop
+moves-cut-requires t c κs = cut-room (c .before .before .before .before .before .before .before .before .before .before .before .before .before .before .before .before .before .before .before .before .before .before .before .before .args .a) (now (c .before .before .before .before .before .before .before .before .before .before .before .before .before .before .before .before .before .before .before .before .before .before .before .before .args .words)) (c .before .before .before .before .before .before .before .before .before .before .before .before .before .before .before .before .before .before .before .before .before .walk .result) (c .before .before .before .before .before .before .before .before .before .before .before .before .before .before .before .before .before .before .before .before .before .before .before .before .args .state) (c .before .before .before .before .before .before .before .before .before .before .before .before .before .before .before .before .before .before .before .before .best .result) (c .before .before .before .before .before .before .before .before .before .before .before .before .before .before .before .before .before .before .before .empty .result) (c .before .before .before .before .before .before .before .before .before .before .before .before .before .before .before .before .before .before .loop .words) (c .before .before .before .before .before .before .before .before .before .before .before .before .before .before .before .before .before .before .loop .walk) (c .before .before .before .before .before .before .before .before .before .before .before .before .before .before .before .before .before .before .loop .s) (c .before .before .before .before .before .before .before .before .before .before .before .before .before .before .before .before .before .before .loop .best) (c .before .before .before .before .before .before .before .before .before .before .before .before .before .before .before .before .before .before .loop .local) (c .before .before .before .before .before .before .before .before .before .before .before .before .before .before .before .before .before .before .before .before .before .before .before .before .pre .1 .0) (c .before .before .before .before .before .before .before .before .before .before .before .before .before .before .before .before .before .before .before .before .before .before .before .before .pre .1 .1) (c .before .before .before .before .before .before .before .before .before .before .before .before .before .before .before .before .before .before .loop .inv) (c .before .before .before .before .before .before .before .before .before .before .before .before .before .before .before .before .before .next .result) _ (c .before .before .before .before .before .before .before .before .before .before .before .before .before .before .before .before .before .next .ensures) (c .before .before .before .before .before .before .before .before .before .before .before .before .before .before .before .is-none .ensures) (c .before .before .before .before .before .before .before .before .before .before .before .before .before .before .if1 .left) (c .before .before .before .before .before .before .before .before .before .before .before .before .before .below .result) (c .before .before .before .before .before .before .before .before .before .before .before .before .before .below .ensures) (c .before .before .before .before .before .before .before .before .before .before .before .minimax .result) (c .before .before .before .before .before .before .before .before .before .before .before .minimax .last .1 .1 .1 .0) (c .before .before .before .before .before .before .before .before .before .before .before .minimax .ensures) (c .before .before .before .before .before .before .before .before .before .before .before .minimax .kept .1 .1 .1 .0) (c .before .before .before .before .before .before .before .before .if2 .left)
 
--- src/search.rt:491:17
-moves-of-requires-2 : (t : ℕ) → moves-lts.Need-of-requires-2 (
-  walk-reads.Asked,
-  walk-reads.Learnt,
-  best-reads.Asked,
-  best-reads.Learnt,
-  empty-reads.Asked,
-  empty-reads.Learnt,
-  next-reads.Asked,
-  next-reads.Learnt,
-  is-none-reads.Asked,
-  is-none-reads.Learnt,
-  of-reads.Asked,
-  of-reads.Learnt,
-  below-reads.Asked,
-  below-reads.Learnt,
-  minimax-below t,
-  minimax.Post,
-  is-below-reads.Asked,
-  is-below-reads.Learnt,
-  raise-reads.Asked,
-  raise-reads.Learnt,
-  is-cut-reads.Asked,
-  is-cut-reads.Learnt,
-  cut-reads.Asked,
-  cut-reads.Learnt,
-) (moves-at t) moves.Post moves-Inv-loop moves-μ-loop
-moves-of-requires-2 t c κs = ?
+moves-of-requires-2 : (t : ℕ) → moves-lts.Need-of-requires-2 (moves-env t) (moves-at t) moves.Post moves-Inv-loop moves-μ-loop
+moves-of-requires-2 t c κs = tt
 
--- src/search.rt:491:17
-moves-same-length-3 : (t : ℕ) → moves-lts.Need-same-length-3 (
-  walk-reads.Asked,
-  walk-reads.Learnt,
-  best-reads.Asked,
-  best-reads.Learnt,
-  empty-reads.Asked,
-  empty-reads.Learnt,
-  next-reads.Asked,
-  next-reads.Learnt,
-  is-none-reads.Asked,
-  is-none-reads.Learnt,
-  of-reads.Asked,
-  of-reads.Learnt,
-  below-reads.Asked,
-  below-reads.Learnt,
-  minimax-below t,
-  minimax.Post,
-  is-below-reads.Asked,
-  is-below-reads.Learnt,
-  raise-reads.Asked,
-  raise-reads.Learnt,
-  is-cut-reads.Asked,
-  is-cut-reads.Learnt,
-  cut-reads.Asked,
-  cut-reads.Learnt,
-) (moves-at t) moves.Post moves-Inv-loop moves-μ-loop
-moves-same-length-3 t c = ?
+moves-same-length-3 : (t : ℕ) → moves-lts.Need-same-length-3 (moves-env t) (moves-at t) moves.Post moves-Inv-loop moves-μ-loop
+moves-same-length-3 t c = c .before .before .before .before .before .before .before .before .before .before .before .before .before .minimax .kept .1 .1 .1 .0 ∙ c .before .before .before .before .before .before .before .before .before .before .before .before .before .before .before .before .before .before .before .before .loop .inv .long
 
--- src/search.rt:491:17
-moves-returns-3 : (t : ℕ) → moves-lts.Need-returns-3 (
-  walk-reads.Asked,
-  walk-reads.Learnt,
-  best-reads.Asked,
-  best-reads.Learnt,
-  empty-reads.Asked,
-  empty-reads.Learnt,
-  next-reads.Asked,
-  next-reads.Learnt,
-  is-none-reads.Asked,
-  is-none-reads.Learnt,
-  of-reads.Asked,
-  of-reads.Learnt,
-  below-reads.Asked,
-  below-reads.Learnt,
-  minimax-below t,
-  minimax.Post,
-  is-below-reads.Asked,
-  is-below-reads.Learnt,
-  raise-reads.Asked,
-  raise-reads.Learnt,
-  is-cut-reads.Asked,
-  is-cut-reads.Learnt,
-  cut-reads.Asked,
-  cut-reads.Learnt,
-) (moves-at t) moves.Post moves-Inv-loop moves-μ-loop
-moves-returns-3 t c = ?
+moves-returns-3 : (t : ℕ) → moves-lts.Need-returns-3 (moves-env t) (moves-at t) moves.Post moves-Inv-loop moves-μ-loop
+moves-returns-3 t c = whole-is (c .before .before .before .before .before .before .before .before .before .before .before .before .before .before .before .before .before .before .before .before .before .before .before .before .before .before .args .a) (c .before .before .before .before .before .before .before .before .before .before .before .before .before .before .before .before .before .before .before .before .before .before .before .before .before .before .args .first) (now (c .before .before .before .before .before .before .before .before .before .before .before .before .before .before .before .before .before .before .before .before .before .before .before .before .before .before .args .words)) (c .before .before .before .before .before .before .before .before .before .before .before .before .before .before .before .before .before .before .before .before .before .before .before .walk .result) (c .before .before .before .before .before .before .before .before .before .before .before .before .before .before .before .before .before .before .before .before .before .before .before .before .before .before .args .state) (c .before .before .before .before .before .before .before .before .before .before .before .before .before .before .before .before .before .before .before .before .before .before .before .before .before .before .args .line) (c .before .before .before .before .before .before .before .before .before .before .before .before .before .before .before .before .before .before .before .before .before .before .best .result) (c .before .before .before .before .before .before .before .before .before .before .before .before .before .before .before .before .before .before .before .before .before .empty .result) (c .before .before .before .before .before .before .before .before .before .before .before .before .before .before .before .before .before .before .before .before .before .before .before .walk .ensures (now (c .before .before .before .before .before .before .before .before .before .before .before .before .before .before .before .before .before .before .before .before .before .before .before .before .before .before .args .words))) (c .before .before .before .before .before .before .before .before .before .before .before .before .before .before .before .before .before .before .before .before .before .before .best .ensures) (c .before .before .before .before .before .before .before .before .before .before .before .before .before .before .before .before .before .before .before .before .before .empty .ensures)
+    (turn-cut (c .before .before .before .before .before .before .before .before .before .before .before .before .before .before .before .before .before .before .before .before .before .before .before .before .before .before .args .a) (now (c .before .before .before .before .before .before .before .before .before .before .before .before .before .before .before .before .before .before .before .before .before .before .before .before .before .before .args .words)) (c .before .before .before .before .before .before .before .before .before .before .before .before .before .before .before .before .before .before .before .before .before .before .before .walk .result) (c .before .before .before .before .before .before .before .before .before .before .before .before .before .before .before .before .before .before .before .before .before .before .before .before .before .before .args .state) (c .before .before .before .before .before .before .before .before .before .before .before .before .before .before .before .before .before .before .before .before .before .before .best .result) (c .before .before .before .before .before .before .before .before .before .before .before .before .before .before .before .before .before .before .before .before .before .empty .result) (c .before .before .before .before .before .before .before .before .before .before .before .before .before .before .before .before .before .before .before .before .loop .words) (c .before .before .before .before .before .before .before .before .before .before .before .before .before .before .before .before .before .before .before .before .loop .walk) (c .before .before .before .before .before .before .before .before .before .before .before .before .before .before .before .before .before .before .before .before .loop .s) (c .before .before .before .before .before .before .before .before .before .before .before .before .before .before .before .before .before .before .before .before .loop .best) (c .before .before .before .before .before .before .before .before .before .before .before .before .before .before .before .before .before .before .before .before .loop .local) (c .before .before .before .before .before .before .before .before .before .before .before .before .before .before .before .before .before .before .before .before .before .before .before .before .before .before .pre .1 .0) (c .before .before .before .before .before .before .before .before .before .before .before .before .before .before .before .before .before .before .before .before .before .before .before .before .before .before .pre .1 .1) (c .before .before .before .before .before .before .before .before .before .before .before .before .before .before .before .before .before .before .before .before .loop .inv) (c .before .before .before .before .before .before .before .before .before .before .before .before .before .before .before .before .before .before .before .next .result) _ (c .before .before .before .before .before .before .before .before .before .before .before .before .before .before .before .before .before .before .before .next .ensures) (c .before .before .before .before .before .before .before .before .before .before .before .before .before .before .before .before .before .is-none .ensures) (c .before .before .before .before .before .before .before .before .before .before .before .before .before .before .before .before .if1 .left) (c .before .before .before .before .before .before .before .before .before .before .before .before .before .before .before .below .result) (c .before .before .before .before .before .before .before .before .before .before .before .before .before .before .before .below .ensures) (c .before .before .before .before .before .before .before .before .before .before .before .before .before .minimax .result) (c .before .before .before .before .before .before .before .before .before .before .before .before .before .minimax .last .1 .1 .1 .0) (c .before .before .before .before .before .before .before .before .before .before .before .before .before .minimax .ensures) (c .before .before .before .before .before .before .before .before .before .before .before .before .before .minimax .kept .1 .1 .1 .0) (c .before .before .before .before .before .before .before .before .before .before .if2 .left) _ (c .before .before .before .before .before .before .is-below .ensures) (c .before .before .before .before .before .if3 .taken) (c .before .before .before .before .raise .result) (c .before .before .before .before .raise .ensures) _ (c .before .before .before .is-cut .ensures) (c .before .before .if4 .taken) (c .before .cut .result) (c .before .cut .ensures) (c .of2 .result) (c .of2 .ensures))
 
--- src/search.rt:475:5
-moves-loop-less : (t : ℕ) → moves-lts.Need-loop-less (
-  walk-reads.Asked,
-  walk-reads.Learnt,
-  best-reads.Asked,
-  best-reads.Learnt,
-  empty-reads.Asked,
-  empty-reads.Learnt,
-  next-reads.Asked,
-  next-reads.Learnt,
-  is-none-reads.Asked,
-  is-none-reads.Learnt,
-  of-reads.Asked,
-  of-reads.Learnt,
-  below-reads.Asked,
-  below-reads.Learnt,
-  minimax-below t,
-  minimax.Post,
-  is-below-reads.Asked,
-  is-below-reads.Learnt,
-  raise-reads.Asked,
-  raise-reads.Learnt,
-  is-cut-reads.Asked,
-  is-cut-reads.Learnt,
-  cut-reads.Asked,
-  cut-reads.Learnt,
-) (moves-at t) moves.Post moves-Inv-loop moves-μ-loop
-moves-loop-less t c = ?
+moves-loop-less : (t : ℕ) → moves-lts.Need-loop-less (moves-env t) (moves-at t) moves.Post moves-Inv-loop moves-μ-loop
+moves-loop-less t c = walk-shorter (c .before .before .before .before .before .before .before .before .before .before .before .before .before .before .before .before .before .before .before .before .before .before .before .before .args .a .game) (c .before .before .before .before .before .before .before .before .before .before .before .before .before .before .before .before .before .before .loop .walk) (c .before .before .before .before .before .before .before .before .before .before .before .before .before .before .before .before .before .next .result) _ (c .before .before .before .before .before .before .before .before .before .before .before .before .before .before .before .before .before .next .ensures) (c .before .before .before .before .before .before .before .before .before .before .before .before .before .before .before .is-none .ensures) (c .before .before .before .before .before .before .before .before .before .before .before .before .before .before .if1 .left)
 
--- src/search.rt:475:5
-moves-loop-again : (t : ℕ) → moves-lts.Need-loop-again (
-  walk-reads.Asked,
-  walk-reads.Learnt,
-  best-reads.Asked,
-  best-reads.Learnt,
-  empty-reads.Asked,
-  empty-reads.Learnt,
-  next-reads.Asked,
-  next-reads.Learnt,
-  is-none-reads.Asked,
-  is-none-reads.Learnt,
-  of-reads.Asked,
-  of-reads.Learnt,
-  below-reads.Asked,
-  below-reads.Learnt,
-  minimax-below t,
-  minimax.Post,
-  is-below-reads.Asked,
-  is-below-reads.Learnt,
-  raise-reads.Asked,
-  raise-reads.Learnt,
-  is-cut-reads.Asked,
-  is-cut-reads.Learnt,
-  cut-reads.Asked,
-  cut-reads.Learnt,
-) (moves-at t) moves.Post moves-Inv-loop moves-μ-loop
-moves-loop-again t c = ?
+moves-loop-again : (t : ℕ) → moves-lts.Need-loop-again (moves-env t) (moves-at t) moves.Post moves-Inv-loop moves-μ-loop
+moves-loop-again t c = turn-better (c .before .before .before .before .before .before .before .before .before .before .before .before .before .before .before .before .before .before .before .before .before .before .before .before .args .a) (now (c .before .before .before .before .before .before .before .before .before .before .before .before .before .before .before .before .before .before .before .before .before .before .before .before .args .words)) (c .before .before .before .before .before .before .before .before .before .before .before .before .before .before .before .before .before .before .before .before .before .walk .result) (c .before .before .before .before .before .before .before .before .before .before .before .before .before .before .before .before .before .before .before .before .before .before .before .before .args .state) (c .before .before .before .before .before .before .before .before .before .before .before .before .before .before .before .before .before .before .before .before .best .result) (c .before .before .before .before .before .before .before .before .before .before .before .before .before .before .before .before .before .before .before .empty .result) (c .before .before .before .before .before .before .before .before .before .before .before .before .before .before .before .before .before .before .loop .words) (c .before .before .before .before .before .before .before .before .before .before .before .before .before .before .before .before .before .before .loop .walk) (c .before .before .before .before .before .before .before .before .before .before .before .before .before .before .before .before .before .before .loop .s) (c .before .before .before .before .before .before .before .before .before .before .before .before .before .before .before .before .before .before .loop .best) (c .before .before .before .before .before .before .before .before .before .before .before .before .before .before .before .before .before .before .loop .local) (c .before .before .before .before .before .before .before .before .before .before .before .before .before .before .before .before .before .before .before .before .before .before .before .before .pre .1 .0) (c .before .before .before .before .before .before .before .before .before .before .before .before .before .before .before .before .before .before .before .before .before .before .before .before .pre .1 .1) (c .before .before .before .before .before .before .before .before .before .before .before .before .before .before .before .before .before .before .loop .inv) (c .before .before .before .before .before .before .before .before .before .before .before .before .before .before .before .before .before .next .result) _ (c .before .before .before .before .before .before .before .before .before .before .before .before .before .before .before .before .before .next .ensures) (c .before .before .before .before .before .before .before .before .before .before .before .before .before .before .before .is-none .ensures) (c .before .before .before .before .before .before .before .before .before .before .before .before .before .before .if1 .left) (c .before .before .before .before .before .before .before .before .before .before .before .before .before .below .result) (c .before .before .before .before .before .before .before .before .before .before .before .before .before .below .ensures) (c .before .before .before .before .before .before .before .before .before .before .before .minimax .result) (c .before .before .before .before .before .before .before .before .before .before .before .minimax .last .1 .1 .1 .0) (c .before .before .before .before .before .before .before .before .before .before .before .minimax .ensures) (c .before .before .before .before .before .before .before .before .before .before .before .minimax .kept .1 .1 .1 .0) (c .before .before .before .before .before .before .before .before .if2 .left) _ (c .before .before .before .before .is-below .ensures) (c .before .before .before .if3 .taken) (c .before .before .raise .result) (c .before .before .raise .ensures) _ (c .before .is-cut .ensures) (c .if4 .left)
 
--- src/search.rt:475:5
-moves-loop-less-2 : (t : ℕ) → moves-lts.Need-loop-less-2 (
-  walk-reads.Asked,
-  walk-reads.Learnt,
-  best-reads.Asked,
-  best-reads.Learnt,
-  empty-reads.Asked,
-  empty-reads.Learnt,
-  next-reads.Asked,
-  next-reads.Learnt,
-  is-none-reads.Asked,
-  is-none-reads.Learnt,
-  of-reads.Asked,
-  of-reads.Learnt,
-  below-reads.Asked,
-  below-reads.Learnt,
-  minimax-below t,
-  minimax.Post,
-  is-below-reads.Asked,
-  is-below-reads.Learnt,
-  raise-reads.Asked,
-  raise-reads.Learnt,
-  is-cut-reads.Asked,
-  is-cut-reads.Learnt,
-  cut-reads.Asked,
-  cut-reads.Learnt,
-) (moves-at t) moves.Post moves-Inv-loop moves-μ-loop
-moves-loop-less-2 t c = ?
+moves-loop-less-2 : (t : ℕ) → moves-lts.Need-loop-less-2 (moves-env t) (moves-at t) moves.Post moves-Inv-loop moves-μ-loop
+moves-loop-less-2 t c = walk-shorter (c .before .before .before .before .before .before .before .before .before .before .before .before .before .before .before .before .before .before .before .before .before .args .a .game) (c .before .before .before .before .before .before .before .before .before .before .before .before .before .before .before .loop .walk) (c .before .before .before .before .before .before .before .before .before .before .before .before .before .before .next .result) _ (c .before .before .before .before .before .before .before .before .before .before .before .before .before .before .next .ensures) (c .before .before .before .before .before .before .before .before .before .before .before .before .is-none .ensures) (c .before .before .before .before .before .before .before .before .before .before .before .if1 .left)
 
--- src/search.rt:475:5
-moves-loop-again-2 : (t : ℕ) → moves-lts.Need-loop-again-2 (
-  walk-reads.Asked,
-  walk-reads.Learnt,
-  best-reads.Asked,
-  best-reads.Learnt,
-  empty-reads.Asked,
-  empty-reads.Learnt,
-  next-reads.Asked,
-  next-reads.Learnt,
-  is-none-reads.Asked,
-  is-none-reads.Learnt,
-  of-reads.Asked,
-  of-reads.Learnt,
-  below-reads.Asked,
-  below-reads.Learnt,
-  minimax-below t,
-  minimax.Post,
-  is-below-reads.Asked,
-  is-below-reads.Learnt,
-  raise-reads.Asked,
-  raise-reads.Learnt,
-  is-cut-reads.Asked,
-  is-cut-reads.Learnt,
-  cut-reads.Asked,
-  cut-reads.Learnt,
-) (moves-at t) moves.Post moves-Inv-loop moves-μ-loop
-moves-loop-again-2 t c = ?
+moves-loop-again-2 : (t : ℕ) → moves-lts.Need-loop-again-2 (moves-env t) (moves-at t) moves.Post moves-Inv-loop moves-μ-loop
+moves-loop-again-2 t c = turn-not (c .before .before .before .before .before .before .before .before .before .before .before .before .before .before .before .before .before .before .before .before .before .args .a) (now (c .before .before .before .before .before .before .before .before .before .before .before .before .before .before .before .before .before .before .before .before .before .args .words)) (c .before .before .before .before .before .before .before .before .before .before .before .before .before .before .before .before .before .before .walk .result) (c .before .before .before .before .before .before .before .before .before .before .before .before .before .before .before .before .before .before .before .before .before .args .state) (c .before .before .before .before .before .before .before .before .before .before .before .before .before .before .before .before .before .best .result) (c .before .before .before .before .before .before .before .before .before .before .before .before .before .before .before .before .empty .result) (c .before .before .before .before .before .before .before .before .before .before .before .before .before .before .before .loop .words) (c .before .before .before .before .before .before .before .before .before .before .before .before .before .before .before .loop .walk) (c .before .before .before .before .before .before .before .before .before .before .before .before .before .before .before .loop .s) (c .before .before .before .before .before .before .before .before .before .before .before .before .before .before .before .loop .best) (c .before .before .before .before .before .before .before .before .before .before .before .before .before .before .before .loop .local) (c .before .before .before .before .before .before .before .before .before .before .before .before .before .before .before .before .before .before .before .before .before .pre .1 .0) (c .before .before .before .before .before .before .before .before .before .before .before .before .before .before .before .before .before .before .before .before .before .pre .1 .1) (c .before .before .before .before .before .before .before .before .before .before .before .before .before .before .before .loop .inv) (c .before .before .before .before .before .before .before .before .before .before .before .before .before .before .next .result) _ (c .before .before .before .before .before .before .before .before .before .before .before .before .before .before .next .ensures) (c .before .before .before .before .before .before .before .before .before .before .before .before .is-none .ensures) (c .before .before .before .before .before .before .before .before .before .before .before .if1 .left) (c .before .before .before .before .before .before .before .before .before .before .below .result) (c .before .before .before .before .before .before .before .before .before .before .below .ensures) (c .before .before .before .before .before .before .before .before .minimax .result) (c .before .before .before .before .before .before .before .before .minimax .last .1 .1 .1 .0) (c .before .before .before .before .before .before .before .before .minimax .ensures) (c .before .before .before .before .before .before .before .before .minimax .kept .1 .1 .1 .0) (c .before .before .before .before .before .if2 .left) _ (c .before .is-below .ensures) (c .if3 .left)
 
 pub +minimax+moves-spec : {M : Type 1} → statement M
-+minimax+moves-spec = close μ-minimax μ-moves (λ t. minimax-lts.spec (
-  enter-reads.Asked,
-  enter-reads.Learnt,
-  moves-below t,
-  moves.Post,
-  leave-reads.Asked,
-  leave-reads.Learnt,
-)
++minimax+moves-spec = close μ-minimax μ-moves (λ t. minimax-lts.spec (minimax-env t)
     (minimax-at t)
     minimax.Post
     (minimax-enter-requires t)
@@ -838,32 +167,7 @@ pub +minimax+moves-spec : {M : Type 1} → statement M
     (minimax-leave-requires t)
     (minimax-same-length-2 t)
     (minimax-returns-2 t))
-    λ t. moves-lts.spec (
-      walk-reads.Asked,
-      walk-reads.Learnt,
-      best-reads.Asked,
-      best-reads.Learnt,
-      empty-reads.Asked,
-      empty-reads.Learnt,
-      next-reads.Asked,
-      next-reads.Learnt,
-      is-none-reads.Asked,
-      is-none-reads.Learnt,
-      of-reads.Asked,
-      of-reads.Learnt,
-      below-reads.Asked,
-      below-reads.Learnt,
-      minimax-below t,
-      minimax.Post,
-      is-below-reads.Asked,
-      is-below-reads.Learnt,
-      raise-reads.Asked,
-      raise-reads.Learnt,
-      is-cut-reads.Asked,
-      is-cut-reads.Learnt,
-      cut-reads.Asked,
-      cut-reads.Learnt,
-    )
+    λ t. moves-lts.spec (moves-env t)
     (moves-at t)
     moves.Post
     moves-Inv-loop

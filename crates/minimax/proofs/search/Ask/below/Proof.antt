@@ -18,7 +18,7 @@ sub-t9 : tie.Need-sub-t9
 sub-t9 c = minus-fits _ (c .before .before .before .before .before .before .before .pre .2)
 
 returns : tie.Need-returns
-returns c = 
+returns c =
     let a = c .before .before .before .before .before .before .before .args .self in
     let child = c .before .before .before .before .before .before .before .args .child in
     ap₂ (λ (x y : ℤ). record { game = child .game; depth = a .depth - 1; alpha = x; beta = y; prev = child .m; «draw_winner» = a .«draw_winner»; allowance = a .allowance })

@@ -24,7 +24,7 @@ is-leaf-requires : tie.Need-is-leaf-requires
 is-leaf-requires c κs = search needs
 
 leaf-requires : tie.Need-leaf-requires
-leaf-requires c κs = 
+leaf-requires c κs =
     let h = entered-steps (c .before .before .before .before .before .before .before .args .state) (c .before .before .enter .result) (c .before .before .enter .ensures []) in
     omega (arith, h .terminal-is, c .before .before .before .before .before .before .before .pre .1 .terminal-within, c .before .before .before .before .before .before .before .pre .0 .allowed, c .before .before .before .if1 .left)
 
@@ -56,7 +56,7 @@ enum-known-held : tie.Need-enum-known-held
 enum-known-held c = search needs
 
 hit-requires : tie.Need-hit-requires
-hit-requires c κs = 
+hit-requires c κs =
     let h = entered-steps (c .before .before .before .before .before .before .before .before .before .before .before .before .before .args .state) (c .before .before .before .before .before .before .before .before .enter .result) (c .before .before .before .before .before .before .before .before .enter .ensures []) in
     omega (arith, h .hits-is, c .before .before .before .before .before .before .before .before .before .before .before .before .before .pre .1 .hits-within, c .before .before .before .before .before .before .before .before .before .before .before .before .before .pre .0 .allowed, c .before .before .before .before .before .before .before .before .before .if1 .left)
 
@@ -64,7 +64,7 @@ suffices-requires : tie.Need-suffices-requires
 suffices-requires c κs = search needs
 
 suffice-requires : tie.Need-suffice-requires
-suffice-requires c κs = 
+suffice-requires c κs =
     let h = entered-steps (c .before .before .before .before .before .before .before .before .before .before .before .before .before .before .before .before .args .state) (c .before .before .before .before .before .before .before .before .before .before .before .enter .result) (c .before .before .before .before .before .before .before .before .before .before .before .enter .ensures []) in
     let k = hit-steps (c .before .before .before .before .before .before .before .before .before .before .before .enter .result) (c .before .before .hit .result) (c .before .before .hit .ensures []) in
     omega (arith, h .suffice-is, k .suffice-is, c .before .before .before .before .before .before .before .before .before .before .before .before .before .before .before .before .pre .1 .suffice-within, c .before .before .before .before .before .before .before .before .before .before .before .before .before .before .before .before .pre .0 .allowed, c .before .before .before .before .before .before .before .before .before .before .before .before .if1 .left)

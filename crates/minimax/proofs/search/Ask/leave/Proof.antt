@@ -27,7 +27,7 @@ same-length : tie.Need-same-length
 same-length c = search needs
 
 returns-2 : tie.Need-returns-2
-returns-2 c = 
+returns-2 c =
     let s = c .before .before .before .before .before .before .before .before .before .before .before .before in
     told-found (s .args .self) (s .args .r) _ _ _ (record { value = reads (s .args .r .score); depth = s .args .self .depth; bound = c .before .before .before .before .before .before .before .bound-of .result; pv = c .before .before .before .before .before .before .first .result }) (c .before .before .before .before .before .before .before .before .before .before .if1 .left) (c .before .before .before .zobrist .ensures) (c .before .before .store .ensures)
     (told (s .args .r .score) (c .before .before .before .before .before .struct-told .given .1 .1 .0 .1)) refl (c .before .before .before .before .before .before .before .bound-of .ensures) (c .before .before .before .before .before .before .first .ensures _ (s .pre .0))

@@ -1,8 +1,4 @@
 -- The line is made of the move and the line below, and the negative is exact.
-use mathlib.Core.Path.{_≡_, ap₂}
-use lib.IntN.{ℤ}
-use Rattle.minimax.specs.declared.search.Line.{Line}
-use Rattle.minimax.specs.declared.search.Best.{Best}
 use Rattle.minimax.proofs.Scores.{minus-fits, minus-reads}
 use borrow.Author.Needs.{needs}
 use Rattle.minimax.proofs.search.Best.raise.Statement.{statement}
@@ -15,7 +11,7 @@ sub-t8 : tie.Need-sub-t8
 sub-t8 c = minus-fits _ (c .before .before .before .before .before .pre .0)
 
 returns : tie.Need-returns
-returns c = ap₂ (λ (l : Line) (z : ℤ). record { line = l; score = z }) (c .before .before .with-line .ensures) (minus-reads _ (c .before .before .before .before .before .pre .0))
+returns c = (minus-reads _ (c .before .before .before .before .before .pre .0), c .before .before .with-line .ensures .0, c .before .before .with-line .ensures .1)
 
 pub raise-spec : {M : Type 1} → statement M
 raise-spec = tie.close (tie.spec with-line-requires sub-t8 returns)

@@ -13,7 +13,7 @@ with-first-requires : tie.Need-with-first-requires
 with-first-requires c κs = search needs
 
 returns : tie.Need-returns
-returns c = 
+returns c =
     ap₂ (λ (l : Line) (z : ℤ). record { state = c .before .before .before .args .state; line = l; score = z; stopped = false })
     (c .before .with-first .ensures) (told (c .before .before .before .args .e .value) (c .struct-told .given .0 .1))
 

@@ -11,7 +11,7 @@ element-copy-out-result : tie.Need-element-copy-out-result
 element-copy-out-result c = search needs
 
 returns : tie.Need-returns
-returns c = 
+returns c =
     let n : length (c .before .args .t1 .moves) ≡ 81 = simp length-map at (c .before .good .0 .1 .1 .0 .1 .0 .1) in
     first-place (c .before .args .t1 .moves) _ (omega arith)
 

@@ -1,11 +1,8 @@
 -- Each turn copies one place of the line below.
-use mathlib.Core.Path.{_≡_, ap}
-use mathlib.Core.List.{List}
+use mathlib.Core.Path.{_≡_}
 use Prim.Native.Nat.{_-_, _≤_}
 use native.Mathlib.Omega.{arith}
 use lib.ListN.{length, length-map}
-use Rattle.boards.specs.declared.moves.Move.{Move}
-use Rattle.minimax.specs.declared.search.Line.{Line}
 use borrow.Author.Needs.{needs}
 use Rattle.minimax.proofs.Lines.{placed, placed-none, placed-more, placed-all}
 use Rattle.minimax.proofs.search.Line.with_line.Statement.{statement}
@@ -42,17 +39,18 @@ loop-less : tie.Need-loop-less Inv-loop μ-loop
 loop-less c = omega (arith, c .before .loop-test .taken)
 
 loop-again : tie.Need-loop-again Inv-loop μ-loop
-loop-again c = 
+loop-again c =
     let s = c .before .before .before in
     let n : length (s .args .self .moves) ≡ 81 = simp length-map at (s .good .0 .1 .1 .0 .1 .0 .1) in
     let b : length (s .args .t3 .moves) ≡ 81 = simp length-map at (s .good .1 .1 .0 .1 .1 .0 .1 .0 .1) in
     (placed-more (s .args .self .moves) (s .args .t3 .moves) _ (s .args .m) (c .before .before .loop .i) _ (c .before .before .loop .inv .0) (omega (arith, c .before .loop-test .taken, s .pre .1)) (omega (arith, c .before .loop-test .taken, s .pre .1)), omega (arith, c .before .loop-test .taken))
 
 returns : tie.Need-returns Inv-loop μ-loop
-returns c = 
+returns c =
     let s = c .before .before in
     let n : length (s .args .self .moves) ≡ 81 = simp length-map at (s .good .0 .1 .1 .0 .1 .0 .1) in
-    ap (λ (ms : List Move). record { moves = ms }) (placed-all (s .args .self .moves) (s .args .t3 .moves) _ (s .args .m) (s .args .depth) (c .before .loop .i) (omega (arith, c .before .loop .inv .1, c .loop-test .left, s .pre .0)) (omega arith) (c .before .loop .inv .0))
+    let b : length (s .args .t3 .moves) ≡ 81 = simp length-map at (s .good .1 .1 .0 .1 .1 .0 .1 .0 .1) in
+    placed-all (s .args .self .moves) (s .args .t3 .moves) _ (s .args .m) (s .args .depth) (c .before .loop .i) (omega (arith, c .before .loop .inv .1, c .loop-test .left, s .pre .0)) (omega arith) (omega (arith, c .before .loop .inv .1, s .pre .1)) (c .before .loop .inv .0)
 
 pub with-line-spec : {M : Type 1} → statement M
 with-line-spec =

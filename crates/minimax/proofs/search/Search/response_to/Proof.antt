@@ -23,12 +23,12 @@ element-copy-out-result-2 : tie.Need-element-copy-out-result-2
 element-copy-out-result-2 c = search needs
 
 returns : tie.Need-returns
-returns c = 
+returns c =
     let n : length (c .before .before .before .before .args .t1 .«answers_o») ≡ 256 = simp length-map at (c .before .before .before .before .good .0 .1 .1 .1 .0 .1 .0 .1) in
     λ words. answer-by (c .before .before .before .before .args .t1) words (c .before .before .before .before .args .prev) (c .before .before .before .before .args .t1 .«answers_o») (c .before .before .before .before .args .turn) (rw (c .before .enum-told .given .1)) (omega arith) _
 
 returns-2 : tie.Need-returns-2
-returns-2 c = 
+returns-2 c =
     let n : length (c .before .before .before .before .args .t1 .«answers_x») ≡ 256 = simp length-map at (c .before .before .before .before .good .0 .1 .1 .0 .1 .0 .1) in
     λ words. answer-by (c .before .before .before .before .args .t1) words (c .before .before .before .before .args .prev) (c .before .before .before .before .args .t1 .«answers_x») (c .before .before .before .before .args .turn) (rw (c .before .enum-told2 .given .1)) (omega arith) _
 
