@@ -32,7 +32,7 @@ use Rattle.minimax.specs.declared.search.Found.{Found}
 use Rattle.minimax.specs.declared.search.Entered.{Entered}
 use Rattle.minimax.specs.State.{bytes-of, memory-of, line-of, empty-line, asked-game, outcome-of, searched, over-left, over-all, then-told, Asked, Counted, Ready, Gives, Enters}
 use Rattle.minimax.proofs.Outcomes.{outcome-stopped, outcome-found}
-use Rattle.minimax.proofs.Orders.{emptied}
+use Rattle.order.proofs.Orders.{emptied}
 use Rattle.minimax.proofs.Lines.{set-first-place, set-first-drop, empty-places}
 
 -- ---- the empty move is not accepted

@@ -1,7 +1,3 @@
-pub mod Marks
-pub mod Cursors
-pub mod Orders
-pub mod Walks
 pub mod Scores
 pub mod States
 pub mod Lines

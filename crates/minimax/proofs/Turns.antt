@@ -33,15 +33,15 @@ use Rattle.boards.specs.declared.moves.Move.{Move}
 use Rattle.game.specs.declared.Game.{Game}
 use Rattle.game.specs.Meaning.{position-of}
 use Rattle.game.specs.After.{game-after}
-use Rattle.minimax.specs.declared.order.Walk.{Walk}
-use Rattle.minimax.specs.declared.order.Child.{Child}
+use Rattle.order.specs.declared.Walk.{Walk}
+use Rattle.order.specs.declared.Child.{Child}
 use Rattle.minimax.specs.declared.search.Search.{Search}
 use Rattle.minimax.specs.declared.search.Line.{Line}
 use Rattle.minimax.specs.declared.search.Ask.{Ask}
 use Rattle.minimax.specs.declared.search.Best.{Best}
 use Rattle.minimax.specs.declared.search.Found.{Found}
 use Rattle.minimax.specs.declared.search.Entered.{Entered}
-use Rattle.minimax.specs.Order.{unmarked, walk-left, NextIs}
+use Rattle.order.specs.Order.{unmarked, walk-left, NextIs}
 use Rattle.minimax.specs.State.{bytes-of, memory-of, line-of, empty-line, asked-game, outcome-of, searched, over-left, over-all, then-told, Within, Asked, Counted, Ready, Gives, Enters}
 use Rattle.minimax.proofs.Scores.{neg-within}
 use Rattle.minimax.proofs.Outcomes.{outcome-stopped, outcome-found}

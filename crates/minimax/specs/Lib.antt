@@ -1,3 +1,3 @@
 pub mod Structs
-pub mod Order
 pub mod State
+pub mod Report

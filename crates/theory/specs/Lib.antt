@@ -6,3 +6,4 @@ pub mod OrderedSearch
 pub mod Deepening
 pub mod Allowance
 pub mod Line
+pub mod Reported

@@ -4,7 +4,7 @@ use Prim.Native.Nat.{ℕ, _+_, _*_, _<_}
 use native.Mathlib.Omega.{arith}
 use lib.ListN.{length}
 use denote.Ref.{now}
-use Rattle.minimax.specs.Order.{walk-left}
+use Rattle.order.specs.Order.{walk-left}
 use Rattle.minimax.proofs.Turns.{Turn, walk-shorter, turn-first, whole-is, turn-done, under-asked, under-counted, under-lower, turn-stopped, score-within, cut-room, turn-not, turn-better, turn-cut, entered-moves}
 use borrow.Fn.Kinds.{In}
 use borrow.Fn.PlainCycle.{Measures, is, falls, and}
@@ -15,7 +15,7 @@ use Rattle.minimax.proofs.search.moves.Reads as moves
 use Rattle.minimax.proofs.search.moves.Kinds as moves-kinds
 use Rattle.minimax.proofs.search.+minimax+moves.Lts-moves as moves-lts
 use Rattle.boards.proofs.moves.Move.is_none.Reads as is-none-reads
-use Rattle.minimax.proofs.order.Walk.next.Reads as next-reads
+use Rattle.order.proofs.Walk.next.Reads as next-reads
 use Rattle.minimax.proofs.search.Ask.below.Reads as below-reads
 use Rattle.minimax.proofs.search.Ask.best.Reads as best-reads
 use Rattle.minimax.proofs.search.Ask.cut.Reads as cut-reads

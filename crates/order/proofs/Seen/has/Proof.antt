@@ -1,8 +1,8 @@
 -- The bit of the word is the mark.
-use Rattle.minimax.proofs.Marks.{mark-read}
+use Rattle.order.proofs.Marks.{mark-read}
 use borrow.Author.Needs.{needs}
-use Rattle.minimax.proofs.order.Seen.has.Statement.{statement}
-use Rattle.minimax.proofs.order.Seen.has.Tie as tie
+use Rattle.order.proofs.Seen.has.Statement.{statement}
+use Rattle.order.proofs.Seen.has.Tie as tie
 
 cast-i : tie.Need-cast-i
 cast-i c = search needs

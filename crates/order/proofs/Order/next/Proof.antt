@@ -1,8 +1,8 @@
 -- The first of the three that has a move gives it.
-use Rattle.minimax.proofs.Orders.{next-first, next-second, next-listed, next-ended}
+use Rattle.order.proofs.Orders.{next-first, next-second, next-listed, next-ended}
 use borrow.Author.Needs.{needs}
-use Rattle.minimax.proofs.order.Order.next.Statement.{statement}
-use Rattle.minimax.proofs.order.Order.next.Tie as tie
+use Rattle.order.proofs.Order.next.Statement.{statement}
+use Rattle.order.proofs.Order.next.Tie as tie
 
 none-requires : tie.Need-none-requires
 none-requires c κs = search needs

@@ -2,10 +2,10 @@
 use mathlib.Core.Path.{_≡_}
 use native.Mathlib.Omega.{arith}
 use lib.ListN.{length, length-map}
-use Rattle.minimax.proofs.Marks.{one-more}
+use Rattle.order.proofs.Marks.{one-more}
 use borrow.Author.Needs.{needs}
-use Rattle.minimax.proofs.order.Seen.with.Statement.{statement}
-use Rattle.minimax.proofs.order.Seen.with.Tie as tie
+use Rattle.order.proofs.Seen.with.Statement.{statement}
+use Rattle.order.proofs.Seen.with.Tie as tie
 
 cast-i : tie.Need-cast-i
 cast-i c = search needs

@@ -27,10 +27,10 @@ use Rattle.game.specs.Meaning.{position-of}
 use Rattle.game.specs.After.{Plays}
 use Rattle.game.proofs.Answers.{nought-accepts, refused-not-accepts}
 use Rattle.game.proofs.Lists.{all-moves-listed}
-use Rattle.minimax.specs.declared.order.Seen.{Seen}
-use Rattle.minimax.specs.declared.order.Order.{Order}
-use Rattle.minimax.specs.declared.order.Child.{Child}
-use Rattle.minimax.specs.Order.{marked, order-left, unmarked, walk-left, NextIs}
+use Rattle.order.specs.declared.Seen.{Seen}
+use Rattle.order.specs.declared.Order.{Order}
+use Rattle.order.specs.declared.Child.{Child}
+use Rattle.order.specs.Order.{marked, order-left, unmarked, walk-left, NextIs}
 
 module _ (ok : ℕ → Bool) where
   -- ---- marks as a list of those seen

@@ -14,11 +14,11 @@ use Rattle.boards.specs.declared.moves.MoveIterator.{MoveIterator}
 use Rattle.boards.specs.declared.moves.Listed.{Listed}
 use Rattle.boards.specs.declared.moves.Listed.the-variants.{Next as Listed-next, End as Listed-end}
 use Rattle.boards.specs.Cursor.{moves-left, cursor-over, listed}
-use Rattle.minimax.specs.declared.order.Order.{Order}
-use Rattle.minimax.specs.declared.order.Ordered.{Ordered}
-use Rattle.minimax.specs.declared.order.Ordered.the-variants.{Next, End}
-use Rattle.minimax.specs.Order.{order-left, OrderedIs}
-use Rattle.minimax.proofs.Cursors.{rest-left}
+use Rattle.order.specs.declared.Order.{Order}
+use Rattle.order.specs.declared.Ordered.{Ordered}
+use Rattle.order.specs.declared.Ordered.the-variants.{Next, End}
+use Rattle.order.specs.Order.{order-left, OrderedIs}
+use Rattle.order.proofs.Cursors.{rest-left}
 
 -- ---- a move that may be empty
 some-none : (m : ℕ) → eqb m no-move ≡ true → some-move m ≡ []

@@ -1,8 +1,8 @@
 -- Nothing is marked, and the cursor has the list of moves.
-use Rattle.minimax.proofs.Walks.{walk-new}
+use Rattle.order.proofs.Walks.{walk-new}
 use borrow.Author.Needs.{needs}
-use Rattle.minimax.proofs.order.Walk.new.Statement.{statement}
-use Rattle.minimax.proofs.order.Walk.new.Tie as tie
+use Rattle.order.proofs.Walk.new.Statement.{statement}
+use Rattle.order.proofs.Walk.new.Tie as tie
 
 all-moves-requires : tie.Need-all-moves-requires
 all-moves-requires c κs = search needs

@@ -13,12 +13,12 @@ use Rattle.boards.specs.Cursor.{moves-left}
 use Rattle.game.specs.declared.Game.{Game}
 use Rattle.game.specs.Meaning.{position-of}
 use Rattle.game.specs.After.{game-after}
-use Rattle.minimax.specs.declared.order.Seen.{Seen}
-use Rattle.minimax.specs.declared.order.Order.{Order}
-use Rattle.minimax.specs.declared.order.Ordered.{Ordered}
-use Rattle.minimax.specs.declared.order.Ordered.the-variants.{Next, End}
-use Rattle.minimax.specs.declared.order.Walk.{Walk}
-use Rattle.minimax.specs.declared.order.Child.{Child}
+use Rattle.order.specs.declared.Seen.{Seen}
+use Rattle.order.specs.declared.Order.{Order}
+use Rattle.order.specs.declared.Ordered.{Ordered}
+use Rattle.order.specs.declared.Ordered.the-variants.{Next, End}
+use Rattle.order.specs.declared.Walk.{Walk}
+use Rattle.order.specs.declared.Child.{Child}
 
 -- a mark for each of the 256 moves
 unfoldable pub marked : Seen → ℕ → Bool

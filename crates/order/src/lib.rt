@@ -11,7 +11,7 @@ ghost use Rattle.rules.specs.Moves.{moves};
 ghost use Rattle.theory.specs.Memory.{some-move};
 ghost use Rattle.theory.specs.OrderedSearch.{fresh};
 ghost use Rattle.game.specs.Meaning.{position-of};
-ghost use Rattle.minimax.specs.Order.{marked, order-left, walk-left, NextIs, OrderedIs};
+ghost use Rattle.order.specs.Order.{marked, order-left, walk-left, NextIs, OrderedIs};
 use boards::Answer;
 use boards::Listed;
 use boards::Move;
@@ -19,7 +19,7 @@ use boards::MoveIterator;
 use game::Game;
 
 // A set of 256 marks.
-pub(crate) struct Seen {
+pub struct Seen {
     pub marks: [u64; 4],
 }
 
@@ -48,13 +48,13 @@ impl Seen {
 }
 
 // The moves still to be met: the table's move; the remembered answer, or lacking one the line's move; then the list. An empty move is none.
-pub(crate) struct Order {
+pub struct Order {
     pub first: Move,
     pub second: Move,
     pub list: MoveIterator,
 }
 
-pub(crate) enum Ordered {
+pub enum Ordered {
     Next(Move, Order),
     End,
 }
@@ -87,20 +87,20 @@ impl Order {
 }
 
 // The cursor over a position's moves: those left, and those met.
-pub(crate) struct Walk {
+pub struct Walk {
     pub left: Order,
     pub seen: Seen,
 }
 
 // The next move that is no repeat and is accepted, the game after it, and the rest. The empty move says that there is none.
-pub(crate) struct Child {
+pub struct Child {
     pub m: Move,
     pub game: Game,
     pub walk: Walk,
 }
 
 impl Walk {
-    pub(crate) fn new(game: Game, first: Move, second: Move) -> Walk
+    pub fn new(game: Game, first: Move, second: Move) -> Walk
         ensures { λ r. ⌜ walk-left game r ≡ fresh (accepts (position-of game)) [] (some-move (first .bits) ++ (some-move (second .bits) ++ moves (position-of game))) ⌝ }
     {
         let list = game.all_moves();
@@ -113,7 +113,7 @@ impl Walk {
         Walk { left, seen }
     }
 
-    pub(crate) fn next(self, game: Game) -> Child
+    pub fn next(self, game: Game) -> Child
         ensures { λ r. ⌜ NextIs game (walk-left game self) r ⌝ }
     {
         let mut left = self.left;

@@ -4,12 +4,12 @@ use mathlib.Core.List.{_∷_}
 use lib.ListN.{length}
 use Rattle.rules.specs.Play.{accepts}
 use Rattle.game.specs.Meaning.{position-of}
-use Rattle.minimax.specs.Order.{marked, unmarked, order-left}
-use Rattle.minimax.proofs.Orders.{was-next, was-end}
-use Rattle.minimax.proofs.Walks.{shorter, repeated, refused, accepted, ended}
+use Rattle.order.specs.Order.{marked, unmarked, order-left}
+use Rattle.order.proofs.Orders.{was-next, was-end}
+use Rattle.order.proofs.Walks.{shorter, repeated, refused, accepted, ended}
 use borrow.Author.Needs.{needs}
-use Rattle.minimax.proofs.order.Walk.next.Statement.{statement}
-use Rattle.minimax.proofs.order.Walk.next.Tie as tie
+use Rattle.order.proofs.Walk.next.Statement.{statement}
+use Rattle.order.proofs.Walk.next.Tie as tie
 
 abbrev Inv-loop : tie.InvT-loop
 Inv-loop game left₀ seen₀ left seen = unmarked (accepts (position-of game)) (marked seen) (order-left left) ≡ unmarked (accepts (position-of game)) (marked seen₀) (order-left left₀)

@@ -13,8 +13,8 @@ use borrow.Author.Tests.{eq-eqb, ne-eqb}
 use Rattle.base.specs.Bits.{bit}
 use Rattle.base.proofs.Digits.{bit-nought}
 use Rattle.base.proofs.Numbers.{digit-test, shl-one, marked as digit-set, unmarked as digit-kept}
-use Rattle.minimax.specs.declared.order.Seen.{Seen}
-use Rattle.minimax.specs.Order.{marked}
+use Rattle.order.specs.declared.Seen.{Seen}
+use Rattle.order.specs.Order.{marked}
 
 nought : (i : ℕ) → _≡_ {A = ℕ} (getD (0 ∷ 0 ∷ 0 ∷ 0 ∷ []) i 0) 0
 nought zero = refl

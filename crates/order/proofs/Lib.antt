@@ -1,0 +1,4 @@
+pub mod Marks
+pub mod Cursors
+pub mod Orders
+pub mod Walks

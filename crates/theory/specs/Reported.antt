@@ -1,0 +1,86 @@
+-- The entry point of the search: its settings, what it refuses, and what it reports.
+use mathlib.Core.Bool.{Bool, true, false, not, _&&_, _||_}
+use mathlib.Core.List.{List, _++_}
+use Prim.Native.Nat.{ℕ, _-_, _%_}
+use lib.Dec.{eqb, leb}
+use lib.IntN.{ℤ, pos}
+use lib.ListN.{length, replicate}
+use Rattle.base.specs.Branch.{if_then_else_}
+use Rattle.rules.specs.Play.{no-move}
+use Rattle.theory.specs.Game.{Game}
+use Rattle.theory.specs.Memory.{no-tally, fresh-memory}
+use Rattle.theory.specs.OrderedSearch.{at-most}
+use Rattle.theory.specs.Deepening.{Stats, Answer, analyze}
+
+pub record Settings : Type 0 where
+  pub max-depth : ℕ
+  pub allowance : ℕ
+
+-- 15, 16, 17 in this order, by the settings and the number of the table's words; 0 where nothing is refused
+unfoldable pub entry-refusal : Settings → ℕ → ℕ
+entry-refusal c words =
+    if not (leb 1 (c .max-depth) && leb (c .max-depth) 81) then (λ _. 15) else
+    λ _. if not (leb 1 (c .allowance) && leb (c .allowance) 1000000000) then (λ _. 16) else
+    λ _. if not (eqb (words % 3) 0) || not (leb words 196608) then (λ _. 17) else
+    λ _. 0
+
+pub record Reported : Type 0 where
+  -- 15 to 18, or 0 where nothing is refused
+  pub number : ℕ
+  -- the allowance stopped the search
+  pub is-stopped : Bool
+  -- the last whole depth, with its score, line and the stats of each depth to it; 0 where there is none
+  pub depth : ℕ
+  pub score : ℤ
+  pub line : List ℕ
+  pub stats : List Stats
+  -- positions entered, over all depths
+  pub count : ℕ
+  -- what is left of the remembered answers and the table
+  pub answers-x : List ℕ
+  pub answers-o : List ℕ
+  pub table : List ℕ
+
+abbrev pub no-stats : Stats
+no-stats = record { depth = 0; score = pos 0; tally = no-tally }
+
+-- 81 places, those after the last whole depth's empty
+abbrev pub filled : {A : Type 0} → A → List A → List A
+filled x xs = xs ++ replicate (81 - length xs) x
+
+-- refused at the entry: nothing is changed, and nothing is said
+abbrev pub refused-entry : ℕ → List ℕ → List ℕ → List ℕ → Reported
+refused-entry n xs os words = record {
+  number = n;
+  is-stopped = false;
+  depth = 0;
+  score = pos 0;
+  line = replicate 81 no-move;
+  stats = replicate 81 no-stats;
+  count = 0;
+  answers-x = xs;
+  answers-o = os;
+  table = words;
+}
+
+-- 18: the allowance was spent inside depth 1
+abbrev pub report : Answer → Reported
+report x = record {
+  number = if x .is-stopped && eqb (x .whole .depth) 0 then (λ _. 18) else λ _. 0;
+  is-stopped = x .is-stopped;
+  depth = x .whole .depth;
+  score = x .whole .score;
+  line = filled no-move (x .whole .line);
+  stats = filled no-stats (x .whole .stats);
+  count = x .memory .count;
+  answers-x = x .memory .answers-x;
+  answers-o = x .memory .answers-o;
+  table = x .memory .table;
+}
+
+module _ (G : Game) where
+  unfoldable pub reported : Settings → G .Pos → List ℕ → List ℕ → List ℕ → Reported
+  reported c p xs os words =
+      let n = entry-refusal c (length words) in
+      if eqb n 0 then (λ _. report (analyze G (at-most (c .allowance)) (c .max-depth) p (fresh-memory xs os words)))
+      else λ _. refused-entry n xs os words
