@@ -5,3 +5,7 @@ pub mod Entries
 pub mod Outcomes
 pub mod Entering
 pub mod Turns
+pub mod Refusals
+pub mod Rooms
+pub mod Reports
+pub mod Deepens

@@ -12,7 +12,7 @@ use Rattle.rules.specs.declared.Player.{Player}
 use Rattle.rules.specs.declared.Player.the-variants.{X, O}
 use Rattle.rules.specs.Board.{other}
 use Rattle.rules.specs.Play.{no-move}
-use Rattle.theory.specs.Memory.{Memory, enter, leaf, hit, answered, answers-to, cut}
+use Rattle.theory.specs.Memory.{Memory, begin, enter, leaf, hit, answered, answers-to, cut}
 use Rattle.boards.specs.declared.moves.Move.{Move}
 use Rattle.minimax.specs.declared.search.Search.{Search}
 use Rattle.minimax.specs.State.{byte-of, bytes-of, memory-of}
@@ -31,6 +31,10 @@ with-counts s count visited terminal cuts hits suffice = record {
 }
 
 module _ (s : Search) (words : List ℕ) where
+  pub begun : memory-of (with-counts s (s .count) 0 0 0 0 0) words ≡ begin (memory-of s words)
+  unfolding begin
+  begun = refl
+
   pub entered : memory-of (with-counts s (s .count + 1) (s .visited + 1) (s .terminal) (s .cuts) (s .«tt_hit») (s .«tt_suffice»)) words ≡ enter (memory-of s words)
   unfolding enter
   entered = simp unary-clauses refl

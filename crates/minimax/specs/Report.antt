@@ -2,11 +2,14 @@
 use mathlib.Core.Path.{_≡_}
 use mathlib.Core.Bool.{Bool, true, false}
 use mathlib.Core.List.{List, map}
-use Prim.Native.Nat.{ℕ}
-use lib.ListN.{replicate}
+use Prim.Native.Nat.{ℕ, _-_, _≤_}
+use lib.IntN.{pos}
+use lib.ListN.{take, drop, replicate}
 use Rattle.rules.specs.Play.{no-move}
-use Rattle.theory.specs.Deepening.{Stats as Meant}
-use Rattle.theory.specs.Reported.{Settings, Reported, reported}
+use Rattle.theory.specs.Memory.{Tally, fresh-memory}
+use Rattle.theory.specs.OrderedSearch.{at-most}
+use Rattle.theory.specs.Deepening.{Stats as Meant, Whole, Answer, analyze}
+use Rattle.theory.specs.Reported.{Settings, Reported, no-stats, reported}
 use Rattle.boards.specs.declared.moves.Move.{Move}
 use Rattle.game.specs.declared.Game.{Game}
 use Rattle.minimax.specs.declared.Stats.{Stats}
@@ -15,10 +18,14 @@ use Rattle.minimax.specs.declared.Minimax.{Minimax}
 use Rattle.minimax.specs.declared.SearchError.{SearchError}
 use Rattle.minimax.specs.declared.SearchError.the-variants.{Depth, Allowance, Words, Spent}
 use Rattle.minimax.specs.declared.Ending.{Ending}
-use Rattle.minimax.specs.declared.Ending.the-variants.{Whole, Stopped, Refused}
+use Rattle.minimax.specs.declared.Ending.the-variants.{Whole as EndsWhole, Stopped, Refused}
 use Rattle.minimax.specs.declared.Report.{Report}
+use Rattle.minimax.specs.declared.Entry.{Entry}
+use Rattle.minimax.specs.declared.Entry.the-variants.{Allowed, Refused as Turned}
+use Rattle.minimax.specs.declared.Depths.{Depths}
+use Rattle.minimax.specs.declared.search.Search.{Search}
 use Rattle.minimax.specs.Structs.{structs}
-use Rattle.minimax.specs.State.{bytes-of}
+use Rattle.minimax.specs.State.{bytes-of, line-of}
 
 -- document 01's numbers
 abbrev pub error-number : SearchError → ℕ
@@ -28,7 +35,7 @@ error-number Words = 17
 error-number Spent = 18
 
 abbrev pub ending-number : Ending → ℕ
-ending-number Whole = 0
+ending-number EndsWhole = 0
 ending-number Stopped = 0
 ending-number (Refused e) = error-number e
 
@@ -40,9 +47,12 @@ is-spent Words = false
 is-spent Spent = true
 
 abbrev pub ending-stopped : Ending → Bool
-ending-stopped Whole = false
+ending-stopped EndsWhole = false
 ending-stopped Stopped = true
 ending-stopped (Refused e) = is-spent e
+
+abbrev pub tally-of : Search → Tally
+tally-of s = record { visited = s .visited; terminal = s .terminal; cuts = s .cuts; tt-hit = s .«tt_hit»; tt-suffice = s .«tt_suffice» }
 
 abbrev pub stats-of : Stats → Meant
 stats-of s = record {
@@ -68,9 +78,41 @@ report-of r words = record {
   table = words;
 }
 
+-- refused at the entry
+abbrev pub refused-with : SearchError → List ℕ → List ℕ → List ℕ → Reported
+refused-with e xs os words = record {
+  number = error-number e;
+  is-stopped = is-spent e;
+  depth = 0;
+  score = pos 0;
+  line = replicate 81 no-move;
+  stats = replicate 81 no-stats;
+  count = 0;
+  answers-x = xs;
+  answers-o = os;
+  table = words;
+}
+
+abbrev pub entry-number : Entry → ℕ
+entry-number Allowed = 0
+entry-number (Turned e) = error-number e
+
+-- ---- the whole depths
+abbrev pub whole-of : Depths → Whole
+whole-of d = record { depth = d .depth; score = d .score; line = line-of (d .line) (d .depth); stats = take (d .depth) (map stats-of (d .stats)) }
+
+-- the places after the last whole depth are empty
+pub record Empty-on (d : Depths) : Type 0 where
+  pub most : d .depth ≤ 81
+  pub line-empty : drop (d .depth) (d .line .moves) ≡ replicate (81 - d .depth) (record { bits = no-move })
+  pub stats-empty : drop (d .depth) (map stats-of (d .stats)) ≡ replicate (81 - d .depth) no-stats
+
 abbrev pub empty-answers : Minimax
 empty-answers = record { «answers_x» = replicate 256 (record { bits = no-move }); «answers_o» = replicate 256 (record { bits = no-move }) }
 
--- the definition's report, of a game as a struct
+-- the definition's answer and report, of a game as a struct
+abbrev pub answer-of : Minimax → Game → Config → List ℕ → Answer
+answer-of m g c words = analyze (structs (c .«draw_winner»)) (at-most (c .allowance)) (c .«max_depth») g (fresh-memory (bytes-of (m .«answers_x»)) (bytes-of (m .«answers_o»)) words)
+
 abbrev pub reported-of : Minimax → Game → Config → List ℕ → Reported
 reported-of m g c words = reported (structs (c .«draw_winner»)) (settings-of c) g (bytes-of (m .«answers_x»)) (bytes-of (m .«answers_o»)) words

@@ -4,8 +4,19 @@
 mod search;
 
 ghost use mathlib.Core.Path.{_≡_};
-ghost use mathlib.Core.Bool.{_||_};
-ghost use Rattle.minimax.specs.Report.{empty-answers, report-of, reported-of};
+ghost use mathlib.Core.Bool.{_&&_};
+ghost use mathlib.Core.List.{List};
+ghost use Prim.Native.Nat.{ℕ, _+_, _≤_, _<_};
+ghost use lib.Dec.{eqb};
+ghost use lib.ListN.{drop};
+ghost use Rattle.base.specs.Branch.{if_then_else_};
+ghost use Rattle.rules.specs.Play.{no-move};
+ghost use Rattle.theory.specs.PlainMinimax.{lowest, highest};
+ghost use Rattle.theory.specs.Memory.{fresh-memory};
+ghost use Rattle.theory.specs.Deepening.{nothing-yet, one-deeper, decided};
+ghost use Rattle.theory.specs.Reported.{entry-refusal, report};
+ghost use Rattle.minimax.specs.State.{bytes-of, memory-of, line-of};
+ghost use Rattle.minimax.specs.Report.{tally-of, ending-number, ending-stopped, entry-number, stats-of, settings-of, whole-of, Empty-on, empty-answers, report-of, refused-with, answer-of, reported-of};
 use boards::Move;
 use evaluation::EVAL_LOST;
 use evaluation::EVAL_WON;
@@ -69,6 +80,168 @@ pub struct Report {
     pub stats: [Stats; 81],
 }
 
+// Whether a search may begin.
+enum Entry {
+    Allowed,
+    Refused(SearchError),
+}
+
+// What the whole depths have come to: the last one, its score and line, and the stats of each.
+struct Depths {
+    pub line: Line,
+    pub stats: [Stats; 81],
+    pub depth: u8,
+    pub score: i64,
+}
+
+impl Stats {
+    pub const NONE: Stats = Stats {
+        depth: 0,
+        score: 0,
+        visited: 0,
+        terminal: 0,
+        cuts: 0,
+        tt_hit: 0,
+        tt_suffice: 0,
+    };
+
+    fn of(depth: u8, r: Found) -> Stats
+        ensures { λ x. ⌜ stats-of x ≡ record { depth = depth; score = r .score; tally = tally-of (r .state) } ⌝ }
+    {
+        let state = r.state;
+        Stats {
+            depth: depth as u64,
+            score: r.score,
+            visited: state.visited,
+            terminal: state.terminal,
+            cuts: state.cuts,
+            tt_hit: state.tt_hit,
+            tt_suffice: state.tt_suffice,
+        }
+    }
+}
+
+impl Config {
+    // Refusals 15 to 17.
+    fn check(self, words: usize) -> Entry
+        ensures { λ r. ⌜ entry-number r ≡ entry-refusal (settings-of self) words ⌝ }
+    {
+        if self.max_depth == 0 {
+            return Entry::Refused(SearchError::Depth);
+        }
+        if self.max_depth > DEEPEST {
+            return Entry::Refused(SearchError::Depth);
+        }
+        if self.allowance == 0 {
+            return Entry::Refused(SearchError::Allowance);
+        }
+        if self.allowance > MOST_POSITIONS {
+            return Entry::Refused(SearchError::Allowance);
+        }
+        if words % 3 != 0 {
+            return Entry::Refused(SearchError::Words);
+        }
+        if words > MOST_WORDS {
+            return Entry::Refused(SearchError::Words);
+        }
+        Entry::Allowed
+    }
+
+    // What is asked of the root, one depth after the last whole one.
+    fn ask(self, game: Game, whole: Depths) -> Ask
+        requires { ⌜ whole .depth < 81 ⌝ }
+        ensures { λ r. ⌜ r ≡ record { game = game; depth = whole .depth + 1; alpha = lowest; beta = highest; prev = record { bits = no-move }; «draw_winner» = self .«draw_winner»; allowance = self .allowance } ⌝ }
+    {
+        let draw_winner = self.draw_winner;
+        Ask {
+            game,
+            depth: whole.depth + 1,
+            alpha: EVAL_LOST - 1,
+            beta: EVAL_WON + 1,
+            prev: Move::NONE,
+            draw_winner,
+            allowance: self.allowance,
+        }
+    }
+}
+
+impl Depths {
+    fn none() -> Depths
+        ensures { λ r. ⌜ (whole-of r ≡ nothing-yet) × Empty-on r ⌝ }
+    {
+        Depths {
+            line: Line::empty(),
+            stats: [Stats::NONE; 81],
+            depth: 0,
+            score: 0,
+        }
+    }
+
+    // One depth more.
+    fn deeper(self, r: Found) -> Depths
+        requires { ⌜ (self .depth < 81) × Empty-on self × (drop (self .depth + 1) (r .line .moves) ≡ drop (self .depth + 1) (self .line .moves)) ⌝ }
+        ensures { λ x. ⌜ (whole-of x ≡ one-deeper (whole-of self) (r .score) (line-of (r .line) (self .depth + 1)) (tally-of (r .state))) × Empty-on x × (x .line ≡ r .line) ⌝ }
+    {
+        let mut stats = self.stats;
+        let at = self.depth as usize;
+        let depth = self.depth + 1;
+        stats[at] = Stats::of(depth, r);
+        let line = r.line;
+        Depths {
+            line,
+            stats,
+            depth,
+            score: r.score,
+        }
+    }
+
+    // Whether the score ends the search.
+    fn is_decided(self) -> bool
+        ensures { λ r. ⌜ r ≡ decided (self .score) ⌝ }
+    {
+        if self.score <= EVAL_LOST {
+            return true;
+        }
+        self.score >= EVAL_WON
+    }
+
+    fn ending(self, stopped: bool) -> Ending
+        ensures { λ r. ⌜ (ending-number r ≡ (if stopped && eqb (self .depth) 0 then (λ _. 18) else λ _. 0)) × (ending-stopped r ≡ stopped) ⌝ }
+    {
+        if !stopped {
+            return Ending::Whole;
+        }
+        if self.depth == 0 {
+            return Ending::Refused(SearchError::Spent);
+        }
+        Ending::Stopped
+    }
+
+    fn report(self, state: Search, stopped: bool) -> Report
+        requires { ⌜ Empty-on self ⌝ }
+        ensures { λ r. ⌜ ((words : List ℕ) → report-of r words ≡ report (record { is-stopped = stopped; whole = whole-of self; memory = memory-of state words })) ⌝ }
+    {
+        let answers_x = state.answers_x;
+        let answers_o = state.answers_o;
+        let moves = self.line;
+        let line = moves.moves;
+        let stats = self.stats;
+        let ending = self.ending(stopped);
+        Report {
+            state: Minimax {
+                answers_x,
+                answers_o,
+            },
+            ending,
+            depth: self.depth as u64,
+            score: self.score,
+            count: state.count,
+            line,
+            stats,
+        }
+    }
+}
+
 impl Minimax {
     pub fn new() -> Minimax
         ensures { λ r. ⌜ r ≡ empty-answers ⌝ }
@@ -76,6 +249,68 @@ impl Minimax {
         Minimax {
             answers_x: [Move::NONE; 256],
             answers_o: [Move::NONE; 256],
+        }
+    }
+
+    fn refused(self, why: SearchError) -> Report
+        ensures { λ r. ⌜ ((words : List ℕ) → report-of r words ≡ refused-with why (bytes-of (self .«answers_x»)) (bytes-of (self .«answers_o»)) words) ⌝ }
+    {
+        Report {
+            state: self,
+            ending: Ending::Refused(why),
+            depth: 0,
+            score: 0,
+            count: 0,
+            line: [Move::NONE; 81],
+            stats: [Stats::NONE; 81],
+        }
+    }
+
+    // The search's state before its first depth.
+    fn begin(self) -> Search
+        ensures { λ r. ⌜ ((words : List ℕ) → memory-of r words ≡ fresh-memory (bytes-of (self .«answers_x»)) (bytes-of (self .«answers_o»)) words) ⌝ }
+    {
+        let answers_x = self.answers_x;
+        let answers_o = self.answers_o;
+        Search {
+            answers_x,
+            answers_o,
+            count: 0,
+            visited: 0,
+            terminal: 0,
+            cuts: 0,
+            tt_hit: 0,
+            tt_suffice: 0,
+        }
+    }
+
+    fn deepen(self, game: Game, config: Config, words: &mut [u64]) -> Report
+        requires { ⌜ (config .«max_depth» ≤ 81) × (config .allowance ≤ 1000000000) ⌝ }
+        ensures { λ r. ⌜ report-of r (now (words .exit)) ≡ report (answer-of self game config (now (words .entry))) ⌝ }
+    {
+        let mut whole = Depths::none();
+        let mut s = self.begin();
+        while (whole.depth as u64) < config.max_depth {
+            let r = search::minimax(config.ask(game, whole), s.begin(), whole.line, words);
+            if r.stopped {
+                return whole.report(r.state, true);
+            }
+            whole = whole.deeper(r);
+            s = r.state;
+            if whole.is_decided() {
+                return whole.report(s, false);
+            }
+        }
+        whole.report(s, false)
+    }
+
+    // Depth 1, 2, .. to the limit, ending sooner at a won or lost score, or when the allowance is spent.
+    pub fn analyze(self, game: Game, config: Config, words: &mut [u64]) -> Report
+        ensures { λ r. ⌜ report-of r (now (words .exit)) ≡ reported-of self game config (now (words .entry)) ⌝ }
+    {
+        match config.check(words.len()) {
+            Entry::Refused(why) => self.refused(why),
+            Entry::Allowed => self.deepen(game, config, words),
         }
     }
 }

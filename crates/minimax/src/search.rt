@@ -15,7 +15,7 @@ ghost use Rattle.rules.specs.Board.{other};
 ghost use Rattle.rules.specs.Position.{going};
 ghost use Rattle.rules.specs.Play.{no-move};
 ghost use Rattle.rules.specs.Evaluation.{evaluate};
-ghost use Rattle.theory.specs.Memory.{some-move, enter, leaf, hit, answered, answers-to, cut};
+ghost use Rattle.theory.specs.Memory.{some-move, begin, enter, leaf, hit, answered, answers-to, cut};
 ghost use Rattle.theory.specs.Table.{suffices, bound-of};
 ghost use Rattle.theory.specs.OrderedSearch.{candidates};
 ghost use Rattle.table.specs.Entries.{bound-number, entry-means};
@@ -120,6 +120,19 @@ impl Line {
 }
 
 impl Search {
+    // A depth begins.
+    pub(crate) fn begin(self) -> Search
+        ensures { λ r. ⌜ ((words : List ℕ) → memory-of r words ≡ begin (memory-of self words)) ⌝ }
+    {
+        let mut s = self;
+        s.visited = 0;
+        s.terminal = 0;
+        s.cuts = 0;
+        s.tt_hit = 0;
+        s.tt_suffice = 0;
+        s
+    }
+
     // A position is entered.
     fn enter(self) -> Search
         requires { ⌜ (self .count < 1000000000) × (self .visited < 1000000000) ⌝ }

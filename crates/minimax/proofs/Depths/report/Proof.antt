@@ -1,0 +1,24 @@
+-- The places after the last whole depth are empty.
+use mathlib.Core.Path.{_≡_}
+use lib.ListN.{length, length-map}
+use Rattle.minimax.proofs.Scores.{told}
+use Rattle.minimax.proofs.Reports.{report-made}
+use borrow.Author.Needs.{needs}
+use Rattle.minimax.proofs.Depths.report.Statement.{statement}
+use Rattle.minimax.proofs.Depths.report.Tie as tie
+
+ending-requires : tie.Need-ending-requires
+ending-requires c κs = search needs
+
+cast-t11 : tie.Need-cast-t11
+cast-t11 c = search needs
+
+returns : tie.Need-returns
+returns c =
+    let s = c .before .before .before .before .before .before .before .before in
+    let n : length (s .args .self .line .moves) ≡ 81 = simp length-map at (s .good .0 .1 .1 .0 .1 .1 .0 .1 .0 .1) in
+    let k : length (s .args .self .stats) ≡ 81 = simp length-map at (s .good .0 .1 .1 .1 .0 .1 .0 .1) in
+    report-made (s .args .self) (s .args .state) (s .args .stopped) (s .pre) n k (c .before .before .ending .result) (c .before .before .ending .ensures) _ (told (s .args .self .score) (c .struct-told .given .1 .1 .1 .0 .1))
+
+pub report-spec : {M : Type 1} → statement M
+report-spec = tie.close (tie.spec ending-requires cast-t11 returns)

@@ -1,0 +1,107 @@
+-- The entry's refusals, by the tests that the code makes.
+use mathlib.Core.Path.{_≡_, refl, sym}
+use mathlib.Core.Bool.{true, false, not, _&&_, _||_}
+use mathlib.Core.List.{List}
+use Prim.Native.Nat.{ℕ, _%_, _≤_, _<_}
+use native.Mathlib.Omega.{arith}
+use lib.Dec.{T, leb, eqb, leb→le}
+use lib.ListN.{length}
+use borrow.Author.Tests.{le-leb, lt-leb, eq-eqb, ne-eqb}
+use Rattle.base.specs.Branch.{if_then_else_}
+use Rattle.base.proofs.Branch.{if-ind}
+use Rattle.base.proofs.Bool.{and→, not-not}
+use Rattle.theory.specs.Game.{Game}
+use Rattle.theory.specs.Memory.{fresh-memory}
+use Rattle.theory.specs.OrderedSearch.{at-most}
+use Rattle.theory.specs.Deepening.{analyze}
+use Rattle.theory.specs.Reported.{Settings, entry-refusal, report, reported}
+use Rattle.minimax.specs.declared.SearchError.{SearchError}
+use Rattle.minimax.specs.declared.SearchError.the-variants.{Depth, Allowance, Words, Spent}
+use Rattle.minimax.specs.Report.{error-number, is-spent, refused-with}
+
+-- a number from 1 to k
+within : (n k : ℕ) → (n ≡ 0 → ⊥) → n ≤ k → (leb 1 n && leb n k) ≡ true
+within n k h g = rw (le-leb 1 n (omega arith), le-leb n k g)
+
+none : (n k : ℕ) → n ≡ 0 → (leb 1 n && leb n k) ≡ false
+none n k h = rw (lt-leb 1 n (omega arith))
+
+beyond : (n k : ℕ) → (n ≡ 0 → ⊥) → k < n → (leb 1 n && leb n k) ≡ false
+beyond n k h g = rw (le-leb 1 n (omega arith), lt-leb n k g)
+
+module _ (c : Settings) (words : ℕ) where
+  refused-15 : (leb 1 (c .max-depth) && leb (c .max-depth) 81) ≡ false → _≡_ {A = ℕ} 15 (entry-refusal c words)
+  unfolding entry-refusal if_then_else_
+  refused-15 e = rw e
+
+  pub no-depth : c .max-depth ≡ 0 → _≡_ {A = ℕ} 15 (entry-refusal c words)
+  no-depth h = refused-15 (none _ 81 h)
+
+  module _ (d : c .max-depth ≡ 0 → ⊥) where
+    pub too-deep : 81 < c .max-depth → _≡_ {A = ℕ} 15 (entry-refusal c words)
+    too-deep h = refused-15 (beyond _ 81 d h)
+
+    module _ (k : c .max-depth ≤ 81) where
+      refused-16 : (leb 1 (c .allowance) && leb (c .allowance) 1000000000) ≡ false → _≡_ {A = ℕ} 16 (entry-refusal c words)
+      unfolding entry-refusal if_then_else_
+      refused-16 e = rw (within _ 81 d k, e)
+
+      pub no-allowance : c .allowance ≡ 0 → _≡_ {A = ℕ} 16 (entry-refusal c words)
+      no-allowance h = refused-16 (none _ 1000000000 h)
+
+      module _ (a : c .allowance ≡ 0 → ⊥) where
+        pub too-many : 1000000000 < c .allowance → _≡_ {A = ℕ} 16 (entry-refusal c words)
+        too-many h = refused-16 (beyond _ 1000000000 a h)
+
+        module _ (b : c .allowance ≤ 1000000000) where
+          pub not-threes : (words % 3 ≡ 0 → ⊥) → _≡_ {A = ℕ} 17 (entry-refusal c words)
+          unfolding entry-refusal if_then_else_
+          not-threes h = rw (within _ 81 d k, within _ 1000000000 a b, ne-eqb (words % 3) 0 h)
+
+          module _ (z : words % 3 ≡ 0) where
+            pub too-long : 196608 < words → _≡_ {A = ℕ} 17 (entry-refusal c words)
+            unfolding entry-refusal if_then_else_
+            too-long h = rw (within _ 81 d k, within _ 1000000000 a b, eq-eqb (words % 3) 0 z, lt-leb words 196608 h)
+
+            pub none-refused : words ≤ 196608 → _≡_ {A = ℕ} 0 (entry-refusal c words)
+            unfolding entry-refusal if_then_else_
+            none-refused h = rw (within _ 81 d k, within _ 1000000000 a b, eq-eqb (words % 3) 0 z, le-leb words 196608 h)
+
+at-most-is : (n k : ℕ) → T (not (not (leb 1 n && leb n k))) → n ≤ k
+at-most-is n k t = leb→le n k (and→ (leb 1 n) (leb n k) (not-not (leb 1 n && leb n k) t) .1)
+
+-- ---- what an answer of it means
+module _ (c : Settings) (words : ℕ) where
+  pub limits : 0 ≡ entry-refusal c words → (c .max-depth ≤ 81) × (c .allowance ≤ 1000000000)
+  unfolding entry-refusal
+  limits = if-ind (λ (n : ℕ). 0 ≡ n → (c .max-depth ≤ 81) × (c .allowance ≤ 1000000000)) _ _ _ (λ _ e. absurd (omega arith))
+      (λ t. if-ind (λ (n : ℕ). 0 ≡ n → (c .max-depth ≤ 81) × (c .allowance ≤ 1000000000)) _ _ _ (λ _ e. absurd (omega arith))
+      (λ u _. (at-most-is (c .max-depth) 81 t, at-most-is (c .allowance) 1000000000 u)))
+
+  -- it is never 18
+  not-18 : 18 ≡ entry-refusal c words → ⊥
+  unfolding entry-refusal
+  not-18 = if-ind (λ (n : ℕ). 18 ≡ n → ⊥) _ _ _ (λ _ e. omega arith)
+      (λ _. if-ind (λ (n : ℕ). 18 ≡ n → ⊥) _ _ _ (λ _ e. omega arith)
+      (λ _. if-ind (λ (n : ℕ). 18 ≡ n → ⊥) _ _ _ (λ _ e. omega arith) (λ _ e. omega arith)))
+
+  not-spent : (e : SearchError) → error-number e ≡ entry-refusal c words → is-spent e ≡ false
+  not-spent Depth q = refl
+  not-spent Allowance q = refl
+  not-spent Words q = refl
+  not-spent Spent q = absurd (not-18 q)
+
+not-nought : (e : SearchError) → error-number e ≡ 0 → ⊥
+not-nought Depth q = omega arith
+not-nought Allowance q = omega arith
+not-nought Words q = omega arith
+not-nought Spent q = omega arith
+
+module _ (G : Game) (c : Settings) (p : G .Pos) (xs os words : List ℕ) where
+  pub refused-reported : (e : SearchError) → error-number e ≡ entry-refusal c (length words) → refused-with e xs os words ≡ reported G c p xs os words
+  unfolding reported if_then_else_
+  refused-reported e q = rw (sym q, ne-eqb (error-number e) 0 (not-nought e), not-spent c (length words) e q)
+
+  pub accepted-reported : 0 ≡ entry-refusal c (length words) → report (analyze G (at-most (c .allowance)) (c .max-depth) p (fresh-memory xs os words)) ≡ reported G c p xs os words
+  unfolding reported if_then_else_
+  accepted-reported q = rw (sym q)
