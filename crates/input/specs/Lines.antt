@@ -3,7 +3,7 @@ use mathlib.Core.Path.{_≡_}
 use mathlib.Core.Bool.{Bool, true, false, not, _&&_}
 use mathlib.Core.List.{List, [], _∷_, _++_}
 use Prim.Native.Nat.{ℕ, _+_, _*_, _%_, _^_}
-use lib.Dec.{eqb, ltb}
+use lib.Dec.{eqb, leb, ltb}
 use lib.ListN.{length, set, take, drop}
 use Rattle.base.specs.Branch.{if_then_else_}
 use Rattle.input.specs.declared.Line.{Line}
@@ -19,6 +19,10 @@ one-more n = if ltb n 0xffffffffffffffff then (λ _. n + 1) else λ _. n
 -- a line with one byte more
 abbrev pub longer : Line → ℕ → Line
 longer l b = record { length = one-more (l .length); last = l .last % 2 ^ 56 * 256 + b }
+
+-- the line, or nothing if it is longer than what is kept
+unfoldable pub whole : Line → List ℕ → List ℕ
+whole l kept = if leb (l .length) (length kept) then (λ _. take (l .length) kept) else λ _. []
 
 -- what bytes make of a line and of what is kept of it, the bytes left after a line feed, and whether one was met
 pub record Taken : Type 0 where

@@ -5,7 +5,7 @@ ghost use Prim.Native.Nat.{min};
 ghost use lib.ListN.{length, set};
 ghost use lib.Dec.{leb};
 ghost use Rattle.io.specs.Counts.{Counts};
-ghost use Rattle.input.specs.Lines.{new-line, longer, one-more, ended, Takes, Reads};
+ghost use Rattle.input.specs.Lines.{new-line, longer, one-more, whole, ended, Takes, Reads};
 use libc::STDIN_FILENO;
 
 const LONGEST: usize = 18446744073709551615;
@@ -24,7 +24,8 @@ pub struct Input {
     pub found: bool,
 }
 
-fn one_more(n: usize) -> usize
+// One more, but for the largest number.
+pub fn one_more(n: usize) -> usize
     ensures { λ r. ⌜ r ≡ one-more n ⌝ }
 {
     if n < LONGEST { n + 1 } else { n }
@@ -60,6 +61,14 @@ impl Line {
         ensures { λ r. ⌜ r ≡ leb (self .length) (length (now (kept .entry))) ⌝ }
     {
         self.length <= kept.len()
+    }
+
+    // The line, or nothing if not all of it was kept.
+    pub fn whole(self, kept: &[u8]) -> &[u8]
+        ensures { λ r. ⌜ now r ≡ whole self (now (kept .entry)) ⌝ }
+    {
+        let n = self.length;
+        if n <= kept.len() { &kept[..n] } else { &kept[..0] }
     }
 
     // How many bytes of the line were kept.

@@ -1,1 +1,5 @@
-pub mod Records
+pub mod Numbers
+pub mod Lists
+pub mod Fields
+pub mod Moves
+pub mod Totals

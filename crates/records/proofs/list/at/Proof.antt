@@ -1,10 +1,10 @@
 -- Past the end the list reads as its default.
 use mathlib.Core.Path.{sym}
-use denote.Ref.{now}
 use lib.ListN.{List·getD-eq-default}
+use denote.Ref.{now}
 use borrow.Author.Needs.{needs}
-use Rattle.records.proofs.at.Statement.{statement}
-use Rattle.records.proofs.at.Tie as tie
+use Rattle.records.proofs.list.at.Statement.{statement}
+use Rattle.records.proofs.list.at.Tie as tie
 
 mul-result : tie.Need-mul-result
 mul-result c = search needs
