@@ -3,3 +3,4 @@ pub mod Lists
 pub mod Fields
 pub mod Moves
 pub mod Totals
+pub mod States

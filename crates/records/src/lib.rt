@@ -3,6 +3,7 @@ pub mod fields;
 pub mod list;
 pub mod moves;
 pub mod number;
+pub mod states;
 pub mod totals;
 
 pub use fields::field;
@@ -18,5 +19,6 @@ pub use number::read_signed;
 pub use number::with_digit;
 pub use number::Number;
 pub use number::Signed;
+pub use states::state_number;
 pub use totals::Outcome;
 pub use totals::Totals;
