@@ -68,7 +68,11 @@ impl Line {
         ensures { λ r. ⌜ now r ≡ whole self (now (kept .entry)) ⌝ }
     {
         let n = self.length;
-        if n <= kept.len() { &kept[..n] } else { &kept[..0] }
+        if n <= kept.len() {
+            &kept[..n]
+        } else {
+            &kept[..0]
+        }
     }
 
     // How many bytes of the line were kept.

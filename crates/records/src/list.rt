@@ -3,8 +3,8 @@ ghost use mathlib.Core.Path.{_≡_};
 ghost use lib.ListN.{length, getD};
 ghost use Rattle.records.specs.Lists.{new-scan, spoilt, longer, scanned, written, scanned-all, counted};
 ghost use Rattle.records.specs.Numbers.{with-digit};
-use crate::number::with_digit;
 use crate::number::Number;
+use crate::number::with_digit;
 
 // A number that is being read, whether it has a digit yet, how many numbers stand before it, and whether all could be read.
 pub struct Scan {

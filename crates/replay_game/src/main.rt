@@ -255,7 +255,27 @@ fn same_equivalence(words: &[u64]) -> bool {
     back == records::at(words, 24)
 }
 
+// How many numbers a record of a play has, from what it says of its moves.
+fn play_length(words: &[u64], i: usize) -> usize
+    requires { ⌜ i < 1000 ⌝ }
+{
+    let count = (records::at(words, i) % 512) as usize;
+    let list = i + 16 + 2 * count;
+    list + 1 + (records::at(words, list) % 128) as usize
+}
+
+fn record_length(words: &[u64]) -> usize {
+    match records::at(words, 0) {
+        1 => play_length(words, 1),
+        2 => play_length(words, 12),
+        _ => 25,
+    }
+}
+
 fn agrees(words: &[u64]) -> bool {
+    if words.len() != record_length(words) {
+        return false;
+    }
     match records::at(words, 0) {
         1 => same_play(words, 1, Game::new()),
         2 => same_play(words, 12, position_at(words, 1)),
@@ -300,7 +320,7 @@ fn outcome(line: &[u8], words: &mut [u64]) -> Outcome {
     if n > words.len() {
         return Outcome::Differs;
     }
-    judged(&words[..n])
+    judged(&words[0..n])
 }
 
 // A proved loop has to end, and nothing says that the input does: the turns are counted down from a number that no run uses up.

@@ -208,8 +208,23 @@ fn same_parse(words: &[u64], kind: u64) -> bool {
     }
 }
 
+// How many numbers a record has, from its kind and what it says of its text.
+fn record_length(words: &[u64], kind: u64) -> usize {
+    let n = text_length(words);
+    match kind {
+        5 => n + 107,
+        7 => 3,
+        8 => 4,
+        9 => n + 103,
+        _ => n + 5,
+    }
+}
+
 fn agrees(words: &[u64]) -> bool {
     let kind = records::at(words, 0);
+    if words.len() != record_length(words, kind) {
+        return false;
+    }
     match kind {
         4 => same_parse(words, kind),
         5 => same_parse(words, kind),
@@ -262,7 +277,7 @@ fn outcome(line: &[u8], words: &mut [u64]) -> Outcome {
     if n > words.len() {
         return Outcome::Differs;
     }
-    judged(&words[..n])
+    judged(&words[0..n])
 }
 
 // A proved loop has to end, and nothing says that the input does: the turns are counted down from a number that no run uses up.
