@@ -2,7 +2,7 @@
 use mathlib.Core.Path.{_≡_, refl, sym, ap, _∙_}
 use mathlib.Core.Bool.{Bool, true, false}
 use mathlib.Core.List.{List, [], _∷_, _++_, append-nil}
-use Prim.Native.Nat.{ℕ, zero, suc, _+_, _<_, _≤_}
+use Prim.Native.Nat.{ℕ, zero, suc, _+_, _/_, _%_, _^_, _<_, _≤_}
 use native.Mathlib.Omega.{arith}
 use lib.Dec.{T, eqb}
 use lib.ListN.{length, set, take, length-append, length-set}
@@ -60,3 +60,10 @@ module _ (kept bs rest : List ℕ) (u : Unbroken bs) (fits : length bs ≤ lengt
 
   pub rest-left : taken new-line kept (bs ++ (10 ∷ rest)) .left ≡ rest
   rest-left = line-is-kept .left-is
+
+-- ---- the last bytes of a line of any length
+pub last-byte : (l : Line) (a : ℕ) → a < 256 → longer l a .last % 256 ≡ a
+last-byte l a h = omega arith
+
+pub byte-before : (l : Line) (a : ℕ) → a < 256 → longer l a .last / 256 ≡ l .last % 2 ^ 56
+byte-before l a h = omega arith
