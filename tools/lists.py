@@ -1,11 +1,13 @@
 #!/usr/bin/env python3
-"""Turn the Rust's stored answers into the lists of numbers that the replay programs read.
+"""Turn the Rust's stored answers into the lists that the replay programs read.
 
-usage: lists.py game ANSWERS > crates/replay_game/stdin
-       lists.py notation ANSWERS > crates/replay_notation/stdin
+usage: lists.py game ANSWERS.. > crates/replay_game/stdin
+       lists.py notation ANSWERS.. > crates/replay_notation/stdin
+       lists.py eval ANSWERS.. > crates/replay_eval/stdin
 
 ANSWERS is a folder of files KIND.req and KIND.ans, a request and an answer to a line, as the driver around the Rust
-engine gives them (docs/ORACLE.md). A list has a record to a line, decimal numbers parted by blanks:
+engine gives them (docs/ORACLE.md). A list has a record to a line. Of game and notation it is decimal numbers parted by
+single blanks:
 
   1 k m.. r..                       k moves tried from the empty board, and what each was answered: 0, or 9 to 13
   2 POSITION k m.. r..              the same from a position
@@ -22,6 +24,9 @@ POSITION is: side (X 0, O 1), next board (255 for free choice), x and o of each 
 drawn 1, won by X 2, won by O 3. apart is 1 where the Rust's list of moves differs from document 01's (a finished game
 has none), which is then the one expected; in 4 a text of over 256 bytes, or one on which the Rust panics, has document
 01's answer (1, or 5 at the mark).
+
+Of eval it is three fields parted by tabs: a position's text; the draw winner, X, O or - for none; the evaluation, a
+decimal number with a minus before it if it is below 0.
 """
 import re, sys
 
@@ -138,8 +143,19 @@ def notation(folder):
         yield [9, len(moves)] + moves + list(fields(answer)["render"].encode())
 
 
+def evaluations(folder):
+    for request, answer in pairs(folder, "eval"):
+        _, text, draw = request
+        assert re.fullmatch("-?[0-9]+", answer), answer
+        yield [text.decode(), draw.decode(), answer]
+
+
+LISTS = {"game": (game, " "), "notation": (notation, " "), "eval": (evaluations, "\t")}
+
 if __name__ == "__main__":
-    if len(sys.argv) != 3 or sys.argv[1] not in ("game", "notation"):
+    if len(sys.argv) < 3 or sys.argv[1] not in LISTS:
         sys.exit(__doc__)
-    for record in (game if sys.argv[1] == "game" else notation)(sys.argv[2]):
-        print(*record)
+    records, part = LISTS[sys.argv[1]]
+    for folder in sys.argv[2:]:
+        for record in records(folder):
+            print(*record, sep=part)

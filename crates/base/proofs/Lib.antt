@@ -10,3 +10,4 @@ pub mod Xor
 pub mod Agree
 pub mod Ones
 pub mod Kept
+pub mod Signed

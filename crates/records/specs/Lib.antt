@@ -1,1 +1,6 @@
-pub mod Records
+pub mod Numbers
+pub mod Lists
+pub mod Fields
+pub mod Moves
+pub mod Totals
+pub mod States

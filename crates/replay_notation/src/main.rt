@@ -5,14 +5,13 @@ ghost use Prim.Native.Nat.{_<_};
 ghost use lib.ListN.{length};
 use boards::Move;
 use game::Game;
-use libc::STDIN_FILENO;
-use libc::STDOUT_FILENO;
+use input::Input;
 use notation::ErrorKind;
 use notation::MoveTextAnswer;
 use notation::ParseAnswer;
-use records::Scan;
-use rules::GameState;
-use rules::Player;
+use records::Count;
+use records::Outcome;
+use records::Totals;
 use status::Read;
 use status::Status;
 
@@ -27,21 +26,6 @@ fn kind_number(e: ErrorKind) -> u64 {
         ErrorKind::TooFewSquares => 4,
         ErrorKind::BadBoard => 5,
         ErrorKind::TooShort => 6,
-    }
-}
-
-fn won_number(p: Player) -> u64 {
-    match p {
-        Player::X => 2,
-        Player::O => 3,
-    }
-}
-
-fn state_number(s: GameState) -> u64 {
-    match s {
-        GameState::InPlay => 0,
-        GameState::Drawn => 1,
-        GameState::Won(p) => won_number(p),
     }
 }
 
@@ -125,7 +109,7 @@ fn same_game(words: &[u64], n: usize, g: Game) -> bool
     if g.zobrist() != records::at(words, n + 104) {
         return false;
     }
-    if state_number(g.game_state()) != records::at(words, n + 105) {
+    if records::state_number(g.game_state()) != records::at(words, n + 105) {
         return false;
     }
     g.bound_depth() as u64 == records::at(words, n + 106)
@@ -224,8 +208,23 @@ fn same_parse(words: &[u64], kind: u64) -> bool {
     }
 }
 
+// How many numbers a record has, from its kind and what it says of its text.
+fn record_length(words: &[u64], kind: u64) -> usize {
+    let n = text_length(words);
+    match kind {
+        5 => n + 107,
+        7 => 3,
+        8 => 4,
+        9 => n + 103,
+        _ => n + 5,
+    }
+}
+
 fn agrees(words: &[u64]) -> bool {
     let kind = records::at(words, 0);
+    if words.len() != record_length(words, kind) {
+        return false;
+    }
     match kind {
         4 => same_parse(words, kind),
         5 => same_parse(words, kind),
@@ -259,139 +258,44 @@ fn is_apart(words: &[u64]) -> bool {
     }
 }
 
-pub struct Totals {
-    pub records: u64,
-    pub agreed: u64,
-    pub apart: u64,
-}
-
-// Where the reading stands.
-pub struct Progress {
-    pub scan: Scan,
-    pub totals: Totals,
-}
-
-fn one_more(n: u64) -> u64 {
-    if n < 1000000000 { n + 1 } else { n }
-}
-
-fn report(line: u64) {
-    io::write_all(STDOUT_FILENO, b"differs: record ");
-    io::print_decimal(STDOUT_FILENO, line);
-    io::write_all(STDOUT_FILENO, b"\n");
-}
-
-// The totals with one record more.
-fn tally(totals: Totals, words: &[u64]) -> Totals {
-    let records = one_more(totals.records);
+fn judged(words: &[u64]) -> Outcome {
     if !agrees(words) {
-        report(records);
-        return Totals {
-            records,
-            agreed: totals.agreed,
-            apart: totals.apart,
-        };
+        return Outcome::Differs;
     }
-    let apart = if is_apart(words) {
-        one_more(totals.apart)
+    if is_apart(words) {
+        Outcome::Apart
     } else {
-        totals.apart
+        Outcome::Agrees
+    }
+}
+
+// What is found of a line. One that is no list of numbers differs.
+fn outcome(line: &[u8], words: &mut [u64]) -> Outcome {
+    let Count::Of(n) = records::numbers(line, words) else {
+        return Outcome::Differs;
     };
-    Totals {
-        records,
-        agreed: one_more(totals.agreed),
-        apart,
-    }
-}
-
-// After one byte: a line feed ends a record.
-fn step(progress: Progress, b: u8, words: &mut [u64]) -> Progress {
-    let scan = progress.scan;
-    let totals = progress.totals;
-    let after = scan.push(b, words);
-    if b != b'\n' {
-        return Progress {
-            scan: after,
-            totals,
-        };
-    }
-    let n = after.count;
     if n > words.len() {
-        return Progress {
-            scan: Scan::NEW,
-            totals,
-        };
+        return Outcome::Differs;
     }
-    Progress {
-        scan: Scan::NEW,
-        totals: tally(totals, &words[0..n]),
-    }
-}
-
-fn feed(bytes: &[u8], progress: Progress, words: &mut [u64]) -> Progress {
-    let mut p = progress;
-    let mut i: usize = 0;
-    while i < bytes.len() {
-        p = step(p, bytes[i], words);
-        i += 1;
-    }
-    p
-}
-
-// After one read, and whether there may be more to read.
-pub struct Turn {
-    pub progress: Progress,
-    pub more: bool,
-}
-
-fn read_some(progress: Progress, words: &mut [u64]) -> Turn {
-    let mut buffer = io::large_buffer();
-    let got = libc::read(STDIN_FILENO, &mut buffer);
-    let n = io::count(got, &buffer);
-    if n == 0 {
-        return Turn {
-            progress,
-            more: false,
-        };
-    }
-    let after = feed(&buffer[..n], progress, words);
-    Turn {
-        progress: after,
-        more: true,
-    }
-}
-
-fn print_totals(t: Totals) {
-    io::print_decimal(STDOUT_FILENO, t.agreed);
-    io::write_all(STDOUT_FILENO, b" of ");
-    io::print_decimal(STDOUT_FILENO, t.records);
-    io::write_all(STDOUT_FILENO, b" records agree, ");
-    io::print_decimal(STDOUT_FILENO, t.apart);
-    io::write_all(
-        STDOUT_FILENO,
-        b" of them with document 01's answer for the Rust's\n",
-    );
+    judged(&words[0..n])
 }
 
 // A proved loop has to end, and nothing says that the input does: the turns are counted down from a number that no run uses up.
 fn main() {
+    let mut buffer = io::large_buffer();
+    let mut kept = io::buffer();
     let mut words = [0u64; MOST];
-    let mut progress = Progress {
-        scan: Scan::NEW,
-        totals: Totals {
-            records: 0,
-            agreed: 0,
-            apart: 0,
-        },
-    };
+    let mut input = Input::NEW;
+    let mut totals = Totals::NEW;
     let mut turns = u64::MAX;
     while turns > 0 {
-        let turn = read_some(progress, &mut words);
-        progress = turn.progress;
-        if !turn.more {
+        input = input.next_line(&mut buffer, &mut kept);
+        if input.is_end() {
             break;
         }
+        let line = input.line;
+        totals = totals.with_record(outcome(line.whole(&kept), &mut words));
         turns -= 1;
     }
-    print_totals(progress.totals);
+    totals.verdict(b"with document 01's answer for the Rust's");
 }

@@ -4,17 +4,12 @@ use mathlib.Core.Bool.{Bool, true, false, not}
 use Prim.Native.Nat.{ℕ, zero, suc, _-_, _^_, _<_}
 use native.Mathlib.Omega.{arith}
 use lib.Dec.{T, ltb→lt}
-use lib.IntN.{ℤ, pos, negsuc, negℤ, natAbs, sucℤ, _+ℤ_, _-ℤ_, +ℤ-idl, +ℤ-one, -ℤ-one}
+use lib.IntN.{ℤ, pos, negsuc, negℤ, natAbs, sucℤ, _+ℤ_, _-ℤ_, +ℤ-one, -ℤ-one}
 use lib.Signed.{mag, ltZ, nonNeg, _<ℤ_, _≤ℤ_, ltZ-yes, ltZ-no}
-use mir.Facts.{toZ-ofZ}
 use mir.Syntax.{w64}
-use mir.Val.{Fits, SFits, sel, toZ, ofZ}
-use borrow.Author.Tests.{lt-ltb}
+use mir.Val.{Fits, SFits, toZ, ofZ}
+use Rattle.base.proofs.Signed.{back, zero-sub}
 use Rattle.theory.specs.Table.{word-of}
-
--- a number that fits is read back from its bits
-pub back : (z : ℤ) → SFits w64 z → toZ w64 (ofZ w64 z) ≡ z
-back z h = toZ-ofZ h
 
 -- the order, from a test
 pub less : {a b : ℤ} → ltZ a b ≡ true → a <ℤ b
@@ -24,19 +19,6 @@ pub not-less : {a b : ℤ} → ltZ a b ≡ false → b ≤ℤ a
 not-less e = ltZ-no (subst (λ (b : Bool). T (not b)) (sym e) tt)
 
 -- ---- from a word
-pub low-word : (n : ℕ) → n < 9223372036854775808 → toZ w64 n ≡ pos n
-low-word n h = ap (λ (b : Bool). sel b (pos n) (negsuc (2 ^ 64 - suc n))) (lt-ltb n (2 ^ 63) h)
-
-zero-sub : (z : ℤ) → pos 0 -ℤ z ≡ negℤ z
-zero-sub z = +ℤ-idl (negℤ z)
-
-pub minus-fits : (n : ℕ) → n < 9223372036854775808 → SFits w64 (pos 0 -ℤ pos n)
-minus-fits n h = rw zero-sub (neg n h)
-  where
-    neg : (n : ℕ) → n < 9223372036854775808 → SFits w64 (negℤ (pos n))
-    neg zero h = record { sfits = omega arith }
-    neg (suc n) h = record { sfits = omega (arith, h) }
-
 -- -n - 1
 pub minus-one-more : (n : ℕ) → (pos 0 -ℤ pos n) -ℤ pos 1 ≡ negsuc n
 minus-one-more zero = refl

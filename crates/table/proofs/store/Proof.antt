@@ -8,7 +8,7 @@ use Rattle.theory.specs.Table.{word-of, replaces}
 use Rattle.table.specs.Entries.{entry-means}
 use Rattle.table.proofs.Rows.{held-at, store-off, store-refused, store-wrote}
 use borrow.Author.Needs.{needs}
-use Rattle.table.proofs.Signed.{back}
+use Rattle.base.proofs.Signed.{back}
 use Rattle.table.proofs.store.Statement.{statement}
 use Rattle.table.proofs.store.Tie as tie
 

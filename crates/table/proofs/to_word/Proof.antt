@@ -1,6 +1,7 @@
 -- A number from 0 on is its word, and of a negative one -(z + 1) is taken from 2^64 - 1, as the definition does.
 use native.Mathlib.Omega.{arith}
-use Rattle.table.proofs.Signed.{back, next-in, minus-next-in, minus-next-is, negative-word, natural-word}
+use Rattle.base.proofs.Signed.{back}
+use Rattle.table.proofs.Signed.{next-in, minus-next-in, minus-next-is, negative-word, natural-word}
 use Rattle.table.proofs.to_word.Statement.{statement}
 use Rattle.table.proofs.to_word.Tie as tie
 

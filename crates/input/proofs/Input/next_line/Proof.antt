@@ -1,0 +1,109 @@
+-- The bytes that came so far go on as those that are left do.
+use mathlib.Core.Path.{_≡_}
+use lib.ListN.{length}
+use lib.Seq.{drop-nil}
+use denote.Ref.{now}
+use borrow.Author.Needs.{needs}
+use Rattle.input.specs.Lines.{unused}
+use Rattle.input.proofs.Taking.{Went, went-none, went-on, went-from, reads, reads-end}
+use Rattle.input.proofs.Input.next_line.Statement.{statement}
+use Rattle.input.proofs.Input.next_line.Tie as tie
+
+abbrev Inv-loop : tie.InvT-loop
+Inv-loop buffer₀ kept₀ input₀ turns₀ buffer kept input turns = Went (input₀ .line) kept₀ (unused input₀ buffer₀) (input .line) kept (unused input buffer) × (length buffer ≡ length buffer₀) × (length kept ≡ length kept₀)
+
+abbrev μ-loop : tie.MeasureT-loop
+μ-loop buffer₀ kept₀ input₀ turns₀ buffer kept input turns = turns
+
+begun-requires : tie.Need-begun-requires Inv-loop μ-loop
+begun-requires c κs = search needs
+
+loop-holds : tie.Need-loop-holds Inv-loop μ-loop
+loop-holds c = (went-none _ _ _, search needs, search needs)
+
+take-requires : tie.Need-take-requires Inv-loop μ-loop
+take-requires c κs = search needs
+
+same-length : tie.Need-same-length Inv-loop μ-loop
+same-length c = search needs
+
+same-length-2 : tie.Need-same-length-2 Inv-loop μ-loop
+same-length-2 c = search needs
+
+returns : tie.Need-returns Inv-loop μ-loop
+returns c =
+    let a = c .before .before .before .before .before .before .before .before .before .before .before .args in
+    let l = c .before .before .before .before .before .before .before .loop in
+    reads (a .self) (now (a .buffer)) (now (a .kept)) (l .input) (l .buffer) (l .kept) _ _ (went-from (a .self) (c .before .before .before .before .before .before .before .before .begun .result) _ _ _ _ _ (c .before .before .before .before .before .before .before .before .begun .ensures) (l .inv .0)) (c .before .before .before .take .ensures)
+
+fill-requires : tie.Need-fill-requires Inv-loop μ-loop
+fill-requires c κs = search needs
+
+refilled-requires : tie.Need-refilled-requires Inv-loop μ-loop
+refilled-requires c κs = search needs
+
+same-length-3 : tie.Need-same-length-3 Inv-loop μ-loop
+same-length-3 c = search needs
+
+same-length-4 : tie.Need-same-length-4 Inv-loop μ-loop
+same-length-4 c = search needs
+
+returns-2 : tie.Need-returns-2 Inv-loop μ-loop
+returns-2 c =
+    let a = c .before .before .before .before .before .before .before .before .before .before .before .before .before .before .before .before .before .args in
+    let l = c .before .before .before .before .before .before .before .before .before .before .before .before .before .loop in
+    let r = c .before .refilled in
+    let w = went-on _ _ _ (l .input) (l .buffer) (l .kept) (c .before .before .before .before .before .before .before .before .before .take .result) _ (unused (r .result) (c .before .before .before .before .fill .last .0)) (l .inv .0) (c .before .before .before .before .before .before .before .before .before .take .ensures) (c .before .before .before .before .before .before .if1 .left) in
+    reads-end (a .self) (now (a .buffer)) (now (a .kept)) (r .result) _ _ (went-from (a .self) (c .before .before .before .before .before .before .before .before .before .before .before .before .before .before .begun .result) _ _ _ _ _ (c .before .before .before .before .before .before .before .before .before .before .before .before .before .before .begun .ensures) (rw (r .ensures .2) w)) (rw (r .ensures .1, c .if2 .taken) (drop-nil (r .result .at))) (r .ensures .3)
+
+sub-turns : tie.Need-sub-turns Inv-loop μ-loop
+sub-turns c = search needs
+
+loop-less : tie.Need-loop-less Inv-loop μ-loop
+loop-less c = search needs
+
+loop-again : tie.Need-loop-again Inv-loop μ-loop
+loop-again c =
+    let l = c .before .before .before .before .before .before .before .before .before .before .before .before .before .loop in
+    let r = c .before .refilled in
+    (rw (r .ensures .2) (went-on _ _ _ (l .input) (l .buffer) (l .kept) (c .before .before .before .before .before .before .before .before .before .take .result) _ (unused (r .result) (c .before .before .before .before .fill .last .0)) (l .inv .0) (c .before .before .before .before .before .before .before .before .before .take .ensures) (c .before .before .before .before .before .before .if1 .left)), search needs, search needs)
+
+take-requires-2 : tie.Need-take-requires-2 Inv-loop μ-loop
+take-requires-2 c κs = search needs
+
+same-length-5 : tie.Need-same-length-5 Inv-loop μ-loop
+same-length-5 c = search needs
+
+same-length-6 : tie.Need-same-length-6 Inv-loop μ-loop
+same-length-6 c = search needs
+
+returns-3 : tie.Need-returns-3 Inv-loop μ-loop
+returns-3 c =
+    let a = c .before .before .before .before .before .before .before .before .before .before .args in
+    let l = c .before .before .before .before .before .before .loop in
+    reads (a .self) (now (a .buffer)) (now (a .kept)) (l .input) (l .buffer) (l .kept) _ _ (went-from (a .self) (c .before .before .before .before .before .before .before .begun .result) _ _ _ _ _ (c .before .before .before .before .before .before .before .begun .ensures) (l .inv .0)) (c .before .before .take2 .ensures)
+
+pub next-line-spec : {M : Type 1} → statement M
+next-line-spec =
+    tie.close
+    (tie.spec
+    Inv-loop
+    μ-loop
+    begun-requires
+    loop-holds
+    take-requires
+    same-length
+    same-length-2
+    returns
+    fill-requires
+    refilled-requires
+    same-length-3
+    same-length-4
+    returns-2
+    sub-turns
+    loop-less
+    loop-again
+    take-requires-2
+    same-length-5
+    same-length-6
+    returns-3)

@@ -1,0 +1,69 @@
+-- A line that there is room for is kept as it came; the bytes after its end are left.
+use mathlib.Core.Path.{_≡_, refl, sym, ap, _∙_}
+use mathlib.Core.Bool.{Bool, true, false}
+use mathlib.Core.List.{List, [], _∷_, _++_, append-nil}
+use Prim.Native.Nat.{ℕ, zero, suc, _+_, _/_, _%_, _^_, _<_, _≤_}
+use native.Mathlib.Omega.{arith}
+use lib.Dec.{T, eqb}
+use lib.ListN.{length, set, take, length-append, length-set}
+use lib.Seq.{take-suc-set, append-snoc}
+use borrow.Author.Tests.{lt-ltb, le-leb, ne-eqb}
+use Rattle.base.specs.Branch.{if_then_else_}
+use Rattle.input.specs.declared.Line.{Line}
+use Rattle.input.specs.Lines.{new-line, one-more, longer, whole, Taken, taken}
+
+-- no byte of a list is a line feed
+abbrev pub Unbroken : List ℕ → Type 0
+Unbroken [] = Unit {0}
+Unbroken (b ∷ bs) = (b ≡ 10 → ⊥) × Unbroken bs
+
+pub one-more-is : (n : ℕ) → n < 18446744073709551615 → one-more n ≡ suc n
+unfolding one-more if_then_else_
+one-more-is n h = rw (lt-ltb n 18446744073709551615 h) (omega arith)
+
+-- what is known of a line once `came` came, and then a line feed and `rest`
+record Kept (came rest : List ℕ) (room : ℕ) (t : Taken) : Type 0 where
+  pub length-is : t .line .length ≡ length came
+  pub room-is : length (t .kept) ≡ room
+  pub kept-is : take (length came) (t .kept) ≡ came
+  pub left-is : t .left ≡ rest
+  pub found-is : t .found ≡ true
+
+goes : (l : Line) (kept came bs rest : List ℕ) → Unbroken bs → l .length ≡ length came → take (length came) kept ≡ came → length came + length bs ≤ length kept → length kept < 18446744073709551615 → Kept (came ++ bs) rest (length kept) (taken l kept (bs ++ (10 ∷ rest)))
+unfolding taken if_then_else_
+goes l kept came [] rest u e k fits small = rw (append-nil came) (record { length-is = e; room-is = refl; kept-is = k; left-is = refl; found-is = refl })
+goes l kept came (b ∷ bs) rest u e k fits small =
+    let n : l .length < length kept = omega arith in
+    let m : l .length < 18446744073709551615 = omega arith in
+    let more = came ++ (b ∷ []) in
+    let count : length more ≡ suc (length came) = simp length-append (omega arith) in
+    let len : one-more (l .length) ≡ length more = one-more-is (l .length) m ∙ ap suc e ∙ sym count in
+    let put : take (length more) (set kept (l .length) b) ≡ more = rw (count, ← e) (take-suc-set kept (l .length) b n ∙ rw (e, k)) in
+    let room : length (set kept (l .length) b) ≡ length kept = length-set kept (l .length) b in
+    let next = goes (longer l b) (set kept (l .length) b) more bs rest (u .1) len put (omega arith) (omega arith) in
+    rw (ne-eqb b 10 (u .0), ← append-snoc came b bs, ← room) next
+
+-- from a new line on
+module _ (kept bs rest : List ℕ) (u : Unbroken bs) (fits : length bs ≤ length kept) (small : length kept < 18446744073709551615) where
+  line-is-kept : Kept bs rest (length kept) (taken new-line kept (bs ++ (10 ∷ rest)))
+  line-is-kept = goes new-line kept [] bs rest u refl refl (omega arith) small
+
+  pub whole-line : whole (taken new-line kept (bs ++ (10 ∷ rest)) .line) (taken new-line kept (bs ++ (10 ∷ rest)) .kept) ≡ bs
+  unfolding whole if_then_else_
+  whole-line =
+      let l = line-is-kept in
+      let h : taken new-line kept (bs ++ (10 ∷ rest)) .line .length ≤ length (taken new-line kept (bs ++ (10 ∷ rest)) .kept) = omega (arith, l .length-is, l .room-is) in
+      rw (le-leb _ _ h, l .length-is) (l .kept-is)
+
+  pub line-found : taken new-line kept (bs ++ (10 ∷ rest)) .found ≡ true
+  line-found = line-is-kept .found-is
+
+  pub rest-left : taken new-line kept (bs ++ (10 ∷ rest)) .left ≡ rest
+  rest-left = line-is-kept .left-is
+
+-- ---- the last bytes of a line of any length
+pub last-byte : (l : Line) (a : ℕ) → a < 256 → longer l a .last % 256 ≡ a
+last-byte l a h = omega arith
+
+pub byte-before : (l : Line) (a : ℕ) → a < 256 → longer l a .last / 256 ≡ l .last % 2 ^ 56
+byte-before l a h = omega arith

@@ -1,0 +1,60 @@
+-- A line of bytes, as far as it came.
+use mathlib.Core.Path.{_≡_}
+use mathlib.Core.Bool.{Bool, true, false, not, _&&_}
+use mathlib.Core.List.{List, [], _∷_, _++_}
+use Prim.Native.Nat.{ℕ, _+_, _*_, _%_, _^_}
+use lib.Dec.{eqb, leb, ltb}
+use lib.ListN.{length, set, take, drop}
+use Rattle.base.specs.Branch.{if_then_else_}
+use Rattle.input.specs.declared.Line.{Line}
+use Rattle.input.specs.declared.Input.{Input}
+
+abbrev pub new-line : Line
+new-line = record { length = 0; last = 0 }
+
+-- one more, but for the largest number
+unfoldable pub one-more : ℕ → ℕ
+one-more n = if ltb n 0xffffffffffffffff then (λ _. n + 1) else λ _. n
+
+-- a line with one byte more
+abbrev pub longer : Line → ℕ → Line
+longer l b = record { length = one-more (l .length); last = l .last % 2 ^ 56 * 256 + b }
+
+-- the line, or nothing if it is longer than what is kept
+unfoldable pub whole : Line → List ℕ → List ℕ
+whole l kept = if leb (l .length) (length kept) then (λ _. take (l .length) kept) else λ _. []
+
+-- what bytes make of a line and of what is kept of it, the bytes left after a line feed, and whether one was met
+pub record Taken : Type 0 where
+  pub line : Line
+  pub kept : List ℕ
+  pub left : List ℕ
+  pub found : Bool
+
+unfoldable pub taken : Line → List ℕ → List ℕ → Taken
+taken l kept [] = record { line = l; kept = kept; left = []; found = false }
+taken l kept (b ∷ bs) = if eqb b 0x0a then (λ _. record { line = l; kept = kept; left = bs; found = true }) else λ _. taken (longer l b) (set kept (l .length) b) bs
+
+-- the bytes that are not yet used
+abbrev pub unused : Input → List ℕ → List ℕ
+unused i buffer = drop (i .at) (take (i .end) buffer)
+
+abbrev pub ended : Input → Bool
+ended i = not (i .found) && eqb (i .line .length) 0
+
+-- the input after a line was taken from it, in an unchanged buffer
+pub record Takes (i : Input) (buffer kept : List ℕ) (r : Input) (after : List ℕ) : Type 0 where
+  pub end-is : r .end ≡ i .end
+  pub line-is : r .line ≡ taken (i .line) kept (unused i buffer) .line
+  pub found-is : r .found ≡ taken (i .line) kept (unused i buffer) .found
+  pub kept-is : after ≡ taken (i .line) kept (unused i buffer) .kept
+  pub left-is : unused r buffer ≡ taken (i .line) kept (unused i buffer) .left
+  pub at-is : r .at + length (taken (i .line) kept (unused i buffer) .left) ≡ i .at + length (unused i buffer)
+
+-- the next line: the bytes that were not yet used, and then some that were read
+pub record Reads (i : Input) (buffer kept : List ℕ) (r : Input) (buffer-after after : List ℕ) : Type 0 where
+  pub came : List ℕ
+  pub line-is : r .line ≡ taken new-line kept (unused i buffer ++ came) .line
+  pub found-is : r .found ≡ taken new-line kept (unused i buffer ++ came) .found
+  pub kept-is : after ≡ taken new-line kept (unused i buffer ++ came) .kept
+  pub left-is : unused r buffer-after ≡ taken new-line kept (unused i buffer ++ came) .left

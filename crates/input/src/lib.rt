@@ -1,0 +1,183 @@
+// Lines of standard input, of any length, read into lent memory of any size.
+ghost use mathlib.Core.Path.{_≡_};
+ghost use mathlib.Core.Bool.{false};
+ghost use Prim.Native.Nat.{min};
+ghost use lib.ListN.{length, set};
+ghost use lib.Dec.{leb};
+ghost use Rattle.io.specs.Counts.{Counts};
+ghost use Rattle.input.specs.Lines.{new-line, longer, one-more, whole, ended, Takes, Reads};
+use libc::STDIN_FILENO;
+
+const LONGEST: usize = 18446744073709551615;
+
+// A line as far as it came: its length, and its last eight bytes as one number, the last one lowest.
+pub struct Line {
+    pub length: usize,
+    pub last: u64,
+}
+
+// The bytes of the buffer from `at` up to `end` are not yet used. `found` says that the line's end was met.
+pub struct Input {
+    pub at: usize,
+    pub end: usize,
+    pub line: Line,
+    pub found: bool,
+}
+
+// One more, but for the largest number.
+pub fn one_more(n: usize) -> usize
+    ensures { λ r. ⌜ r ≡ one-more n ⌝ }
+{
+    if n < LONGEST { n + 1 } else { n }
+}
+
+fn least(a: usize, b: usize) -> usize
+    ensures { λ r. ⌜ r ≡ min a b ⌝ }
+{
+    if a < b { a } else { b }
+}
+
+impl Line {
+    pub const NEW: Line = Line { length: 0, last: 0 };
+
+    // One byte more. It is kept if there is room.
+    pub fn push(self, b: u8, kept: &mut [u8]) -> Line
+        ensures { λ r. ⌜ (r ≡ longer self b) × (now (kept .exit) ≡ set (now (kept .entry)) (self .length) b) ⌝ }
+    {
+        let at = self.length;
+        let longer = Line {
+            length: one_more(at),
+            last: (self.last % 72057594037927936) * 256 + (b as u64),
+        };
+        if at < kept.len() {
+            kept[at] = b;
+            return longer;
+        }
+        longer
+    }
+
+    // Whether all of the line was kept.
+    pub fn is_whole(self, kept: &[u8]) -> bool
+        ensures { λ r. ⌜ r ≡ leb (self .length) (length (now (kept .entry))) ⌝ }
+    {
+        self.length <= kept.len()
+    }
+
+    // The line, or nothing if not all of it was kept.
+    pub fn whole(self, kept: &[u8]) -> &[u8]
+        ensures { λ r. ⌜ now r ≡ whole self (now (kept .entry)) ⌝ }
+    {
+        let n = self.length;
+        if n <= kept.len() {
+            &kept[..n]
+        } else {
+            &kept[..0]
+        }
+    }
+
+    // How many bytes of the line were kept.
+    pub fn count(self, kept: &[u8]) -> usize
+        ensures { λ r. ⌜ Counts r (now (kept .entry)) × (r ≡ min (self .length) (length (now (kept .entry)))) ⌝ }
+    {
+        least(self.length, kept.len())
+    }
+}
+
+impl Input {
+    pub const NEW: Input = Input {
+        at: 0,
+        end: 0,
+        line: Line::NEW,
+        found: false,
+    };
+
+    // Whether the input ended with nothing more on a line.
+    pub fn is_end(self) -> bool
+        ensures { λ r. ⌜ r ≡ ended self ⌝ }
+    {
+        let line = self.line;
+        if self.found { false } else { line.length == 0 }
+    }
+
+    // Takes the buffer's bytes up to the line's end, or all.
+    pub fn take(self, buffer: &[u8], kept: &mut [u8]) -> Input
+        ensures { λ r. ⌜ Takes self (now (buffer .entry)) (now (kept .entry)) r (now (kept .exit)) ⌝ }
+    {
+        let end = self.end;
+        let stop = least(end, buffer.len());
+        let mut line = self.line;
+        let mut i = self.at;
+        while i < stop {
+            let b = buffer[i];
+            i += 1;
+            if b == b'\n' {
+                return Input {
+                    at: i,
+                    end,
+                    line,
+                    found: true,
+                };
+            }
+            line = line.push(b, kept);
+        }
+        Input {
+            at: i,
+            end,
+            line,
+            found: false,
+        }
+    }
+
+    // The same line with the first `n` bytes of the buffer to use.
+    fn refilled(self, n: usize) -> Input
+        ensures { λ r. ⌜ (r .at ≡ 0) × (r .end ≡ n) × (r .line ≡ self .line) × (r .found ≡ false) ⌝ }
+    {
+        let line = self.line;
+        Input {
+            at: 0,
+            end: n,
+            line,
+            found: false,
+        }
+    }
+
+    // A new line, with the same bytes to use.
+    fn begun(self) -> Input
+        ensures { λ r. ⌜ (r .at ≡ self .at) × (r .end ≡ self .end) × (r .line ≡ new-line) ⌝ }
+    {
+        Input {
+            at: self.at,
+            end: self.end,
+            line: Line::NEW,
+            found: false,
+        }
+    }
+
+    // The next line: reads until its end is met or the input ends.
+    pub fn next_line(self, buffer: &mut [u8], kept: &mut [u8]) -> Input
+        ensures { λ r. ⌜ Reads self (now (buffer .entry)) (now (kept .entry)) r (now (buffer .exit)) (now (kept .exit)) ⌝ }
+    {
+        let mut input = self.begun();
+        let mut turns = u64::MAX;
+        while turns > 0 {
+            input = input.take(buffer, kept);
+            if input.found {
+                return input;
+            }
+            let n = fill(buffer);
+            input = input.refilled(n);
+            if n == 0 {
+                return input;
+            }
+            turns -= 1;
+        }
+        input.take(buffer, kept)
+    }
+}
+
+fn fill(buffer: &mut [u8]) -> usize
+    ensures { λ r. ⌜ Counts r (now (buffer .exit)) ⌝ }
+{
+    let got = libc::read(STDIN_FILENO, buffer);
+    io::count(got, buffer)
+}

@@ -1,0 +1,80 @@
+// Replays the Rust's answers on the evaluation, and prints how many agree and each record that does not.
+// A record is a position's text, the draw winner (X, O or - for none) and the evaluation, parted by tabs (tools/lists.py).
+use input::Input;
+use notation::ParseAnswer;
+use records::Outcome;
+use records::Signed;
+use records::Totals;
+use rules::DrawWinner;
+use rules::Player;
+
+pub enum Draw {
+    To(DrawWinner),
+    Bad,
+}
+
+fn draw_of(text: &[u8]) -> Draw {
+    if text.len() != 1 {
+        return Draw::Bad;
+    }
+    match text[0] {
+        b'-' => Draw::To(DrawWinner::Nobody),
+        b'X' => Draw::To(DrawWinner::Side(Player::X)),
+        b'O' => Draw::To(DrawWinner::Side(Player::O)),
+        _ => Draw::Bad,
+    }
+}
+
+fn is_score(text: &[u8], score: i64) -> bool {
+    match records::read_signed(text) {
+        Signed::Is(expected) => expected == score,
+        Signed::Bad => false,
+    }
+}
+
+fn agrees(position: &[u8], draw: &[u8], score: &[u8]) -> bool {
+    let parsed = notation::parse(position);
+    let answer = parsed.answer;
+    let ParseAnswer::Accepted = answer else {
+        return false;
+    };
+    let Draw::To(winner) = draw_of(draw) else {
+        return false;
+    };
+    is_score(score, evaluation::evaluate(parsed.game, winner))
+}
+
+// What is found of a line. One that can't be read differs.
+fn outcome(line: &[u8]) -> Outcome {
+    if records::tabs(line) != 2 {
+        return Outcome::Differs;
+    }
+    if agrees(
+        records::field(line, 0),
+        records::field(line, 1),
+        records::field(line, 2),
+    ) {
+        Outcome::Agrees
+    } else {
+        Outcome::Differs
+    }
+}
+
+// A proved loop has to end, and nothing says that the input does: the turns are counted down from a number that no run uses up.
+fn main() {
+    let mut buffer = io::large_buffer();
+    let mut kept = io::buffer();
+    let mut input = Input::NEW;
+    let mut totals = Totals::NEW;
+    let mut turns = u64::MAX;
+    while turns > 0 {
+        input = input.next_line(&mut buffer, &mut kept);
+        if input.is_end() {
+            break;
+        }
+        let line = input.line;
+        totals = totals.with_record(outcome(line.whole(&kept)));
+        turns -= 1;
+    }
+    totals.verdict(b"");
+}
