@@ -1,0 +1,26 @@
+-- The bytes of an answer, in a row with room for 224.
+use mathlib.Core.List.{List, [], _∷_}
+use Prim.Native.Nat.{ℕ, _+_, min}
+use lib.Dec.{ltb}
+use lib.ListN.{length, take, set}
+use Rattle.base.specs.Branch.{if_then_else_}
+use Rattle.line.specs.declared.out.Out.{Out}
+use Rattle.line.specs.Padded.{padded}
+
+abbrev pub new-out : Out
+new-out = record { bytes = padded 224 []; len = 0 }
+
+-- one byte more; where there is no room it is dropped
+unfoldable pub added : Out → ℕ → Out
+added o b = if ltb (o .len) 224 then (λ _. record { bytes = set (o .bytes) (o .len) b; len = o .len + 1 }) else λ _. o
+
+abbrev pub added-all : Out → List ℕ → Out
+added-all o [] = o
+added-all o (b ∷ bs) = added-all (added o b) bs
+
+-- the first 224 bytes of a text, the unused ones 0
+abbrev pub out-of : List ℕ → Out
+out-of t = record { bytes = padded 224 t; len = min (length t) 224 }
+
+abbrev pub out-text : Out → List ℕ
+out-text o = take (min (o .len) 224) (o .bytes)
