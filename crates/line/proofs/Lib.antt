@@ -1,3 +1,4 @@
+pub mod Joined
 pub mod Padded
 pub mod Decimals
 pub mod Depths

@@ -6,12 +6,14 @@ use Prim.Native.Nat.{ℕ, _+_, min, _≤_, _<_}
 use native.Mathlib.Decide.{decLt}
 use native.Mathlib.Numerals.{add-one}
 use native.Mathlib.Omega.{arith}
+use lib.IntN.{ℤ}
 use lib.ListN.{length, take, getD, set, length-append}
 use lib.Seq.{take-all, take-suc, take-length}
 use borrow.Author.Tests.{lt-ltb, le-ltb}
 use Rattle.base.specs.Branch.{if_then_else_}
 use Rattle.rules.specs.Status.{Status}
-use Rattle.text.specs.ProgramLine.{shown, status-letters}
+use Rattle.text.specs.Bytes.{blank}
+use Rattle.text.specs.ProgramLine.{decimal, signed, shown, status-letters, joined, spaced, answer-text}
 use Rattle.line.specs.declared.out.Out.{Out}
 use Rattle.line.specs.Padded.{padded}
 use Rattle.line.specs.OutBytes.{new-out, added, added-all, out-of, out-text}
@@ -86,3 +88,23 @@ pub written-whole : (t : List ℕ) → length t ≤ 224 → out-text (out-of t) 
 written-whole t h =
     let n : min (min (length t) 224) 224 ≡ length t = omega arith in
     rw n (take-padded (length t) 224 t h (omega arith) ∙ take-all (length t) t (omega arith))
+
+-- a text, a blank, and the rest
+pub then-blank : (o p q r : Out) (t u : List ℕ) → p ≡ added-all o t → q ≡ added p blank → r ≡ added-all q u → r ≡ added-all o (t ++ (blank ∷ u))
+then-blank o p q r t u e f g = g ∙ ap (λ (z : Out). added-all z u) (f ∙ ap (λ (z : Out). added z blank) e) ∙ sym (added-append o t (blank ∷ u))
+
+-- from nothing
+pub written-from : (o r : Out) (t : List ℕ) → o ≡ new-out → r ≡ added-all o t → r ≡ out-of t
+written-from o r t e f = f ∙ ap (λ (z : Out). added-all z t) e ∙ written t
+
+pub answer-written : (s : Status) (legal depth : ℕ) (score : ℤ) (count : ℕ) (line : List ℕ) (o₀ o₁ o₂ o₃ o₄ o₅ p₁ p₂ p₃ p₄ p₅ r : Out) → o₀ ≡ new-out →
+    p₁ ≡ added-all o₀ (status-letters s) → o₁ ≡ added p₁ blank → p₂ ≡ added-all o₁ (decimal legal) → o₂ ≡ added p₂ blank → p₃ ≡ added-all o₂ (decimal depth) → o₃ ≡ added p₃ blank →
+    p₄ ≡ added-all o₃ (signed score) → o₄ ≡ added p₄ blank → p₅ ≡ added-all o₄ (decimal count) → o₅ ≡ added p₅ blank → r ≡ added-all o₅ (joined line) →
+    r ≡ out-of (answer-text s legal depth score count line)
+answer-written s legal depth score count line o₀ o₁ o₂ o₃ o₄ o₅ p₁ p₂ p₃ p₄ p₅ r e e₁ f₁ e₂ f₂ e₃ f₃ e₄ f₄ e₅ f₅ g =
+    written-from o₀ r (answer-text s legal depth score count line) e
+    (then-blank o₀ p₁ o₁ r (status-letters s) (spaced (decimal legal ∷ decimal depth ∷ signed score ∷ decimal count ∷ joined line ∷ [])) e₁ f₁
+    (then-blank o₁ p₂ o₂ r (decimal legal) (spaced (decimal depth ∷ signed score ∷ decimal count ∷ joined line ∷ [])) e₂ f₂
+    (then-blank o₂ p₃ o₃ r (decimal depth) (spaced (signed score ∷ decimal count ∷ joined line ∷ [])) e₃ f₃
+    (then-blank o₃ p₄ o₄ r (signed score) (spaced (decimal count ∷ joined line ∷ [])) e₄ f₄
+    (then-blank o₄ p₅ o₅ r (decimal count) (joined line) e₅ f₅ g)))))

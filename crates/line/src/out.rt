@@ -2,9 +2,9 @@
 ghost use mathlib.Core.Path.{_≡_};
 ghost use Prim.Native.Nat.{min};
 ghost use Rattle.text.specs.MoveText.{move-text};
-ghost use Rattle.text.specs.ProgramLine.{decimal, signed, shown, status-letters};
+ghost use Rattle.text.specs.ProgramLine.{decimal, signed, shown, status-letters, joined, answer-text, refusal-text};
 ghost use Rattle.status.specs.Sets.{set-of};
-ghost use Rattle.line.specs.OutBytes.{new-out, added, added-all};
+ghost use Rattle.line.specs.OutBytes.{new-out, added, added-all, move-bytes, out-of};
 use boards::Move;
 use rules::Player;
 use status::Status;
@@ -91,6 +91,52 @@ impl Out {
     {
         let text = notation::render_move(m);
         self.text(&text)
+    }
+
+    // Moves up to the first empty one, joined; `-` if there is none.
+    pub fn moves(self, line: [Move; 81]) -> Out
+        ensures { λ r. ⌜ r ≡ added-all self (joined (move-bytes line)) ⌝ }
+    {
+        let first = line[0];
+        if first.is_none() {
+            return self.push(b'-');
+        }
+        let mut out = self;
+        let mut i: usize = 0;
+        while i < 81 {
+            let m = line[i];
+            if m.is_none() {
+                return out;
+            }
+            out = out.move_text(m);
+            i += 1;
+        }
+        out
+    }
+
+    // A line that is refused: `E` and the number.
+    pub fn refused(number: u64) -> Out
+        ensures { λ r. ⌜ r ≡ out-of (refusal-text number) ⌝ }
+    {
+        Out::new().push(b'E').push(b' ').decimal(number)
+    }
+
+    // A line that is answered.
+    pub fn answer(
+        status: Status,
+        legal: u64,
+        depth: u64,
+        score: i64,
+        count: u64,
+        line: [Move; 81],
+    ) -> Out
+        ensures { λ r. ⌜ r ≡ out-of (answer-text (set-of status) legal depth score count (move-bytes line)) ⌝ }
+    {
+        let first = Out::new().status(status).push(b' ');
+        let second = first.decimal(legal).push(b' ');
+        let third = second.decimal(depth).push(b' ');
+        let fourth = third.signed(score).push(b' ');
+        fourth.decimal(count).push(b' ').moves(line)
     }
 
     // How many bytes are to be written: they are the first ones.
