@@ -1,5 +1,5 @@
 -- The fewest digits that hold a number are the digits with no zero in front.
-use mathlib.Core.Path.{_≡_, refl, sym, ap, ap₂, _∙_, subst}
+use mathlib.Core.Path.{_≡_, sym, ap, ap₂, _∙_, subst}
 use mathlib.Core.List.{List, [], _∷_, _++_}
 use Prim.Native.Nat.{ℕ, zero, suc, _+_, _-_, _/_, _%_, _^_, _≤_, _<_}
 use native.Mathlib.Nat.{pow-suc}

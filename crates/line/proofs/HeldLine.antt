@@ -13,13 +13,13 @@ use borrow.Author.Tests.{lt-ltb, eqb-true, eq-eqb, ne-eqb}
 use Rattle.base.specs.Branch.{if_then_else_}
 use Rattle.text.specs.Bytes.{blank}
 use Rattle.text.specs.Reading.{refuses, read}
-use Rattle.text.specs.ProgramLine.{Parted, no-blank, around, parted, depth-of, Asked, no-depth, asks, asks-with, asked-by, asked}
+use Rattle.text.specs.ProgramLine.{Parted, no-blank, around, parted, depth-of, Asked, no-depth, asks, asks-with, asked-by, asked, line-refusal}
 use Rattle.text.proofs.ProgramLine.{Parts, parted-parts, parted-blank, followed, parted-other}
 use Rattle.line.specs.declared.held.After.{After}
-use Rattle.line.specs.declared.held.After.the-variants.{Nothing, One, Two, Other}
+use Rattle.line.specs.declared.held.After.the-variants.{Nothing}
 use Rattle.line.specs.declared.held.Held.{Held}
 use Rattle.line.specs.Padded.{padded}
-use Rattle.line.specs.HeldLine.{longer, depth-after, new-held, pushed, pushed-all, held-text, held-asks, Same-question, tail-of, before-blank, behind-blank, held-of}
+use Rattle.line.specs.HeldLine.{longer, depth-after, refusal-of, new-held, pushed, pushed-all, held-text, held-asks, Same-question, tail-of, before-blank, behind-blank, held-of}
 use Rattle.line.proofs.Padded.{set-padded, take-padded}
 
 -- ---- one byte more
@@ -44,7 +44,9 @@ pub pushed-held : (line : List ℕ) (b : ℕ) → pushed (held-of line) b ≡ he
 unfolding pushed
 pushed-held line b = go (eqb b blank) refl
   where
-    made : (t : Bool) (q : Parted) → parted (line ++ (b ∷ [])) ≡ q → eqb b blank ≡ t → cond t (min (length line) 257) (before-blank (parted line)) ≡ before-blank q → cond t Nothing (longer (behind-blank (parted line)) b) ≡ behind-blank q → pushed (held-of line) b ≡ held-of (line ++ (b ∷ []))
+    made : (t : Bool) (q : Parted) → parted (line ++ (b ∷ [])) ≡ q → eqb b blank ≡ t →
+        cond t (min (length line) 257) (before-blank (parted line)) ≡ before-blank q → cond t Nothing (longer (behind-blank (parted line)) b) ≡ behind-blank q →
+        pushed (held-of line) b ≡ held-of (line ++ (b ∷ []))
     made t q e f x y = λ i. record {
       bytes = set-padded 257 line b i;
       len = one-longer line b i;
@@ -133,3 +135,17 @@ asks-parted line (around text rest) h =
 -- for every list of bytes: 19 exactly where the line has no depth, else the same depth, and a text that is read alike
 pub held-asks-the-same : (line : List ℕ) → Same-question (held-asks (pushed-all new-held line)) (asked line)
 held-asks-the-same line = subst (λ (h : Held). Same-question (held-asks h) (asked line)) (sym (line-held line)) (asks-parted line (parted line) (parted-parts line))
+
+-- so a line is refused by its number
+asks-refusal : (t : List ℕ) (d : Option ℕ) → refusal-of d ≡ line-refusal (asks-with t d)
+asks-refusal t none = refl
+asks-refusal t (some n) = refl
+
+same-refusal : (a b : Asked) → Same-question a b → line-refusal a ≡ line-refusal b
+same-refusal no-depth no-depth h = refl
+same-refusal no-depth (asks u m) h = absurd h
+same-refusal (asks t n) no-depth h = absurd h
+same-refusal (asks t n) (asks u m) h = refl
+
+pub held-refuses-the-same : (line : List ℕ) → refusal-of (depth-after (pushed-all new-held line .after)) ≡ line-refusal (asked line)
+held-refuses-the-same line = let h = pushed-all new-held line in asks-refusal (held-text h) (depth-after (h .after)) ∙ same-refusal (held-asks h) (asked line) (held-asks-the-same line)

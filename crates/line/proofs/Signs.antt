@@ -1,8 +1,7 @@
 -- A negative number is -(n + 1), and its text a minus and n + 1.
 use mathlib.Core.Path.{_≡_, refl, sym, ap, ap₂, _∙_, subst}
-use mathlib.Core.Bool.{Bool, true, false}
-use mathlib.Core.List.{_∷_}
-use Prim.Native.Nat.{ℕ, suc, _+_}
+use mathlib.Core.Bool.{true, false}
+use Prim.Native.Nat.{ℕ, _+_}
 use native.Mathlib.Numerals.{add-one}
 use native.Mathlib.Omega.{arith}
 use lib.Dec.{ltb→lt}

@@ -65,7 +65,9 @@ impl Out {
         ensures { λ r. ⌜ r ≡ added-all self (signed n) ⌝ }
     {
         if n < 0 {
-            return self.push(b'-').decimal((-(n + 1)) as u64 + 1);
+            let out = self.push(b'-');
+            let m = (-(n + 1)) as u64 + 1;
+            return out.decimal(m);
         }
         self.decimal(n as u64)
     }

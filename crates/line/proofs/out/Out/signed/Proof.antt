@@ -11,26 +11,29 @@ use Rattle.line.proofs.out.Out.signed.Tie as tie
 push-requires : tie.Need-push-requires
 push-requires c κs = search needs
 
-add-decimal : tie.Need-add-decimal
-add-decimal c = next-in (c .before .before .args .n) (c .before .before .fits .n) (c .before .if1 .taken)
+add-m : tie.Need-add-m
+add-m c = next-in (c .before .before .args .n) (c .before .before .fits .n) (c .before .if1 .taken)
 
-sub-decimal : tie.Need-sub-decimal
-sub-decimal c = minus-next-in (c .before .before .args .n) (c .before .before .fits .n) (c .before .if1 .taken)
+sub-m : tie.Need-sub-m
+sub-m c = minus-next-in (c .before .before .args .n) (c .before .before .fits .n) (c .before .if1 .taken)
 
-cast-decimal : tie.Need-cast-decimal
-cast-decimal c = rw (minus-next-is (c .before .before .args .n) (c .before .before .fits .n) (c .before .if1 .taken)) (tt, record { fits = omega (arith, c .before .before .fits .n .sfits) })
+cast-m : tie.Need-cast-m
+cast-m c = rw (minus-next-is (c .before .before .args .n) (c .before .before .fits .n) (c .before .if1 .taken)) (tt, record { fits = omega (arith, c .before .before .fits .n .sfits) })
 
-add-decimal-2 : tie.Need-add-decimal-2
-add-decimal-2 c = rw (minus-next-is (c .before .before .args .n) (c .before .before .fits .n) (c .before .if1 .taken)) (record { fits = omega (arith, c .before .before .fits .n .sfits) })
+add-m-2 : tie.Need-add-m-2
+add-m-2 c = rw (minus-next-is (c .before .before .args .n) (c .before .before .fits .n) (c .before .if1 .taken)) (record { fits = omega (arith, c .before .before .fits .n .sfits) })
 
 decimal-requires : tie.Need-decimal-requires
 decimal-requires c κs = search needs
 
 returns : tie.Need-returns
-returns c = negative-added _ _ (c .before .before .before .args .n) (c .before .before .before .fits .n) (c .before .before .if1 .taken) _ _ (ap natAbs (minus-next-is (c .before .before .before .args .n) (c .before .before .before .fits .n) (c .before .before .if1 .taken))) (c .before .push .ensures) (c .decimal .ensures)
+returns c =
+    negative-added _ _ (c .before .before .before .args .n) (c .before .before .before .fits .n) (c .before .before .if1 .taken) _ _
+    (ap natAbs (minus-next-is (c .before .before .before .args .n) (c .before .before .before .fits .n) (c .before .before .if1 .taken)))
+    (c .before .push .ensures) (c .decimal .ensures)
 
-cast-decimal-2 : tie.Need-cast-decimal-2
-cast-decimal-2 c = rw (back (c .before .args .n) (c .before .fits .n)) (natural-word (c .before .args .n) (c .before .fits .n) (c .if1 .left) .0)
+cast-decimal : tie.Need-cast-decimal
+cast-decimal c = rw (back (c .before .args .n) (c .before .fits .n)) (natural-word (c .before .args .n) (c .before .fits .n) (c .if1 .left) .0)
 
 decimal-requires-2 : tie.Need-decimal-requires-2
 decimal-requires-2 c κs = search needs
@@ -43,12 +46,12 @@ signed-spec =
     tie.close
     (tie.spec
     push-requires
-    add-decimal
-    sub-decimal
-    cast-decimal
-    add-decimal-2
+    add-m
+    sub-m
+    cast-m
+    add-m-2
     decimal-requires
     returns
-    cast-decimal-2
+    cast-decimal
     decimal-requires-2
     returns-2)

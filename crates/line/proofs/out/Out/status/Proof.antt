@@ -22,7 +22,11 @@ letter-requires-3 : tie.Need-letter-requires-3
 letter-requires-3 c κs = search needs
 
 returns : tie.Need-returns
-returns c = added-status _ _ _ _ (set-of (c .before .before .before .before .before .before .args .s)) _ _ _ (c .before .before .before .before .before .is-winnable .ensures) (c .before .before .before .before .is-winnable2 .ensures) (digit-test (c .before .before .before .before .before .before .args .s .bits) 2) (c .before .before .letter .ensures) (c .before .letter2 .ensures) (c .letter3 .ensures)
+returns c =
+    added-status _ _ _ _ (set-of (c .before .before .before .before .before .before .args .s)) _ _ _
+    (c .before .before .before .before .before .is-winnable .ensures) (c .before .before .before .before .is-winnable2 .ensures)
+    (digit-test (c .before .before .before .before .before .before .args .s .bits) 2)
+    (c .before .before .letter .ensures) (c .before .letter2 .ensures) (c .letter3 .ensures)
 
 pub status-spec : {M : Type 1} → statement M
 status-spec =
