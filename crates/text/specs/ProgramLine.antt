@@ -16,9 +16,9 @@ use Rattle.text.specs.MoveText.{move-text}
 -- what stands before the last blank, and what follows it
 pub data Parted : Type 0 where
   no-blank : Parted
-  around : List ℕ → List ℕ → Parted
+  around : (text rest : List ℕ) → Parted
 
--- c, in front of cs
+-- with c in front: a blank is the last one where none follows it
 abbrev pub parted-with : ℕ → List ℕ → Parted → Parted
 parted-with c cs no-blank = if eqb c blank then (λ _. around [] cs) else λ _. no-blank
 parted-with c cs (around text rest) = around (c ∷ text) rest
@@ -40,7 +40,7 @@ depth-of (c ∷ d ∷ e ∷ cs) = none
 pub data Asked : Type 0 where
   -- 19
   no-depth : Asked
-  asks : List ℕ → ℕ → Asked
+  asks : (text : List ℕ) (depth : ℕ) → Asked
 
 abbrev pub asks-with : List ℕ → Option ℕ → Asked
 asks-with text none = no-depth
