@@ -4,3 +4,4 @@ pub mod Reading
 pub mod RoundTrip
 pub mod MoveText
 pub mod Examples
+pub mod ProgramLine

@@ -27,3 +27,23 @@ letter O = 0x4f
 -- `a`, of board 0 or cell 0 of a move
 abbrev pub first-letter : ℕ
 first-letter = 0x61
+
+-- ---- of the program's lines
+abbrev pub blank : ℕ
+blank = 0x20
+
+-- of a negative number, and for no move
+abbrev pub minus : ℕ
+minus = 0x2d
+
+-- `0`
+abbrev pub first-digit : ℕ
+first-digit = 0x30
+
+-- `D`, of a draw
+abbrev pub letter-draw : ℕ
+letter-draw = 0x44
+
+-- `E`, of a refused line
+abbrev pub letter-refused : ℕ
+letter-refused = 0x45

@@ -2,3 +2,4 @@ pub mod Bytes
 pub mod Reading
 pub mod Writing
 pub mod MoveText
+pub mod ProgramLine

@@ -1,0 +1,3 @@
+pub mod Padded
+pub mod HeldLine
+pub mod OutBytes
