@@ -38,6 +38,10 @@ critical-past p s w b h = false-by (critical p w b) (λ t.
     deny (has-line (won-boards p w)) (sound→ p s .no-line w)
     (rw (line-same (put (won-boards p w) b true) (won-boards p w) (λ k l. put-else (won-boards p w) b k (λ e. omega arith))) at (crit→ p w b t .boards)))
 
+-- the set of a side that is known otherwise
+pub set-of-side : (p : Position) (w v : Player) (n : ℕ) → n ≡ digits (critical p w) 9 → w ≡ v → n ≡ digits (critical p v) 9
+set-of-side p w v n e q = e ∙ ap (λ (x : Player). digits (critical p x) 9) q
+
 module _ (p : Position) (w : Player) (n : ℕ) (e : n ≡ digits (critical p w) 9) where
   pub set-critical : T (sound p) → (b : ℕ) → bit n b ≡ critical p w b
   set-critical s = set-bit-all (critical p w) n e (critical-past p s w)

@@ -6,19 +6,17 @@ use native.Mathlib.Decide.{ℕ-discrete}
 use native.Mathlib.Omega.{arith}
 use lib.Bits.{bitAnd, bitOr, or-lt, and-le-l}
 use lib.Count.{ones, trailingZeros}
-use lib.Dec.{T, eqb}
+use lib.Dec.{T, eqb, lit<}
 use lib.ListN.{length}
 use borrow.Author.Tests.{eq-eqb, ne-eqb}
-use Rattle.base.specs.Bits.{bit, digits}
+use Rattle.base.specs.Bits.{bit}
 use Rattle.base.specs.Lists.{any}
-use Rattle.base.proofs.Agree.{any-same}
 use Rattle.base.proofs.Bool.{_⇒_, ⇒→}
 use Rattle.base.proofs.Digits.{bit-or}
 use Rattle.base.proofs.Every.{upTo, upTo-at, sameB, sameB-eq}
 use Rattle.base.proofs.Ones.{set-digits, how-many-ones, lowest-first}
 use Rattle.rules.specs.Board.{Line, lines, whole}
 use Rattle.rules.specs.Evaluation.{count}
-use Rattle.boards.specs.Masks.{masks}
 use Rattle.boards.proofs.Masks.{covers}
 use Rattle.evaluation.specs.Values.{line-at}
 use Rattle.evaluation.proofs.Lines.{mask-at, low}
@@ -90,9 +88,16 @@ module _ (player empty i : ℕ) (p : player < 512) (e : empty < 512) (h : i < 8)
       second false b r = absurd (let z : _≡_ {A = ℕ} 0 1 = cc in omega arith)
 
 -- ---- only the nine low digits count
+any-line : (f g : Line → Bool) → ((i : ℕ) → i < 8 → f (line-at i) ≡ g (line-at i)) → any f lines ≡ any g lines
+unfolding any
+any-line f g e = rw (e 0 (lit< tt), e 1 (lit< tt), e 2 (lit< tt), e 3 (lit< tt), e 4 (lit< tt), e 5 (lit< tt), e 6 (lit< tt), e 7 (lit< tt))
+
 module _ (own empty : ℕ → Bool) (n m : ℕ) (e : (k : ℕ) → k < 9 → bit n k ≡ own k) (d : (k : ℕ) → k < 9 → bit m k ≡ empty k) where
   pub lacks-low : (i : ℕ) → i < 8 → lacks-one (bit n) (bit m) (line-at i) ≡ lacks-one own empty (line-at i)
   unfolding lacks-one count
   lacks-low i h =
       let l = low i h in
       rw (e (line-at i .i) (l .0), e (line-at i .j) (l .1), e (line-at i .k) (l .2), d (line-at i .i) (l .0), d (line-at i .j) (l .1), d (line-at i .k) (l .2))
+
+  pub any-lacks : any (lacks-one (bit n) (bit m)) lines ≡ any (lacks-one own empty) lines
+  any-lacks = any-line (lacks-one (bit n) (bit m)) (lacks-one own empty) lacks-low

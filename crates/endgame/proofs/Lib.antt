@@ -5,3 +5,4 @@ pub mod Lacking
 pub mod Critical
 pub mod Attack
 pub mod Statuses
+pub mod Answers

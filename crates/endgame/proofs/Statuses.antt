@@ -1,22 +1,25 @@
--- Statuses: the code's sets are the written ones, and a position's sets are never in conflict, which `merged-is-a-set` of the rules shows.
-use mathlib.Core.Path.{_≡_, refl, sym, ap, _∙_}
+-- Statuses: the code's sets are the written ones. At no position are they in conflict, as `merged-is-a-set` of the rules shows.
+use mathlib.Core.Path.{_≡_, refl, sym, ap, ap₂, _∙_}
 use mathlib.Core.Bool.{Bool, true, false, not, cond, _&&_}
 use mathlib.Core.Option.{Option, none, some}
-use Prim.Native.Nat.{ℕ}
+use Prim.Native.Nat.{ℕ, _+_, _≤_}
 use native.Mathlib.Omega.{arith}
 use lib.Bits.{bitAnd}
-use lib.Dec.{T}
 use Rattle.base.specs.Branch.{if_then_else_}
 use Rattle.rules.specs.declared.Player.{Player}
 use Rattle.rules.specs.declared.Player.the-variants.{X, O}
 use Rattle.rules.specs.Board.{other}
 use Rattle.rules.specs.Status.{Status as Set, unproven, for-player, from-byte}
-use Rattle.rules.specs.Endgame.{proven, narrow, combine, or-unproven}
+use Rattle.rules.specs.Position.{Position}
+use Rattle.rules.specs.Endgame.{has-critical, prove-attacker, forced-loss, winnable, proven, narrow, combine, merged, stats, or-unproven}
+use Rattle.rules.proofs.Endgame.{merged-is-a-set}
 use Rattle.status.specs.declared.Status.{Status}
 use Rattle.status.specs.declared.Read.{Read}
 use Rattle.status.specs.declared.Read.the-variants.{Set as IsSet, Nothing}
 use Rattle.status.specs.Sets.{status-of, read-of}
 use Rattle.status.proofs.Sets.{merge-is-common}
+use Rattle.endgame.specs.declared.Stats.{Stats}
+use Rattle.endgame.specs.Means.{stats-of, Agrees}
 
 -- ---- what is proved
 module _ (t : Player) (wins loses : Bool) where
@@ -71,7 +74,46 @@ unfolding or-unproven
 set-read none a q = absurd (let z : _≡_ {A = ℕ} 0 1 = cc in omega arith)
 set-read (some s) a q = cc
 
-pub none-read : (s : Option Set) → Nothing ≡ read-of s → unproven ≡ or-unproven s
-unfolding or-unproven
-none-read none q = refl
-none-read (some s) q = absurd (let z : _≡_ {A = ℕ} 0 1 = cc in omega arith)
+-- and there is one where the sets agree
+pub never-none : (s : Option Set) → Agrees s → Nothing ≡ read-of s → ⊥
+never-none none a q = let e = a .1 in let z : _≡_ {A = ℕ} 0 1 = cc in omega arith
+never-none (some s) a q = let z : _≡_ {A = ℕ} 0 1 = cc in omega arith
+
+-- as they do at every position: the rules' law of the merges
+module _ (p : Position) (t : Player) (wins loses x o : Bool)
+    (et : t ≡ p .turn) (ew : wins ≡ prove-attacker p) (el : loses ≡ (not (prove-attacker p) && forced-loss p)) (ex : x ≡ winnable p X) (eo : o ≡ winnable p O) where
+  pub combined-is-merged : combine t wins loses x o ≡ merged p
+  unfolding merged
+  combined-is-merged = (λ i. combine (et i) (ew i) (el i) (ex i) (eo i)) ∙ loss-after-win (p .turn) (prove-attacker p) (forced-loss p) (winnable p X) (winnable p O)
+
+  pub sets-agree : Agrees (combine t wins loses x o)
+  sets-agree = let r = merged-is-a-set p in (r .0, combined-is-merged ∙ r .1)
+
+-- ---- the counts
+abbrev if-so : Bool → ℕ
+if-so b = cond b 1 0
+
+abbrev if-not : Bool → ℕ
+if-not b = cond b 0 1
+
+not-so : (b : Bool) → if-so (not b) ≡ if-not b
+not-so true = refl
+not-so false = refl
+
+pub counts : (p : Position) (s : Stats) (a d wins loses x o : Bool) → a ≡ has-critical p (p .turn) → d ≡ has-critical p (other (p .turn)) →
+    wins ≡ prove-attacker p → loses ≡ (not (prove-attacker p) && forced-loss p) → x ≡ winnable p X → o ≡ winnable p O →
+    s .«attacker_critical» ≡ if-so a → s .«defender_critical» ≡ if-so d → s .«both_critical» ≡ if-so (a && d) →
+    s .unwinnable ≡ if-so (not x) + if-so (not o) → s .«prove_attacker» ≡ if-so wins → s .«prove_defender» ≡ if-so loses → stats-of s ≡ stats p
+unfolding stats
+counts p s a d wins loses x o ea ed ew el ex eo sa sd sb su sw sl = λ i. record {
+  attacker-critical = (sa ∙ ap if-so ea) i;
+  defender-critical = (sd ∙ ap if-so ed) i;
+  both-critical = (sb ∙ ap₂ (λ (a d : Bool). if-so (a && d)) ea ed) i;
+  unwinnable = (su ∙ ap₂ _+_ (not-so x ∙ ap if-not ex) (not-so o ∙ ap if-not eo)) i;
+  prove-attacker = (sw ∙ ap if-so ew) i;
+  prove-defender = (sl ∙ ap if-so el) i;
+}
+
+pub at-most-one : (b : Bool) (n : ℕ) → n ≡ if-so b → n ≤ 1
+at-most-one true n e = omega arith
+at-most-one false n e = omega arith

@@ -1,7 +1,7 @@
 -- What an analysis and a judged move mean: the numbers of document 01, and the rules' status and counts.
 use mathlib.Core.Path.{_≡_}
 use mathlib.Core.Bool.{Bool}
-use mathlib.Core.Option.{Option}
+use mathlib.Core.Option.{Option, some}
 use Prim.Native.Nat.{ℕ}
 use Rattle.rules.specs.Status.{Status as Set}
 use Rattle.rules.specs.Endgame.{Stats as Counts, narrow, analysis, evaluate-move}
@@ -53,3 +53,7 @@ pub record Judges (g : Game) (m : Move) (r : MoveStatus) : Type 0 where
 -- what `limited` gives: of a set, or of none, what `narrow` leaves
 pub record Limits (can : Bool) (left : Status) (proven r : Read) : Type 0 where
   pub narrowed : (t : Set) (s : Option Set) → left ≡ status-of t → proven ≡ read-of s → r ≡ read-of (narrow can t s)
+
+-- the sets are not in conflict: one is left
+abbrev pub Agrees : Option Set → Type 0
+Agrees s = (t : Set) × (s ≡ some t)

@@ -10,7 +10,7 @@ ghost use Rattle.base.specs.Bits.{bit, digits};
 ghost use Rattle.base.specs.Lists.{any, all};
 ghost use Rattle.rules.specs.Board.{other, nine, lines};
 ghost use Rattle.rules.specs.Position.{going, open-board, free-cell};
-ghost use Rattle.rules.specs.Play.{board-of, cell-of};
+ghost use Rattle.rules.specs.Play.{cell-of};
 ghost use Rattle.rules.specs.Sound.{sound};
 ghost use Rattle.rules.specs.Status.{unproven};
 ghost use Rattle.rules.specs.Endgame.{critical, prove-attacker, forced-loss, winnable, proven, combine, no-stats, or-unproven, judge};
@@ -18,7 +18,7 @@ ghost use Rattle.status.specs.Sets.{status-of};
 ghost use Rattle.game.specs.Meaning.{position-of};
 ghost use Rattle.evaluation.specs.Values.{line-at};
 ghost use Rattle.endgame.specs.Parts.{live, lacks-one, critical-by};
-ghost use Rattle.endgame.specs.Means.{stats-of, Analyses, Judges, Limits};
+ghost use Rattle.endgame.specs.Means.{stats-of, Analyses, Judges, Limits, Agrees};
 use boards::Answer;
 use boards::Move;
 use boards::MoveError;
@@ -222,7 +222,7 @@ pub fn evaluate_move(pos: Game, m: Move) -> MoveStatus
 
 // As the Rust gives it, for a move that play accepts.
 fn move_status(pos: Game, m: Move) -> Status
-    requires { ⌜ T (sound (position-of pos)) × (board-of (m .bits) < 9) × (cell-of (m .bits) < 9) ⌝ }
+    requires { ⌜ T (sound (position-of pos)) × (cell-of (m .bits) < 9) ⌝ }
     ensures { λ r. ⌜ r ≡ status-of (judge (position-of pos) (m .bits)) ⌝ }
 {
     let states = pos.global_states;
@@ -268,8 +268,9 @@ fn limited(can: bool, left: Status, proven: Read) -> Read
     }
 }
 
-// No position gives a conflict of what is proved with what can be won, at which the Rust panics.
+// What is proved and what can still be won are not in conflict, so the Rust's two panics are never met.
 fn combined(who: Player, wins: bool, loses: bool, x: bool, o: bool) -> Status
+    requires { ⌜ Agrees (combine who wins loses x o) ⌝ }
     ensures { λ r. ⌜ r ≡ status-of (or-unproven (combine who wins loses x o)) ⌝ }
 {
     let proven = Read::Set(proven_of(who, wins, loses));
