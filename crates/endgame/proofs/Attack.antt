@@ -5,8 +5,8 @@ use mathlib.Core.Bool.{Bool, true, false, not, _||_, _&&_}
 use Prim.Native.Nat.{ℕ, _≤_, _<_}
 use native.Mathlib.Omega.{arith}
 use lib.Bits.{bitOr}
-use lib.Dec.{T, eqb, eqb→eq}
-use borrow.Author.Tests.{not-true, not-false, eq-eqb, ne-eqb}
+use lib.Dec.{T, eqb}
+use borrow.Author.Tests.{ne-eqb}
 use Rattle.base.specs.Bits.{bit, digits}
 use Rattle.base.specs.Branch.{if_then_else_}
 use Rattle.base.specs.Change.{put}
@@ -16,16 +16,16 @@ use Rattle.base.proofs.Bool.{deny, always}
 use Rattle.base.proofs.Every.{sameB, sameB-eq}
 use Rattle.rules.specs.declared.Player.{Player}
 use Rattle.rules.specs.Board.{other, nine, has-line}
-use Rattle.rules.specs.Position.{Due, free, at, Position, open-board, won-boards, free-cell}
+use Rattle.rules.specs.Position.{free, at, Position, open-board, won-boards, free-cell}
 use Rattle.rules.specs.Play.{board-of, cell-of}
 use Rattle.rules.specs.Sound.{sound}
 use Rattle.rules.specs.Status.{unproven, for-player}
 use Rattle.rules.specs.Endgame.{completes, critical, has-critical, suits, all-suit, lure, attack, prove-attacker, forced, forced-loss, judge}
 use Rattle.rules.proofs.Board.{nine-in}
 use Rattle.rules.proofs.Endgame.{crit→}
-use Rattle.rules.proofs.Sound.{Fair, sound→}
+use Rattle.rules.proofs.Sound.{sound→}
 use Rattle.boards.proofs.Masks.{line-same}
-use Rattle.endgame.proofs.Sets.{set-lt, set-bit, set-bit-all, none-in, joined-bit}
+use Rattle.endgame.proofs.Sets.{set-bit, set-bit-all, none-in, joined-bit}
 
 -- ---- critical sets
 put-else : (own : ℕ → Bool) (b k : ℕ) → (b ≡ k → ⊥) → put own b true k ≡ own k

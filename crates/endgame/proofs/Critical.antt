@@ -1,18 +1,18 @@
 -- Critical boards line by line: what a line lacks is one place, so the lines' boards together are the Rust's, which of a sound position are the written ones.
 use mathlib.Core.Path.{_≡_, refl, sym, ap, ap₂, _∙_, subst}
 use mathlib.Core.Bool.{Bool, true, false, not, cond, _||_, _&&_, and-true, and-false}
-use mathlib.Core.Logic.{_⊎_, inl, inr}
+use mathlib.Core.Logic.{inl, inr}
 use Prim.Native.Nat.{ℕ, _+_, _<_}
 use native.Mathlib.Omega.{arith}
 use lib.Bits.{bitAnd, bitOr, and-le-l}
-use lib.Count.{ones, trailingZeros}
+use lib.Count.{trailingZeros}
 use lib.Dec.{T, eqb, ltb, eqb→eq, ltb→lt}
 use lib.ListN.{take}
 use borrow.Author.Tests.{eqb-true, eq-eqb}
 use Rattle.base.specs.Bits.{bit, digits}
 use Rattle.base.specs.Lists.{any, all, In}
-use Rattle.base.proofs.Agree.{any-same, same-by, false-by}
-use Rattle.base.proofs.Bool.{and→, →and, →or-l, →or-r, is, deny}
+use Rattle.base.proofs.Agree.{same-by}
+use Rattle.base.proofs.Bool.{and→, →and, →or-l, →or-r, is}
 use Rattle.base.proofs.Digits.{bit-and}
 use Rattle.base.proofs.Every.{upTo, upTo-at, sameB, sameB-eq}
 use Rattle.base.proofs.Lists.{any-some, some-any, all-each}
@@ -20,11 +20,10 @@ use Rattle.base.proofs.Numbers.{digits-same, is-digits}
 use Rattle.rules.specs.declared.Player.{Player}
 use Rattle.rules.specs.Board.{nine, Line, lines, whole}
 use Rattle.rules.specs.Position.{Position, open-board, won-boards, free-cell, has}
-use Rattle.rules.specs.Sound.{sound}
 use Rattle.rules.specs.Evaluation.{count}
 use Rattle.rules.specs.Endgame.{critical}
 use Rattle.rules.proofs.Board.{in-nine}
-use Rattle.rules.proofs.Sound.{Fair, sound→}
+use Rattle.rules.proofs.Sound.{Fair}
 use Rattle.rules.proofs.Critical.{on, sole-empty, rust-critical, rust-critical-board, critical-is-rusts}
 use Rattle.boards.specs.Masks.{mask-of}
 use Rattle.evaluation.specs.Values.{line-at}

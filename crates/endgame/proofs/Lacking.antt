@@ -1,7 +1,7 @@
 -- Lines that lack one place: the masks find them, and the lowest bit of what a line lacks is that place.
-use mathlib.Core.Path.{_≡_, refl, sym, ap, ap₂, _∙_}
-use mathlib.Core.Bool.{Bool, true, false, not, cond, _||_, _&&_}
-use Prim.Native.Nat.{ℕ, zero, suc, _+_, _-_, _^_, _≤_, _<_}
+use mathlib.Core.Path.{_≡_, sym, ap, _∙_}
+use mathlib.Core.Bool.{Bool, true, false, _||_, _&&_}
+use Prim.Native.Nat.{ℕ, suc, _-_, _^_, _<_}
 use native.Mathlib.Decide.{ℕ-discrete}
 use native.Mathlib.Omega.{arith}
 use lib.Bits.{bitAnd, bitOr, or-lt, and-le-l}
@@ -14,7 +14,7 @@ use Rattle.base.specs.Lists.{any}
 use Rattle.base.proofs.Bool.{_⇒_, ⇒→}
 use Rattle.base.proofs.Digits.{bit-or}
 use Rattle.base.proofs.Every.{upTo, upTo-at, sameB, sameB-eq}
-use Rattle.base.proofs.Ones.{set-digits, how-many-ones, lowest-first}
+use Rattle.base.proofs.Ones.{how-many-ones, lowest-first}
 use Rattle.rules.specs.Board.{Line, lines, whole}
 use Rattle.rules.specs.Evaluation.{count}
 use Rattle.boards.proofs.Masks.{covers}

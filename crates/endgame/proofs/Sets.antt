@@ -1,6 +1,6 @@
 -- Sets of boards, or of cells, as nine digits: what the bit operations make of the tests that they stand for.
 use mathlib.Core.Path.{_≡_, refl, sym, ap, ap₂, _∙_}
-use mathlib.Core.Bool.{Bool, true, false, not, _||_, _&&_, and-true, and-assoc}
+use mathlib.Core.Bool.{Bool, true, false, not, _||_, _&&_, and-true}
 use Prim.Native.Nat.{ℕ, _-_, _*_, _%_, _^_, _≤_, _<_}
 use native.Mathlib.Decide.{decLt}
 use native.Mathlib.Omega.{arith}

@@ -1,6 +1,6 @@
 -- Soundness, test by test, in the code's order.
-use mathlib.Core.Path.{_≡_, refl}
-use mathlib.Core.Bool.{Bool, true, false, not, _||_, _&&_, and-false}
+use mathlib.Core.Path.{_≡_}
+use mathlib.Core.Bool.{Bool, true, false, not}
 use Prim.Native.Nat.{ℕ}
 use Rattle.base.specs.Lists.{any, all}
 use Rattle.rules.specs.declared.Player.the-variants.{X, O}

@@ -1,5 +1,5 @@
 -- Statuses: the code's sets are the written ones. At no position are they in conflict, as `merged-is-a-set` of the rules shows.
-use mathlib.Core.Path.{_≡_, refl, sym, ap, ap₂, _∙_}
+use mathlib.Core.Path.{_≡_, refl, ap, ap₂, _∙_}
 use mathlib.Core.Bool.{Bool, true, false, not, cond, _&&_}
 use mathlib.Core.Option.{Option, none, some}
 use Prim.Native.Nat.{ℕ, _+_, _≤_}
@@ -14,7 +14,6 @@ use Rattle.rules.specs.Position.{Position}
 use Rattle.rules.specs.Endgame.{has-critical, prove-attacker, forced-loss, winnable, proven, narrow, combine, merged, stats, or-unproven}
 use Rattle.rules.proofs.Endgame.{merged-is-a-set}
 use Rattle.status.specs.declared.Status.{Status}
-use Rattle.status.specs.declared.Read.{Read}
 use Rattle.status.specs.declared.Read.the-variants.{Set as IsSet, Nothing}
 use Rattle.status.specs.Sets.{status-of, read-of}
 use Rattle.status.proofs.Sets.{merge-is-common}

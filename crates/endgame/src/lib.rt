@@ -3,7 +3,7 @@
 // sound is refused, and so is a move that play refuses; the counts come back with the analysis; sums of counts and printing are left out.
 ghost use mathlib.Core.Path.{_≡_};
 ghost use mathlib.Core.Bool.{not, cond, _||_, _&&_};
-ghost use Prim.Native.Nat.{ℕ, _<_};
+ghost use Prim.Native.Nat.{_<_};
 ghost use lib.Count.{ones};
 ghost use lib.Dec.{T, eqb};
 ghost use Rattle.base.specs.Bits.{bit, digits};

@@ -1,7 +1,6 @@
 -- The cases of `judge`, in its order.
 use mathlib.Core.Path.{_≡_, sym, ap, _∙_}
 use mathlib.Core.Bool.{Bool, true, false}
-use Prim.Native.Nat.{ℕ}
 use lib.Bits.{bitOr}
 use borrow.Author.Tests.{eq-eqb, ne-eqb}
 use Rattle.base.specs.Bits.{bit, digits}
