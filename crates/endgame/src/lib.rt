@@ -174,11 +174,12 @@ impl Analysis {
         let loses = both(!wins, forced);
         let x = is_winnable(pos, Player::X);
         let o = is_winnable(pos, Player::O);
+        let unwinnable = count(!x) + count(!o);
         let stats = Stats {
             attacker_critical: count(attacker),
             defender_critical: count(defender),
             both_critical: count(both(attacker, defender)),
-            unwinnable: count(!x) + count(!o),
+            unwinnable,
             prove_attacker: count(wins),
             prove_defender: count(loses),
         };

@@ -60,8 +60,8 @@ count-requires c κs = search needs
 count-requires-2 : tie.Need-count-requires-2
 count-requires-2 c κs = search needs
 
-both-requires-2 : tie.Need-both-requires-2
-both-requires-2 c κs = search needs
+add-unwinnable : tie.Need-add-unwinnable
+add-unwinnable c = omega (arith, at-most-one (not (c .before .before .is-winnable2 .result)) _ (c .count2 .ensures), at-most-one (not (c .before .before .before .is-winnable .result)) _ (c .before .count .ensures))
 
 count-requires-3 : tie.Need-count-requires-3
 count-requires-3 c κs = search needs
@@ -69,11 +69,11 @@ count-requires-3 c κs = search needs
 count-requires-4 : tie.Need-count-requires-4
 count-requires-4 c κs = search needs
 
+both-requires-2 : tie.Need-both-requires-2
+both-requires-2 c κs = search needs
+
 count-requires-5 : tie.Need-count-requires-5
 count-requires-5 c κs = search needs
-
-add-t22 : tie.Need-add-t22
-add-t22 c = omega (arith, at-most-one (not (c .before .before .before .before .before .before .is-winnable2 .result)) _ (c .count5 .ensures), at-most-one (not (c .before .before .before .before .before .before .before .is-winnable .result)) _ (c .before .count4 .ensures))
 
 count-requires-6 : tie.Need-count-requires-6
 count-requires-6 c κs = search needs
@@ -85,7 +85,7 @@ combined-requires : tie.Need-combined-requires
 combined-requires c κs = sets-agree (position-of (c .before .before .before .before .before .before .before .before .before .before .before .before .before .before .before .before .before .args .pos)) _ _ _ _ _ (c .before .before .before .before .before .before .before .before .before .before .before .before .before .before .before .before .player .ensures) (c .before .before .before .before .before .before .before .before .before .before .before .before .prove-attacker .ensures) (lost (c .before .before .before .before .before .before .before .before .before .before)) (c .before .before .before .before .before .before .before .before .before .is-winnable .ensures) (c .before .before .before .before .before .before .before .before .is-winnable2 .ensures)
 
 returns : tie.Need-returns
-returns c = analyses-as _ _ _ (analysis-made (position-of (c .before .before .before .before .before .before .before .before .before .before .before .before .before .before .before .before .before .before .args .pos)) (c .before .before .before .before .before .before .before .before .before .before .before .before .before .before .before .before .before .before .pre .0) (c .before .before .before .before .before .before .before .before .before .before .before .before .before .before .before .before .before .before .pre .1)) refl (c .combined .ensures ∙ ap (λ (s : Option Set). status-of (or-unproven s)) (combined-is-merged (position-of (c .before .before .before .before .before .before .before .before .before .before .before .before .before .before .before .before .before .before .args .pos)) _ _ _ _ _ (c .before .before .before .before .before .before .before .before .before .before .before .before .before .before .before .before .before .player .ensures) (c .before .before .before .before .before .before .before .before .before .before .before .before .before .prove-attacker .ensures) (lost (c .before .before .before .before .before .before .before .before .before .before .before)) (c .before .before .before .before .before .before .before .before .before .before .is-winnable .ensures) (c .before .before .before .before .before .before .before .before .before .is-winnable2 .ensures))) (counts (position-of (c .before .before .before .before .before .before .before .before .before .before .before .before .before .before .before .before .before .before .args .pos)) _ _ _ _ _ _ _ (sym (some-critical (position-of (c .before .before .before .before .before .before .before .before .before .before .before .before .before .before .before .before .before .before .args .pos)) _ _ (attackers (c .before .before .before .before .before .before .before .before .before .before .before .before .before .before)) _ refl)) (sym (some-critical (position-of (c .before .before .before .before .before .before .before .before .before .before .before .before .before .before .before .before .before .before .args .pos)) _ _ (defenders (c .before .before .before .before .before .before .before .before .before .before .before .before .before .before)) _ refl)) (c .before .before .before .before .before .before .before .before .before .before .before .before .before .prove-attacker .ensures) (lost (c .before .before .before .before .before .before .before .before .before .before .before)) (c .before .before .before .before .before .before .before .before .before .before .is-winnable .ensures) (c .before .before .before .before .before .before .before .before .before .is-winnable2 .ensures) (c .before .before .before .before .before .before .before .before .count .ensures) (c .before .before .before .before .before .before .before .count2 .ensures) (c .before .before .before .before .before .count3 .ensures ∙ ap (λ (b : Bool). cond b 1 0) (c .before .before .before .before .before .before .both2 .ensures)) (ap₂ _+_ (c .before .before .before .before .count4 .ensures) (c .before .before .before .count5 .ensures)) (c .before .before .count6 .ensures) (c .before .count7 .ensures))
+returns c = analyses-as _ _ _ (analysis-made (position-of (c .before .before .before .before .before .before .before .before .before .before .before .before .before .before .before .before .before .before .args .pos)) (c .before .before .before .before .before .before .before .before .before .before .before .before .before .before .before .before .before .before .pre .0) (c .before .before .before .before .before .before .before .before .before .before .before .before .before .before .before .before .before .before .pre .1)) refl (c .combined .ensures ∙ ap (λ (s : Option Set). status-of (or-unproven s)) (combined-is-merged (position-of (c .before .before .before .before .before .before .before .before .before .before .before .before .before .before .before .before .before .before .args .pos)) _ _ _ _ _ (c .before .before .before .before .before .before .before .before .before .before .before .before .before .before .before .before .before .player .ensures) (c .before .before .before .before .before .before .before .before .before .before .before .before .before .prove-attacker .ensures) (lost (c .before .before .before .before .before .before .before .before .before .before .before)) (c .before .before .before .before .before .before .before .before .before .before .is-winnable .ensures) (c .before .before .before .before .before .before .before .before .before .is-winnable2 .ensures))) (counts (position-of (c .before .before .before .before .before .before .before .before .before .before .before .before .before .before .before .before .before .before .args .pos)) _ _ _ _ _ _ _ (sym (some-critical (position-of (c .before .before .before .before .before .before .before .before .before .before .before .before .before .before .before .before .before .before .args .pos)) _ _ (attackers (c .before .before .before .before .before .before .before .before .before .before .before .before .before .before)) _ refl)) (sym (some-critical (position-of (c .before .before .before .before .before .before .before .before .before .before .before .before .before .before .before .before .before .before .args .pos)) _ _ (defenders (c .before .before .before .before .before .before .before .before .before .before .before .before .before .before)) _ refl)) (c .before .before .before .before .before .before .before .before .before .before .before .before .before .prove-attacker .ensures) (lost (c .before .before .before .before .before .before .before .before .before .before .before)) (c .before .before .before .before .before .before .before .before .before .before .is-winnable .ensures) (c .before .before .before .before .before .before .before .before .before .is-winnable2 .ensures) (c .before .before .before .before .before .before .count3 .ensures) (c .before .before .before .before .before .count4 .ensures) (c .before .before .before .count5 .ensures ∙ ap (λ (b : Bool). cond b 1 0) (c .before .before .before .before .both2 .ensures)) (ap₂ _+_ (c .before .before .before .before .before .before .before .before .count .ensures) (c .before .before .before .before .before .before .before .count2 .ensures)) (c .before .before .count6 .ensures) (c .before .count7 .ensures))
 
 pub analysed-spec : {M : Type 1} → statement M
 analysed-spec =
@@ -102,11 +102,11 @@ analysed-spec =
     is-winnable-requires-2
     count-requires
     count-requires-2
-    both-requires-2
+    add-unwinnable
     count-requires-3
     count-requires-4
+    both-requires-2
     count-requires-5
-    add-t22
     count-requires-6
     count-requires-7
     combined-requires
