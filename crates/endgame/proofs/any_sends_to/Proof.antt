@@ -47,7 +47,10 @@ tested c r e =
     ∙ sym (c .both .ensures ∙ ap₂ _&&_ (digit-test (a .dests) (c .before .before .before .loop .i)) (c .before .sends-to .ensures)) ∙ e
 
 returns : tie.Need-returns Inv-loop μ-loop
-returns c = any-found _ nine 0 (c .before .before .before .before .loop .i) (c .before .before .before .loop-test .taken) _ (c .before .before .before .before .loop .inv .1) (tested (c .before) _ (c .if1 .taken))
+returns c =
+    let at-loop-test = c .before .before .before in
+    let at-loop = at-loop-test .before in
+    any-found _ nine 0 (at-loop .loop .i) (at-loop-test .loop-test .taken) _ (at-loop .loop .inv .1) (tested (c .before) _ (c .if1 .taken))
 
 add-i : tie.Need-add-i Inv-loop μ-loop
 add-i c = search needs
@@ -56,7 +59,10 @@ loop-less : tie.Need-loop-less Inv-loop μ-loop
 loop-less c = search needs
 
 loop-again : tie.Need-loop-again Inv-loop μ-loop
-loop-again c = (search needs, any-missed _ nine 0 (c .before .before .before .before .loop .i) (c .before .before .before .loop-test .taken) _ (c .before .before .before .before .loop .inv .1) (tested (c .before) _ (c .if1 .left)))
+loop-again c =
+    let at-loop-test = c .before .before .before in
+    let at-loop = at-loop-test .before in
+    (search needs, any-missed _ nine 0 (at-loop .loop .i) (at-loop-test .loop-test .taken) _ (at-loop .loop .inv .1) (tested (c .before) _ (c .if1 .left)))
 
 returns-2 : tie.Need-returns-2 Inv-loop μ-loop
 unfolding any

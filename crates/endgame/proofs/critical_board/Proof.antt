@@ -23,7 +23,13 @@ is-critical-requires : tie.Need-is-critical-requires
 is-critical-requires c κs = (set-lt _ _ (c .playerbits .ensures), set-lt _ _ (c .before .openbits .ensures), c .before .before .before .before .pre)
 
 returns : tie.Need-returns
-returns c = line-lacks-none (position-of (c .before .before .before .before .before .before .args .pos)) _ _ _ _ (c .before .before .before .before .before .before .pre) (c .before .before .playerbits .ensures) (c .before .before .before .openbits .ensures) _ (c .before .is-critical .ensures) (not-true _ (c .if1 .taken))
+returns c =
+    let at-playerbits = c .before .before in
+    let at-openbits = at-playerbits .before in
+    let start = at-openbits .before .before .before in
+    let p = position-of (start .args .pos) in
+    line-lacks-none p _ _ _ _ (start .pre) (at-playerbits .playerbits .ensures) (at-openbits .openbits .ensures) _ (c .before .is-critical .ensures)
+    (not-true _ (c .if1 .taken))
 
 mul-lacked : tie.Need-mul-lacked
 mul-lacked c = search needs
@@ -44,10 +50,34 @@ has-critical-requires : tie.Need-has-critical-requires
 has-critical-requires c κs = (set-lt _ _ (c .before .playerbits2 .ensures), set-lt _ _ (c .free-squares .ensures))
 
 returns-2 : tie.Need-returns-2
-returns-2 c = line-found (position-of (c .before .before .before .before .before .before .before .before .before .before .args .pos)) _ _ _ _ (c .before .before .before .before .before .before .before .before .before .before .pre) (c .before .before .before .before .before .before .playerbits .ensures) (c .before .before .before .before .before .before .before .openbits .ensures) _ (c .before .before .before .before .before .is-critical .ensures) (not-false _ (c .before .before .before .before .if1 .left)) _ (c .before .has-critical .ensures ∙ any-lacks _ _ _ _ (set-bit _ _ (c .before .before .before .playerbits2 .ensures)) (set-bit _ _ (c .before .before .free-squares .ensures))) (c .if2 .taken)
+returns-2 c =
+    let at-free-squares = c .before .before in
+    let at-playerbits2 = at-free-squares .before in
+    let at-if1 = at-playerbits2 .before in
+    let at-is-critical = at-if1 .before in
+    let at-playerbits = at-is-critical .before in
+    let at-openbits = at-playerbits .before in
+    let start = at-openbits .before .before .before in
+    let p = position-of (start .args .pos) in
+    line-found p _ _ _ _ (start .pre) (at-playerbits .playerbits .ensures) (at-openbits .openbits .ensures) _ (at-is-critical .is-critical .ensures)
+    (not-false _ (at-if1 .if1 .left)) _
+    (c .before .has-critical .ensures ∙ any-lacks _ _ _ _ (set-bit _ _ (at-playerbits2 .playerbits2 .ensures)) (set-bit _ _ (at-free-squares .free-squares .ensures)))
+    (c .if2 .taken)
 
 returns-3 : tie.Need-returns-3
-returns-3 c = line-missed (position-of (c .before .before .before .before .before .before .before .before .before .before .args .pos)) _ _ _ _ (c .before .before .before .before .before .before .before .before .before .before .pre) (c .before .before .before .before .before .before .playerbits .ensures) (c .before .before .before .before .before .before .before .openbits .ensures) _ (c .before .before .before .before .before .is-critical .ensures) (not-false _ (c .before .before .before .before .if1 .left)) _ (c .before .has-critical .ensures ∙ any-lacks _ _ _ _ (set-bit _ _ (c .before .before .before .playerbits2 .ensures)) (set-bit _ _ (c .before .before .free-squares .ensures))) (c .if2 .left)
+returns-3 c =
+    let at-free-squares = c .before .before in
+    let at-playerbits2 = at-free-squares .before in
+    let at-if1 = at-playerbits2 .before in
+    let at-is-critical = at-if1 .before in
+    let at-playerbits = at-is-critical .before in
+    let at-openbits = at-playerbits .before in
+    let start = at-openbits .before .before .before in
+    let p = position-of (start .args .pos) in
+    line-missed p _ _ _ _ (start .pre) (at-playerbits .playerbits .ensures) (at-openbits .openbits .ensures) _ (at-is-critical .is-critical .ensures)
+    (not-false _ (at-if1 .if1 .left)) _
+    (c .before .has-critical .ensures ∙ any-lacks _ _ _ _ (set-bit _ _ (at-playerbits2 .playerbits2 .ensures)) (set-bit _ _ (at-free-squares .free-squares .ensures)))
+    (c .if2 .left)
 
 pub critical-board-spec : {M : Type 1} → statement M
 critical-board-spec =

@@ -29,7 +29,12 @@ played : (c : tie.After-enum-told) → let a = c .before .before .before .before
 played c = sym (c .before .before .make-move .ensures .number) ∙ ap answer-number (c .enum-told .given .1)
 
 move-status-requires : tie.Need-move-status-requires
-move-status-requires c κs = may-judge (position-of (c .before .before .before .before .before .args .pos)) _ (sym (c .before .before .before .before .is-unsound .ensures) ∙ c .before .before .before .if1 .left) (played c)
+move-status-requires c κs =
+    let at-if1 = c .before .before .before in
+    let at-is-unsound = at-if1 .before in
+    let start = at-is-unsound .before in
+    let p = position-of (start .args .pos) in
+    may-judge p _ (sym (at-is-unsound .is-unsound .ensures) ∙ at-if1 .if1 .left) (played c)
 
 enum-known-answer : tie.Need-enum-known-answer
 enum-known-answer c = search needs
@@ -38,10 +43,25 @@ unproven-requires-2 : tie.Need-unproven-requires-2
 unproven-requires-2 c κs = search needs
 
 returns-2 : tie.Need-returns-2
-returns-2 c = judges-as _ _ _ _ (judged-played (position-of (c .before .before .before .before .before .before .args .pos)) _ (sym (c .before .before .before .before .before .is-unsound .ensures) ∙ c .before .before .before .before .if1 .left) (played (c .before))) refl (c .move-status .ensures)
+returns-2 c =
+    let at-if1 = c .before .before .before .before in
+    let at-is-unsound = at-if1 .before in
+    let start = at-is-unsound .before in
+    let p = position-of (start .args .pos) in
+    judges-as _ _ _ _ (judged-played p _ (sym (at-is-unsound .is-unsound .ensures) ∙ at-if1 .if1 .left) (played (c .before))) refl
+    (c .move-status .ensures)
 
 returns-3 : tie.Need-returns-3
-returns-3 c = judges-as _ _ _ _ (judged-refused (position-of (c .before .before .before .before .before .before .before .args .pos)) _ (sym (c .before .before .before .before .before .before .is-unsound .ensures) ∙ c .before .before .before .before .before .if1 .left) (error-number (c .before .before .answer .given .0 .0)) (error-some (c .before .before .answer .given .0 .0)) (sym (ap answer-number (c .before .before .answer .given .1)) ∙ c .before .before .before .before .make-move .ensures .number)) refl (c .unproven2 .ensures)
+returns-3 c =
+    let at-answer = c .before .before in
+    let at-make-move = at-answer .before .before in
+    let at-if1 = at-make-move .before in
+    let at-is-unsound = at-if1 .before in
+    let start = at-is-unsound .before in
+    let p = position-of (start .args .pos) in
+    judges-as _ _ _ _
+    (judged-refused p _ (sym (at-is-unsound .is-unsound .ensures) ∙ at-if1 .if1 .left) (error-number (at-answer .answer .given .0 .0)) (error-some (at-answer .answer .given .0 .0)) (sym (ap answer-number (at-answer .answer .given .1)) ∙ at-make-move .make-move .ensures .number))
+    refl (c .unproven2 .ensures)
 
 pub evaluate-move-spec : {M : Type 1} → statement M
 evaluate-move-spec =

@@ -22,7 +22,13 @@ enum-told : tie.Need-enum-told
 enum-told c = search needs
 
 returns-2 : tie.Need-returns-2
-returns-2 c = not-forced (position-of (c .before .before .before .before .args .pos)) (some-critical (position-of (c .before .before .before .before .args .pos)) _ _ (c .before .before .before .before .pre .1) false (ne-eqb _ _ (c .before .before .before .if1 .left))) (ap due-of (sym (c .before .before .board-to-play .ensures) ∙ c .enum-told .given .1))
+returns-2 c =
+    let at-board-to-play = c .before .before in
+    let at-if1 = at-board-to-play .before in
+    let start = at-if1 .before in
+    let p = position-of (start .args .pos) in
+    not-forced p (some-critical p _ _ (start .pre .1) false (ne-eqb _ _ (at-if1 .if1 .left)))
+    (ap due-of (sym (at-board-to-play .board-to-play .ensures) ∙ c .enum-told .given .1))
 
 cast-board : tie.Need-cast-board
 cast-board c = search needs
@@ -31,7 +37,15 @@ holds-requires : tie.Need-holds-requires
 holds-requires c κs = set-lt _ _ (c .before .before .before .before .before .pre .1)
 
 returns-3 : tie.Need-returns-3
-returns-3 c = blockable (position-of (c .before .before .before .before .before .before .before .args .pos)) (some-critical (position-of (c .before .before .before .before .before .before .before .args .pos)) _ _ (c .before .before .before .before .before .before .before .pre .1) false (ne-eqb _ _ (c .before .before .before .before .before .before .if1 .left))) _ (ap due-of (sym (c .before .before .before .before .before .board-to-play .ensures) ∙ c .before .before .before .next .given .1)) (sym (set-critical (position-of (c .before .before .before .before .before .before .before .args .pos)) _ _ (c .before .before .before .before .before .before .before .pre .1) (c .before .before .before .before .before .before .before .pre .0) _) ∙ sym (c .before .holds .ensures) ∙ c .if2 .taken)
+returns-3 c =
+    let at-next = c .before .before .before in
+    let at-board-to-play = at-next .before .before in
+    let at-if1 = at-board-to-play .before in
+    let start = at-if1 .before in
+    let p = position-of (start .args .pos) in
+    blockable p (some-critical p _ _ (start .pre .1) false (ne-eqb _ _ (at-if1 .if1 .left))) _
+    (ap due-of (sym (at-board-to-play .board-to-play .ensures) ∙ at-next .next .given .1))
+    (sym (set-critical p _ _ (start .pre .1) (start .pre .0) _) ∙ sym (c .before .holds .ensures) ∙ c .if2 .taken)
 
 donebits-requires : tie.Need-donebits-requires
 donebits-requires c κs = search needs
@@ -40,7 +54,19 @@ sends-to-requires : tie.Need-sends-to-requires
 sends-to-requires c κs = search needs
 
 returns-4 : tie.Need-returns-4
-returns-4 c = c .sends-to .ensures ∙ sends-suit (position-of (c .before .before .before .before .before .before .before .before .before .before .args .pos)) _ _ (c .before .before .before .before .before .before .before .before .before .before .pre .1) _ (c .before .donebits .ensures) _ ∙ all-lose (position-of (c .before .before .before .before .before .before .before .before .before .before .args .pos)) (some-critical (position-of (c .before .before .before .before .before .before .before .before .before .before .args .pos)) _ _ (c .before .before .before .before .before .before .before .before .before .before .pre .1) false (ne-eqb _ _ (c .before .before .before .before .before .before .before .before .before .if1 .left))) _ (ap due-of (sym (c .before .before .before .before .before .before .before .before .board-to-play .ensures) ∙ c .before .before .before .before .before .before .next .given .1)) (sym (set-critical (position-of (c .before .before .before .before .before .before .before .before .before .before .args .pos)) _ _ (c .before .before .before .before .before .before .before .before .before .before .pre .1) (c .before .before .before .before .before .before .before .before .before .before .pre .0) _) ∙ sym (c .before .before .before .before .holds .ensures) ∙ c .before .before .before .if2 .left)
+returns-4 c =
+    let at-if2 = c .before .before .before in
+    let at-holds = at-if2 .before in
+    let at-next = at-holds .before .before in
+    let at-board-to-play = at-next .before .before in
+    let at-if1 = at-board-to-play .before in
+    let start = at-if1 .before in
+    let p = position-of (start .args .pos) in
+    c .sends-to .ensures
+    ∙ sends-suit p _ _ (start .pre .1) _ (c .before .donebits .ensures) _
+    ∙ all-lose p (some-critical p _ _ (start .pre .1) false (ne-eqb _ _ (at-if1 .if1 .left))) _
+    (ap due-of (sym (at-board-to-play .board-to-play .ensures) ∙ at-next .next .given .1))
+    (sym (set-critical p _ _ (start .pre .1) (start .pre .0) _) ∙ sym (at-holds .holds .ensures) ∙ at-if2 .if2 .left)
 
 pub forced-loss-spec : {M : Type 1} → statement M
 forced-loss-spec =

@@ -25,7 +25,11 @@ is-critical-requires : tie.Need-is-critical-requires Inv-loop μ-loop
 is-critical-requires c κs = search needs
 
 returns : tie.Need-returns Inv-loop μ-loop
-returns c = any-found _ lines _ (c .before .before .before .loop .i) (c .before .before .loop-test .taken) _ (c .before .before .before .loop .inv .1) (sym (c .before .is-critical .ensures) ∙ c .if1 .taken)
+returns c =
+    let at-loop-test = c .before .before in
+    let at-loop = at-loop-test .before in
+    any-found _ lines _ (at-loop .loop .i) (at-loop-test .loop-test .taken) _ (at-loop .loop .inv .1)
+    (sym (c .before .is-critical .ensures) ∙ c .if1 .taken)
 
 add-i : tie.Need-add-i Inv-loop μ-loop
 add-i c = search needs
@@ -34,7 +38,10 @@ loop-less : tie.Need-loop-less Inv-loop μ-loop
 loop-less c = search needs
 
 loop-again : tie.Need-loop-again Inv-loop μ-loop
-loop-again c = (search needs, any-missed _ lines _ (c .before .before .before .loop .i) (c .before .before .loop-test .taken) _ (c .before .before .before .loop .inv .1) (sym (c .before .is-critical .ensures) ∙ c .if1 .left))
+loop-again c =
+    let at-loop-test = c .before .before in
+    let at-loop = at-loop-test .before in
+    (search needs, any-missed _ lines _ (at-loop .loop .i) (at-loop-test .loop-test .taken) _ (at-loop .loop .inv .1) (sym (c .before .is-critical .ensures) ∙ c .if1 .left))
 
 returns-2 : tie.Need-returns-2 Inv-loop μ-loop
 unfolding any

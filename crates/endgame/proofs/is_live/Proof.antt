@@ -19,7 +19,13 @@ free-squares-requires : tie.Need-free-squares-requires
 free-squares-requires c κs = search needs
 
 returns-2 : tie.Need-returns-2
-returns-2 c = live-full (position-of (c .before .before .before .before .before .before .args .pos)) _ (sym (c .before .before .before .in-play .ensures) ∙ not-false _ (c .before .before .if1 .left)) (not-true _ (sym (none-in _ _ (c .before .free-squares .ensures)) ∙ eq-eqb _ _ (c .if2 .taken)))
+returns-2 c =
+    let at-if1 = c .before .before in
+    let at-in-play = at-if1 .before in
+    let start = at-in-play .before .before .before in
+    let p = position-of (start .args .pos) in
+    live-full p _ (sym (at-in-play .in-play .ensures) ∙ not-false _ (at-if1 .if1 .left))
+    (not-true _ (sym (none-in _ _ (c .before .free-squares .ensures)) ∙ eq-eqb _ _ (c .if2 .taken)))
 
 xbits-requires : tie.Need-xbits-requires
 xbits-requires c κs = search needs
@@ -28,7 +34,17 @@ has-line-requires : tie.Need-has-line-requires
 has-line-requires c κs = search needs
 
 returns-3 : tie.Need-returns-3
-returns-3 c = live-line-x (position-of (c .before .before .before .before .before .before .before .before .before .args .pos)) _ (sym (c .before .before .before .before .before .before .in-play .ensures) ∙ not-false _ (c .before .before .before .before .before .if1 .left)) (not-false _ (sym (none-in _ _ (c .before .before .before .before .free-squares .ensures)) ∙ ne-eqb _ _ (c .before .before .before .if2 .left))) (line-known _ _ _ _ (c .before .before .xbits .ensures) (c .before .has-line .ensures) (c .if3 .taken))
+returns-3 c =
+    let at-xbits = c .before .before in
+    let at-if2 = at-xbits .before in
+    let at-free-squares = at-if2 .before in
+    let at-if1 = at-free-squares .before in
+    let at-in-play = at-if1 .before in
+    let start = at-in-play .before .before .before in
+    let p = position-of (start .args .pos) in
+    live-line-x p _ (sym (at-in-play .in-play .ensures) ∙ not-false _ (at-if1 .if1 .left))
+    (not-false _ (sym (none-in _ _ (at-free-squares .free-squares .ensures)) ∙ ne-eqb _ _ (at-if2 .if2 .left)))
+    (line-known _ _ _ _ (at-xbits .xbits .ensures) (c .before .has-line .ensures) (c .if3 .taken))
 
 obits-requires : tie.Need-obits-requires
 obits-requires c κs = search needs
@@ -37,7 +53,20 @@ has-line-requires-2 : tie.Need-has-line-requires-2
 has-line-requires-2 c κs = search needs
 
 returns-4 : tie.Need-returns-4
-returns-4 c = live-line-o (position-of (c .before .before .before .before .before .before .before .before .before .before .before .args .pos)) _ (sym (c .before .before .before .before .before .before .before .before .in-play .ensures) ∙ not-false _ (c .before .before .before .before .before .before .before .if1 .left)) (not-false _ (sym (none-in _ _ (c .before .before .before .before .before .before .free-squares .ensures)) ∙ ne-eqb _ _ (c .before .before .before .before .before .if2 .left))) (line-known _ _ _ _ (c .before .before .before .before .xbits .ensures) (c .before .before .before .has-line .ensures) (c .before .before .if3 .left)) _ (line-known _ _ _ _ (c .before .obits .ensures) (c .has-line2 .ensures) refl)
+returns-4 c =
+    let at-if3 = c .before .before in
+    let at-has-line = at-if3 .before in
+    let at-xbits = at-has-line .before in
+    let at-if2 = at-xbits .before in
+    let at-free-squares = at-if2 .before in
+    let at-if1 = at-free-squares .before in
+    let at-in-play = at-if1 .before in
+    let start = at-in-play .before .before .before in
+    let p = position-of (start .args .pos) in
+    live-line-o p _ (sym (at-in-play .in-play .ensures) ∙ not-false _ (at-if1 .if1 .left))
+    (not-false _ (sym (none-in _ _ (at-free-squares .free-squares .ensures)) ∙ ne-eqb _ _ (at-if2 .if2 .left)))
+    (line-known _ _ _ _ (at-xbits .xbits .ensures) (at-has-line .has-line .ensures) (at-if3 .if3 .left)) _
+    (line-known _ _ _ _ (c .before .obits .ensures) (c .has-line2 .ensures) refl)
 
 pub is-live-spec : {M : Type 1} → statement M
 is-live-spec =

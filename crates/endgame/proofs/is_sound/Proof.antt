@@ -38,16 +38,37 @@ has-line-requires-2 : tie.Need-has-line-requires-2 Inv-loop μ-loop
 has-line-requires-2 c κs = search needs
 
 returns-2 : tie.Need-returns-2 Inv-loop μ-loop
-returns-2 c = line-of-o (position-of (c .before .before .before .before .before .before .before .args .pos)) (line-known _ _ _ _ (c .before .before .before .before .before .xbits .ensures) (c .before .before .before .before .has-line .ensures) (c .before .before .before .if1 .left)) (line-known _ _ _ _ (c .before .before .obits .ensures) (c .before .has-line2 .ensures) (c .if2 .taken))
+returns-2 c =
+    let at-obits = c .before .before in
+    let at-if1 = at-obits .before in
+    let at-has-line = at-if1 .before in
+    let at-xbits = at-has-line .before in
+    let start = at-xbits .before .before in
+    let p = position-of (start .args .pos) in
+    line-of-o p (line-known _ _ _ _ (at-xbits .xbits .ensures) (at-has-line .has-line .ensures) (at-if1 .if1 .left))
+    (line-known _ _ _ _ (at-obits .obits .ensures) (c .before .has-line2 .ensures) (c .if2 .taken))
 
 loop-holds : tie.Need-loop-holds Inv-loop μ-loop
-loop-holds c = (search needs, no-line (position-of (c .before .before .before .before .before .before .before .args .pos)) (line-known _ _ _ _ (c .before .before .before .before .before .xbits .ensures) (c .before .before .before .before .has-line .ensures) (c .before .before .before .if1 .left)) (line-known _ _ _ _ (c .before .before .obits .ensures) (c .before .has-line2 .ensures) (c .if2 .left)))
+loop-holds c =
+    let at-obits = c .before .before in
+    let at-if1 = at-obits .before in
+    let at-has-line = at-if1 .before in
+    let at-xbits = at-has-line .before in
+    let start = at-xbits .before .before in
+    let p = position-of (start .args .pos) in
+    (search needs, no-line p (line-known _ _ _ _ (at-xbits .xbits .ensures) (at-has-line .has-line .ensures) (at-if1 .if1 .left)) (line-known _ _ _ _ (at-obits .obits .ensures) (c .before .has-line2 .ensures) (c .if2 .left)))
 
 is-live-requires : tie.Need-is-live-requires Inv-loop μ-loop
 is-live-requires c κs = search needs
 
 returns-3 : tie.Need-returns-3 Inv-loop μ-loop
-returns-3 c = all-failed (live (position-of (c .before .before .before .before .before .before .before .before .before .before .before .args .pos))) nine 0 (c .before .before .before .loop .board) (c .before .before .loop-test .taken) _ (c .before .before .before .loop .inv .1) (ap (live (position-of (c .before .before .before .before .before .before .before .before .before .before .before .args .pos))) (nine-at _ (c .before .before .loop-test .taken)) ∙ sym (c .before .is-live .ensures) ∙ not-true _ (c .if3 .taken))
+returns-3 c =
+    let at-loop-test = c .before .before in
+    let at-loop = at-loop-test .before in
+    let start = at-loop .before .before .before .before .before .before .before .before in
+    let p = position-of (start .args .pos) in
+    all-failed (live p) nine 0 (at-loop .loop .board) (at-loop-test .loop-test .taken) _ (at-loop .loop .inv .1)
+    (ap (live p) (nine-at _ (at-loop-test .loop-test .taken)) ∙ sym (c .before .is-live .ensures) ∙ not-true _ (c .if3 .taken))
 
 add-board : tie.Need-add-board Inv-loop μ-loop
 add-board c = search needs
@@ -56,7 +77,12 @@ loop-less : tie.Need-loop-less Inv-loop μ-loop
 loop-less c = search needs
 
 loop-again : tie.Need-loop-again Inv-loop μ-loop
-loop-again c = (search needs, all-passed (live (position-of (c .before .before .before .before .before .before .before .before .before .before .before .args .pos))) nine 0 (c .before .before .before .loop .board) (c .before .before .loop-test .taken) _ (c .before .before .before .loop .inv .1) (ap (live (position-of (c .before .before .before .before .before .before .before .before .before .before .before .args .pos))) (nine-at _ (c .before .before .loop-test .taken)) ∙ sym (c .before .is-live .ensures) ∙ not-false _ (c .if3 .left)))
+loop-again c =
+    let at-loop-test = c .before .before in
+    let at-loop = at-loop-test .before in
+    let start = at-loop .before .before .before .before .before .before .before .before in
+    let p = position-of (start .args .pos) in
+    (search needs, all-passed (live p) nine 0 (at-loop .loop .board) (at-loop-test .loop-test .taken) _ (at-loop .loop .inv .1) (ap (live p) (nine-at _ (at-loop-test .loop-test .taken)) ∙ sym (c .before .is-live .ensures) ∙ not-false _ (c .if3 .left)))
 
 returns-4 : tie.Need-returns-4 Inv-loop μ-loop
 unfolding all

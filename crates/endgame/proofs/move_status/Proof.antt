@@ -34,7 +34,11 @@ unproven-requires : tie.Need-unproven-requires
 unproven-requires c κs = search needs
 
 returns : tie.Need-returns
-returns c = c .unproven .ensures ∙ ap status-of (judged-safe (position-of (c .before .before .before .before .before .before .args .pos)) _ (some-critical (position-of (c .before .before .before .before .before .before .args .pos)) _ _ (others (c .before .before)) true (eq-eqb _ _ (c .before .if1 .taken))))
+returns c =
+    let at-critical-boards = c .before .before in
+    let start = at-critical-boards .before .before .before .before in
+    let p = position-of (start .args .pos) in
+    c .unproven .ensures ∙ ap status-of (judged-safe p _ (some-critical p _ _ (others at-critical-boards) true (eq-eqb _ _ (c .before .if1 .taken))))
 
 global-requires : tie.Need-global-requires
 global-requires c κs = search needs
@@ -52,7 +56,11 @@ unproven-requires-2 : tie.Need-unproven-requires-2
 unproven-requires-2 c κs = search needs
 
 returns-2 : tie.Need-returns-2
-returns-2 c = c .unproven2 .ensures ∙ ap status-of (judged-blocking (position-of (c .before .before .before .before .before .before .before .before .before .args .pos)) _ (here (c .before .before) _ (c .before .if2 .taken)))
+returns-2 c =
+    let at-holds = c .before .before in
+    let start = at-holds .before .before .before .before .before .before .before in
+    let p = position-of (start .args .pos) in
+    c .unproven2 .ensures ∙ ap status-of (judged-blocking p _ (here at-holds _ (c .before .if2 .taken)))
 
 donebits-requires : tie.Need-donebits-requires
 donebits-requires c κs = search needs
@@ -76,13 +84,32 @@ for-player-requires : tie.Need-for-player-requires
 for-player-requires c κs = search needs
 
 returns-3 : tie.Need-returns-3
-returns-3 c = c .for-player .ensures ∙ ap (λ (w : Player). status-of (for-player w)) (c .before .before .before .before .before .before .before .before .before .before .other .ensures ∙ ap other (c .before .before .before .before .before .before .before .before .before .before .before .player .ensures)) ∙ ap status-of (judged-lost (position-of (c .before .before .before .before .before .before .before .before .before .before .before .before .before .args .pos)) _ (threatened (c .before .before .before .before .before .before .before .before)) (here (c .before .before .before .before .before .before) _ (c .before .before .before .before .before .if2 .left)) (sent (c .before .before) _ (c .before .if3 .taken)))
+returns-3 c =
+    let at-holds2 = c .before .before in
+    let at-if2 = at-holds2 .before .before .before in
+    let at-holds = at-if2 .before in
+    let at-if1 = at-holds .before .before in
+    let at-other = at-if1 .before .before in
+    let at-player = at-other .before in
+    let start = at-player .before .before in
+    let p = position-of (start .args .pos) in
+    c .for-player .ensures
+    ∙ ap (λ (w : Player). status-of (for-player w)) (at-other .other .ensures ∙ ap other (at-player .player .ensures))
+    ∙ ap status-of (judged-lost p _ (threatened at-if1) (here at-holds _ (at-if2 .if2 .left)) (sent at-holds2 _ (c .before .if3 .taken)))
 
 unproven-requires-3 : tie.Need-unproven-requires-3
 unproven-requires-3 c κs = search needs
 
 returns-4 : tie.Need-returns-4
-returns-4 c = c .unproven3 .ensures ∙ ap status-of (judged-open (position-of (c .before .before .before .before .before .before .before .before .before .before .before .before .before .args .pos)) _ (threatened (c .before .before .before .before .before .before .before .before)) (here (c .before .before .before .before .before .before) _ (c .before .before .before .before .before .if2 .left)) (sent (c .before .before) _ (c .before .if3 .left)))
+returns-4 c =
+    let at-holds2 = c .before .before in
+    let at-if2 = at-holds2 .before .before .before in
+    let at-holds = at-if2 .before in
+    let at-if1 = at-holds .before .before in
+    let start = at-if1 .before .before .before .before .before in
+    let p = position-of (start .args .pos) in
+    c .unproven3 .ensures
+    ∙ ap status-of (judged-open p _ (threatened at-if1) (here at-holds _ (at-if2 .if2 .left)) (sent at-holds2 _ (c .before .if3 .left)))
 
 pub move-status-spec : {M : Type 1} → statement M
 move-status-spec =

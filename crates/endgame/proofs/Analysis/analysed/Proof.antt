@@ -61,7 +61,12 @@ count-requires-2 : tie.Need-count-requires-2
 count-requires-2 c κs = search needs
 
 add-unwinnable : tie.Need-add-unwinnable
-add-unwinnable c = omega (arith, at-most-one (not (c .before .before .is-winnable2 .result)) _ (c .count2 .ensures), at-most-one (not (c .before .before .before .is-winnable .result)) _ (c .before .count .ensures))
+add-unwinnable c =
+    let at-is-winnable2 = c .before .before in
+    let at-is-winnable = at-is-winnable2 .before in
+    let x = at-most-one (not (at-is-winnable .is-winnable .result)) _ (c .before .count .ensures) in
+    let o = at-most-one (not (at-is-winnable2 .is-winnable2 .result)) _ (c .count2 .ensures) in
+    omega arith
 
 count-requires-3 : tie.Need-count-requires-3
 count-requires-3 c κs = search needs
@@ -82,10 +87,44 @@ count-requires-7 : tie.Need-count-requires-7
 count-requires-7 c κs = search needs
 
 combined-requires : tie.Need-combined-requires
-combined-requires c κs = sets-agree (position-of (c .before .before .before .before .before .before .before .before .before .before .before .before .before .before .before .before .before .args .pos)) _ _ _ _ _ (c .before .before .before .before .before .before .before .before .before .before .before .before .before .before .before .before .player .ensures) (c .before .before .before .before .before .before .before .before .before .before .before .before .prove-attacker .ensures) (lost (c .before .before .before .before .before .before .before .before .before .before)) (c .before .before .before .before .before .before .before .before .before .is-winnable .ensures) (c .before .before .before .before .before .before .before .before .is-winnable2 .ensures)
+combined-requires c κs =
+    let at-is-winnable2 = c .before .before .before .before .before .before .before .before in
+    let at-is-winnable = at-is-winnable2 .before in
+    let at-both = at-is-winnable .before in
+    let at-prove-attacker = at-both .before .before in
+    let at-player = at-prove-attacker .before .before .before .before in
+    let start = at-player .before in
+    let p = position-of (start .args .pos) in
+    sets-agree p _ _ _ _ _ (at-player .player .ensures) (at-prove-attacker .prove-attacker .ensures) (lost at-both) (at-is-winnable .is-winnable .ensures)
+    (at-is-winnable2 .is-winnable2 .ensures)
 
 returns : tie.Need-returns
-returns c = analyses-as _ _ _ (analysis-made (position-of (c .before .before .before .before .before .before .before .before .before .before .before .before .before .before .before .before .before .before .args .pos)) (c .before .before .before .before .before .before .before .before .before .before .before .before .before .before .before .before .before .before .pre .0) (c .before .before .before .before .before .before .before .before .before .before .before .before .before .before .before .before .before .before .pre .1)) refl (c .combined .ensures ∙ ap (λ (s : Option Set). status-of (or-unproven s)) (combined-is-merged (position-of (c .before .before .before .before .before .before .before .before .before .before .before .before .before .before .before .before .before .before .args .pos)) _ _ _ _ _ (c .before .before .before .before .before .before .before .before .before .before .before .before .before .before .before .before .before .player .ensures) (c .before .before .before .before .before .before .before .before .before .before .before .before .before .prove-attacker .ensures) (lost (c .before .before .before .before .before .before .before .before .before .before .before)) (c .before .before .before .before .before .before .before .before .before .before .is-winnable .ensures) (c .before .before .before .before .before .before .before .before .before .is-winnable2 .ensures))) (counts (position-of (c .before .before .before .before .before .before .before .before .before .before .before .before .before .before .before .before .before .before .args .pos)) _ _ _ _ _ _ _ (sym (some-critical (position-of (c .before .before .before .before .before .before .before .before .before .before .before .before .before .before .before .before .before .before .args .pos)) _ _ (attackers (c .before .before .before .before .before .before .before .before .before .before .before .before .before .before)) _ refl)) (sym (some-critical (position-of (c .before .before .before .before .before .before .before .before .before .before .before .before .before .before .before .before .before .before .args .pos)) _ _ (defenders (c .before .before .before .before .before .before .before .before .before .before .before .before .before .before)) _ refl)) (c .before .before .before .before .before .before .before .before .before .before .before .before .before .prove-attacker .ensures) (lost (c .before .before .before .before .before .before .before .before .before .before .before)) (c .before .before .before .before .before .before .before .before .before .before .is-winnable .ensures) (c .before .before .before .before .before .before .before .before .before .is-winnable2 .ensures) (c .before .before .before .before .before .before .count3 .ensures) (c .before .before .before .before .before .count4 .ensures) (c .before .before .before .count5 .ensures ∙ ap (λ (b : Bool). cond b 1 0) (c .before .before .before .before .both2 .ensures)) (ap₂ _+_ (c .before .before .before .before .before .before .before .before .count .ensures) (c .before .before .before .before .before .before .before .count2 .ensures)) (c .before .before .count6 .ensures) (c .before .count7 .ensures))
+returns c =
+    let at-count6 = c .before .before in
+    let at-count5 = at-count6 .before in
+    let at-both2 = at-count5 .before in
+    let at-count4 = at-both2 .before in
+    let at-count3 = at-count4 .before in
+    let at-count2 = at-count3 .before in
+    let at-count = at-count2 .before in
+    let at-is-winnable2 = at-count .before in
+    let at-is-winnable = at-is-winnable2 .before in
+    let at-both = at-is-winnable .before in
+    let at-prove-attacker = at-both .before .before in
+    let at-critical-boards2 = at-prove-attacker .before in
+    let at-player = at-critical-boards2 .before .before .before in
+    let start = at-player .before in
+    let p = position-of (start .args .pos) in
+    analyses-as _ _ _ (analysis-made p (start .pre .0) (start .pre .1)) refl
+    (c .combined .ensures
+    ∙ ap (λ (s : Option Set). status-of (or-unproven s))
+    (combined-is-merged p _ _ _ _ _ (at-player .player .ensures) (at-prove-attacker .prove-attacker .ensures) (lost at-both) (at-is-winnable .is-winnable .ensures)
+    (at-is-winnable2 .is-winnable2 .ensures)))
+    (counts p _ _ _ _ _ _ _
+    (sym (some-critical p _ _ (attackers at-critical-boards2) _ refl)) (sym (some-critical p _ _ (defenders at-critical-boards2) _ refl))
+    (at-prove-attacker .prove-attacker .ensures) (lost at-both) (at-is-winnable .is-winnable .ensures) (at-is-winnable2 .is-winnable2 .ensures)
+    (at-count3 .count3 .ensures) (at-count4 .count4 .ensures) (at-count5 .count5 .ensures ∙ ap (λ (b : Bool). cond b 1 0) (at-both2 .both2 .ensures))
+    (ap₂ _+_ (at-count .count .ensures) (at-count2 .count2 .ensures)) (at-count6 .count6 .ensures) (c .before .count7 .ensures))
 
 pub analysed-spec : {M : Type 1} → statement M
 analysed-spec =
