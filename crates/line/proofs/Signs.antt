@@ -10,7 +10,8 @@ use lib.Signed.{mag, ltZ, _<ℤ_, _≤ℤ_}
 use mir.Syntax.{w64}
 use mir.Val.{SFits, toZ, ofZ}
 use Rattle.text.specs.ProgramLine.{decimal, signed}
-use Rattle.table.proofs.Signed.{back, less, not-less}
+use Rattle.base.proofs.Signed.{back}
+use Rattle.table.proofs.Signed.{less, not-less}
 use Rattle.line.specs.declared.out.Out.{Out}
 use Rattle.line.specs.OutBytes.{added, added-all}
 

@@ -3,7 +3,7 @@ use mathlib.Core.Path.{_∙_, ap}
 use lib.IntN.{ℤ}
 use Rattle.text.specs.ProgramLine.{signed}
 use Rattle.status.specs.Sets.{set-of}
-use Rattle.table.proofs.Signed.{back}
+use Rattle.base.proofs.Signed.{back}
 use Rattle.line.specs.OutBytes.{added-all, move-bytes}
 use Rattle.line.proofs.OutBytes.{answer-written}
 use borrow.Author.Needs.{needs}

@@ -2,7 +2,8 @@
 use mathlib.Core.Path.{ap}
 use native.Mathlib.Omega.{arith}
 use lib.IntN.{natAbs}
-use Rattle.table.proofs.Signed.{back, next-in, minus-next-in, minus-next-is, natural-word}
+use Rattle.base.proofs.Signed.{back}
+use Rattle.table.proofs.Signed.{next-in, minus-next-in, minus-next-is, natural-word}
 use Rattle.line.proofs.Signs.{negative-added, natural-added}
 use borrow.Author.Needs.{needs}
 use Rattle.line.proofs.out.Out.signed.Statement.{statement}
