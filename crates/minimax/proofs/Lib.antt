@@ -9,3 +9,4 @@ pub mod Refusals
 pub mod Rooms
 pub mod Reports
 pub mod Deepens
+pub mod Rules
