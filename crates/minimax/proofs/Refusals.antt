@@ -14,7 +14,7 @@ use Rattle.theory.specs.Game.{Game}
 use Rattle.theory.specs.Memory.{fresh-memory}
 use Rattle.theory.specs.OrderedSearch.{at-most}
 use Rattle.theory.specs.Deepening.{analyze}
-use Rattle.theory.specs.Reported.{Settings, entry-refusal, report, reported}
+use Rattle.theory.specs.Reported.{Settings, entry-refusal, report, refused-entry, reported}
 use Rattle.minimax.specs.declared.SearchError.{SearchError}
 use Rattle.minimax.specs.declared.SearchError.the-variants.{Depth, Allowance, Words, Spent}
 use Rattle.minimax.specs.Report.{error-number, is-spent, refused-with}
@@ -70,6 +70,9 @@ module _ (c : Settings) (words : ℕ) where
 at-most-is : (n k : ℕ) → T (not (not (leb 1 n && leb n k))) → n ≤ k
 at-most-is n k t = leb→le n k (and→ (leb 1 n) (leb n k) (not-not (leb 1 n && leb n k) t) .1)
 
+at-least-one : (n k : ℕ) → T (not (not (leb 1 n && leb n k))) → 1 ≤ n
+at-least-one n k t = leb→le 1 n (and→ (leb 1 n) (leb n k) (not-not (leb 1 n && leb n k) t) .0)
+
 -- ---- what an answer of it means
 module _ (c : Settings) (words : ℕ) where
   pub limits : 0 ≡ entry-refusal c words → (c .max-depth ≤ 81) × (c .allowance ≤ 1000000000)
@@ -77,6 +80,10 @@ module _ (c : Settings) (words : ℕ) where
   limits = if-ind (λ (n : ℕ). 0 ≡ n → (c .max-depth ≤ 81) × (c .allowance ≤ 1000000000)) _ _ _ (λ _ e. absurd (omega arith))
       (λ t. if-ind (λ (n : ℕ). 0 ≡ n → (c .max-depth ≤ 81) × (c .allowance ≤ 1000000000)) _ _ _ (λ _ e. absurd (omega arith))
       (λ u _. (at-most-is (c .max-depth) 81 t, at-most-is (c .allowance) 1000000000 u)))
+
+  pub some-depth : 0 ≡ entry-refusal c words → 1 ≤ c .max-depth
+  unfolding entry-refusal
+  some-depth = if-ind (λ (n : ℕ). 0 ≡ n → 1 ≤ c .max-depth) _ _ _ (λ _ e. absurd (omega arith)) (λ t _. at-least-one (c .max-depth) 81 t)
 
   -- it is never 18
   not-18 : 18 ≡ entry-refusal c words → ⊥
@@ -105,3 +112,7 @@ module _ (G : Game) (c : Settings) (p : G .Pos) (xs os words : List ℕ) where
   pub accepted-reported : 0 ≡ entry-refusal c (length words) → report (analyze G (at-most (c .allowance)) (c .max-depth) p (fresh-memory xs os words)) ≡ reported G c p xs os words
   unfolding reported if_then_else_
   accepted-reported q = rw (sym q)
+
+  pub turned-reported : eqb (entry-refusal c (length words)) 0 ≡ false → reported G c p xs os words ≡ refused-entry (entry-refusal c (length words)) xs os words
+  unfolding reported if_then_else_
+  turned-reported q = rw q

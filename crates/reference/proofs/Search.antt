@@ -35,7 +35,7 @@ use Rattle.reference.proofs.Wins.{unfinished}
 use Rattle.reference.proofs.Truth.{good-status-tells}
 
 -- a win is not nothing
-not-nothing : (v w : Player) → pos 0 ≡ seen-by v (seen-by w won) → ⊥
+pub not-nothing : (v w : Player) → pos 0 ≡ seen-by v (seen-by w won) → ⊥
 unfolding hi lo
 not-nothing X X e = omega zarith
 not-nothing X O e = omega zarith

@@ -25,7 +25,7 @@ use Rattle.theory.proofs.Plain.{Lawful}
 use Rattle.theory.proofs.Memory.{Leaves, count-enter, count-begin, count-leaf, count-cut, count-probe, count-told, Off}
 use Rattle.theory.proofs.Deepening.{analyze-right}
 
-lt-or : (n a : ℕ) → (n < a) ⊎ (a ≤ n)
+pub lt-or : (n a : ℕ) → (n < a) ⊎ (a ≤ n)
 lt-or n a = elim (is (ltb n a)) [ inl t ↦ inl (ltb→lt n a t) | inr t ↦ inr (nltb→le n a t) ]
 
 module _ (n : ℕ) where

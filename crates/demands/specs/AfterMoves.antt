@@ -1,0 +1,48 @@
+-- Demand 3, of a list of moves tried one after the other from the empty board, refused ones included.
+use mathlib.Core.Path.{_≡_}
+use mathlib.Core.List.{List, []}
+use Prim.Native.Nat.{ℕ}
+use lib.Dec.{T}
+use Rattle.rules.specs.declared.DrawWinner.the-variants.{Nobody}
+use Rattle.rules.specs.Position.{Position, start, going}
+use Rattle.rules.specs.Play.{reached}
+use Rattle.rules.specs.Hash.{with-turn, zobrist}
+use Rattle.rules.specs.Endgame.{analysis}
+use Rattle.theory.specs.Reported.{reported}
+use Rattle.reference.specs.Reference.{game}
+use Rattle.game.specs.Meaning.{position-of}
+use Rattle.game.specs.Built.{new-game}
+use Rattle.game.specs.After.{games-after}
+use Rattle.status.specs.Sets.{status-of}
+use Rattle.endgame.specs.Means.{made-number, stats-of}
+use Rattle.minimax.specs.declared.Minimax.{Minimax}
+use Rattle.minimax.specs.declared.Config.{Config}
+use Rattle.minimax.specs.State.{bytes-of}
+use Rattle.minimax.specs.Report.{settings-of, report-of}
+use Rattle.demands.specs.declared.After.{After}
+use Rattle.demands.specs.Claims.{NotStopped, MarkSays, Right, StatusHolds}
+
+module _ (ms : List ℕ) (m : Minimax) (c : Config) (r : After) where
+  -- the position that the written rules reach when fed with the list's moves alone
+  abbrev pub p : Position
+  p = reached start ms
+
+  abbrev pub xs : List ℕ
+  xs = bytes-of (m .«answers_x»)
+
+  abbrev pub os : List ℕ
+  os = bytes-of (m .«answers_o»)
+
+  pub record Demand3 : Type 0 where
+    -- the game, the endgame analysis and the search, each by its definition at that position
+    pub game-is : r .game ≡ games-after new-game ms
+    pub position-is : position-of (r .game) ≡ p
+    pub key-is : with-turn (position-of (r .game)) (r .game .hash) ≡ zobrist p
+    pub refusal-is : made-number (r .analysis .made) ≡ analysis p .refusal
+    pub status-is : r .analysis .proven ≡ status-of (analysis p .status)
+    pub counts-are : stats-of (r .analysis .stats) ≡ analysis p .stats
+    pub report-is : report-of (r .report) [] ≡ reported (game (c .«draw_winner»)) (settings-of c) p xs os []
+    -- and, where the game is unfinished, the claims
+    pub mark-says : T (going p) → MarkSays (c .«draw_winner») (settings-of c) xs os p (report-of (r .report) [])
+    pub right : T (going p) → NotStopped (c .«draw_winner») (settings-of c) xs os p → Right (c .«draw_winner») (settings-of c) xs os p (report-of (r .report) [])
+    pub status-holds : T (going p) → c .«draw_winner» ≡ Nobody → StatusHolds (settings-of c) xs os p (report-of (r .report) []) (analysis p .status)
