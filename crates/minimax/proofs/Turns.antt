@@ -11,9 +11,7 @@ use lib.ListN.{length, take, drop}
 use lib.Signed.{leZ, ltZ, _≤ℤ_}
 use borrow.Author.Tests.{eqb-true, eq-eqb}
 use Rattle.base.specs.Branch.{if_then_else_}
-use Rattle.base.specs.Lists.{all}
-use Rattle.base.proofs.Branch.{if-ind}
-use Rattle.base.proofs.Bool.{is}
+use Rattle.base.proofs.Bool.{deny, is}
 use Rattle.base.proofs.Integers.{hi, lo, zarith}
 use mathlib.Core.Logic.{_⊎_, inl, inr}
 use Rattle.rules.specs.Position.{going}
@@ -41,36 +39,27 @@ use Rattle.minimax.specs.declared.search.Ask.{Ask}
 use Rattle.minimax.specs.declared.search.Best.{Best}
 use Rattle.minimax.specs.declared.search.Found.{Found}
 use Rattle.minimax.specs.declared.search.Entered.{Entered}
-use Rattle.order.specs.Order.{unmarked, walk-left, NextIs}
+use Rattle.order.specs.Order.{walk-left, NextOf}
+use Rattle.order.proofs.Walks.{NextIs, next-left, left-accepted, none-refused}
 use Rattle.minimax.specs.State.{bytes-of, memory-of, line-of, empty-line, asked-game, outcome-of, searched, over-left, over-all, then-told, Within, Asked, Counted, Ready, Gives, Enters}
 use Rattle.minimax.proofs.Scores.{neg-within}
 use Rattle.minimax.proofs.Outcomes.{outcome-stopped, outcome-found}
 
 -- ---- the next move
-left-accepted : (ok : ℕ → Bool) (seen : ℕ → Bool) (ms : List ℕ) (m : ℕ) (rest : List ℕ) → unmarked ok seen ms ≡ m ∷ rest → T (ok m)
-unfolding unmarked
-left-accepted ok seen [] m rest = λ e. absurd (let z : _≡_ {A = ℕ} 0 1 = cc in omega arith)
-left-accepted ok seen (x ∷ ms) m rest = if-ind (λ l. l ≡ m ∷ rest → T (ok m)) (seen x) _ _ (λ _ e. left-accepted ok _ ms m rest e)
-    (λ _. if-ind (λ l. l ≡ m ∷ rest → T (ok m)) (ok x) _ _ (λ t e. let q : x ≡ m = cc in subst (λ (z : ℕ). T (ok z)) q t) (λ _ e. left-accepted ok _ ms m rest e))
-
-none-refused : (p : Position) → T (accepts p no-move) → ⊥
-unfolding accepts all
-none-refused p t = t
-
-pub walk-ends : (g : Game) (w : Walk) (child : Child) (b : Bool) → NextIs g (walk-left g w) child → b ≡ eqb (child .m .bits) no-move → b ≡ true → walk-left g w ≡ []
-walk-ends g w child b n e t = go (walk-left g w) refl n
+pub walk-ends : (g : Game) (w : Walk) (child : Child) (b : Bool) → NextOf g w child → b ≡ eqb (child .m .bits) no-move → b ≡ true → walk-left g w ≡ []
+walk-ends g w child b n e t = go (walk-left g w) refl (next-left g w child n)
   where
     go : (ms : List ℕ) → walk-left g w ≡ ms → NextIs g ms child → walk-left g w ≡ []
     go [] q h = q
-    go (m ∷ ms) q h = absurd (none-refused (position-of g) (subst (λ (z : ℕ). T (accepts (position-of g) z)) (sym (h .0) ∙ eqb-true _ no-move (sym e ∙ t)) (left-accepted _ _ _ m ms q)))
+    go (m ∷ ms) q h = absurd (deny (accepts (position-of g) no-move) (none-refused (position-of g)) (subst (λ (z : ℕ). T (accepts (position-of g) z)) (sym (h .0) ∙ eqb-true _ no-move (sym e ∙ t)) (left-accepted _ _ _ m ms q)))
 
-module _ (g : Game) (w : Walk) (child : Child) (b : Bool) (n : NextIs g (walk-left g w) child) (e : b ≡ eqb (child .m .bits) no-move) (f : b ≡ false) where
+module _ (g : Game) (w : Walk) (child : Child) (b : Bool) (n : NextOf g w child) (e : b ≡ eqb (child .m .bits) no-move) (f : b ≡ false) where
   goes : (ms : List ℕ) → walk-left g w ≡ ms → NextIs g ms child → (walk-left g w ≡ child .m .bits ∷ walk-left g (child .walk)) × (child .game ≡ game-after g (child .m .bits))
   goes [] q h = absurd (true≢false (sym (eq-eqb _ no-move (h .0)) ∙ sym e ∙ f))
   goes (m ∷ ms) q h = (q ∙ ap₂ _∷_ (sym (h .0)) (sym (h .2)), h .1 ∙ ap (game-after g) (sym (h .0)))
 
   pub walk-goes : (walk-left g w ≡ child .m .bits ∷ walk-left g (child .walk)) × (child .game ≡ game-after g (child .m .bits))
-  walk-goes = goes (walk-left g w) refl n
+  walk-goes = goes (walk-left g w) refl (next-left g w child n)
 
   pub walk-shorter : length (walk-left g (child .walk)) < length (walk-left g w)
   walk-shorter = rw (walk-goes .0) (omega arith)
@@ -118,7 +107,7 @@ module _ (a : Ask) (words₀ : List ℕ) (walk₀ : Walk) (s₀ : Search) (best�
   }
 
   -- no move is left
-  pub turn-done : (child : Child) (b : Bool) → NextIs (a .game) (walk-left (a .game) walk) child → b ≡ eqb (child .m .bits) no-move → b ≡ true
+  pub turn-done : (child : Child) (b : Bool) → NextOf (a .game) walk child → b ≡ eqb (child .m .bits) no-move → b ≡ true
       → (f : Found) → f ≡ record { state = s; line = best .line; score = best .score; stopped = false } → Gives a (best₀ .line) f words whole
   unfolding over-left
   turn-done child b n e t f q = subst (λ (x : Found). Gives a (best₀ .line) x words whole) (sym q) (record {
@@ -129,7 +118,7 @@ module _ (a : Ask) (words₀ : List ℕ) (walk₀ : Walk) (s₀ : Search) (best�
     places = λ _. turn .places;
   })
 
-  module _ (child : Child) (b : Bool) (n : NextIs (a .game) (walk-left (a .game) walk) child) (be : b ≡ eqb (child .m .bits) no-move) (bf : b ≡ false)
+  module _ (child : Child) (b : Bool) (n : NextOf (a .game) walk child) (be : b ≡ eqb (child .m .bits) no-move) (bf : b ≡ false)
       (under : Ask) (under-is : under ≡ record { game = child .game; depth = a .depth - 1; alpha = negℤ (a .beta); beta = negℤ (best .score); prev = child .m; «draw_winner» = a .«draw_winner»; allowance = a .allowance }) where
     pub under-asked : Asked under
     under-asked = subst Asked (sym under-is) (record {
