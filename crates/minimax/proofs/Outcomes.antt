@@ -4,15 +4,14 @@ use mathlib.Core.Bool.{Bool, true, false}
 use mathlib.Core.List.{List, [], _∷_, _++_}
 use Prim.Native.Nat.{ℕ}
 use lib.Dec.{eqb}
-use lib.IntN.{ℤ}
 use lib.ListN.{getD}
 use Rattle.base.specs.Branch.{if_then_else_}
 use Rattle.rules.specs.Board.{other}
 use Rattle.rules.specs.Play.{accepts, no-move}
 use Rattle.rules.specs.Moves.{moves}
 use Rattle.theory.specs.Table.{Entry as Meant, store, bound-of}
-use Rattle.theory.specs.Memory.{Memory, some-move, hints, answers-to}
-use Rattle.theory.specs.OrderedSearch.{Outcome, stopped, found, unless-stopped, told, fresh, candidates}
+use Rattle.theory.specs.Memory.{some-move, hints, answers-to}
+use Rattle.theory.specs.OrderedSearch.{stopped, found, unless-stopped, told, fresh, candidates}
 use Rattle.boards.specs.declared.moves.Move.{Move}
 use Rattle.game.specs.Meaning.{position-of}
 use Rattle.order.specs.declared.Walk.{Walk}
