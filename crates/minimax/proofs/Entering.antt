@@ -1,14 +1,13 @@
 -- Entering a position: each of the five ways out of it is an arm of the definition, and each count is paid for by the position entered.
 use mathlib.Core.Path.{_≡_, refl, sym, ap, ap₂, _∙_, subst}
 use mathlib.Core.Bool.{Bool, true, false, not, _||_, true≢false, false≢true}
-use mathlib.Core.List.{List, [], _∷_}
-use mathlib.Core.Option.{Option, none, some}
-use mathlib.Core.Logic.{_⊎_, inl, inr}
-use Prim.Native.Nat.{ℕ, suc, _-_, _≤_, _<_}
+use mathlib.Core.List.{List, []}
+use mathlib.Core.Option.{Option, none}
+use Prim.Native.Nat.{ℕ, suc, _+_, _-_, _≤_, _<_}
 use native.Mathlib.Omega.{arith}
-use lib.Dec.{ltb, eqb}
-use lib.IntN.{ℤ, pos}
-use lib.ListN.{take, set, replicate}
+use lib.Dec.{eqb}
+use lib.IntN.{pos}
+use lib.ListN.{set, replicate}
 use borrow.Author.Tests.{lt-ltb, le-ltb, eqb-true, eqb-false}
 use Rattle.base.specs.Lists.{all}
 use Rattle.rules.specs.Position.{going}
@@ -16,7 +15,7 @@ use Rattle.rules.specs.Play.{accepts, no-move}
 use Rattle.rules.specs.Evaluation.{evaluate}
 use Rattle.theory.specs.Table.{Entry as Meant, look-up, suffices}
 use Rattle.theory.specs.Memory.{Memory, enter, leaf, hit, answered, some-move}
-use Rattle.theory.specs.OrderedSearch.{at-most, one-more, Outcome, stopped, found, unless-stopped, told, set-first, candidates, over-moves, search}
+use Rattle.theory.specs.OrderedSearch.{at-most, one-more, Outcome, stopped, found, unless-stopped, told, candidates, over-moves, search}
 use Rattle.theory.proofs.Arms.{search-stopped, search-leaf-zero, search-leaf-over, search-known, search-none, search-some, candidates-some}
 use Rattle.boards.specs.declared.moves.Move.{Move}
 use Rattle.game.specs.Meaning.{position-of}
@@ -27,10 +26,9 @@ use Rattle.table.specs.Entries.{entry-means, held-means}
 use Rattle.minimax.specs.declared.search.Search.{Search}
 use Rattle.minimax.specs.declared.search.Line.{Line}
 use Rattle.minimax.specs.declared.search.Ask.{Ask}
-use Rattle.minimax.specs.declared.search.Best.{Best}
 use Rattle.minimax.specs.declared.search.Found.{Found}
 use Rattle.minimax.specs.declared.search.Entered.{Entered}
-use Rattle.minimax.specs.State.{bytes-of, memory-of, line-of, empty-line, asked-game, outcome-of, searched, over-left, over-all, then-told, Asked, Counted, Ready, Gives, Enters}
+use Rattle.minimax.specs.State.{memory-of, line-of, asked-game, searched, over-left, over-all, then-told, Counted, Ready, Gives, Enters}
 use Rattle.minimax.proofs.Outcomes.{outcome-stopped, outcome-found}
 use Rattle.order.proofs.Orders.{emptied}
 use Rattle.minimax.proofs.Lines.{set-first-place, set-first-drop, empty-places}
@@ -40,73 +38,37 @@ none-refused : (a : Ask) → asked-game a .accepts (a .game) no-move ≡ false
 unfolding accepts all
 none-refused a = refl
 
--- ---- counts
-pub record Steps (s t : Search) : Type 0 where
-  pub count-is : t .count ≡ suc (s .count)
-  pub visited-is : t .visited ≡ suc (s .visited)
-  pub terminal-is : t .terminal ≡ s .terminal
-  pub cuts-is : t .cuts ≡ s .cuts
-  pub hits-is : t .«tt_hit» ≡ s .«tt_hit»
-  pub suffice-is : t .«tt_suffice» ≡ s .«tt_suffice»
+-- ---- counts: from s to m a position is entered, and k entries of the table are met
+pub record Paid (k : ℕ) (s : Search) (m : Memory) : Type 0 where
+  pub count-is : m .count ≡ suc (s .count)
+  pub visited-is : m .tally .visited ≡ suc (s .visited)
+  pub terminal-is : m .tally .terminal ≡ s .terminal
+  pub cuts-is : m .tally .cuts ≡ s .cuts
+  pub hits-is : m .tally .tt-hit ≡ s .«tt_hit» + k
+  pub suffice-is : m .tally .tt-suffice ≡ s .«tt_suffice»
 
-pub entered-steps : (s t : Search) → memory-of t [] ≡ enter (memory-of s []) → Steps s t
-unfolding enter
-entered-steps s t e = record {
-  count-is = ap (λ (m : Memory). m .count) e;
-  visited-is = ap (λ (m : Memory). m .tally .visited) e;
-  terminal-is = ap (λ (m : Memory). m .tally .terminal) e;
-  cuts-is = ap (λ (m : Memory). m .tally .cuts) e;
-  hits-is = ap (λ (m : Memory). m .tally .tt-hit) e;
-  suffice-is = ap (λ (m : Memory). m .tally .tt-suffice) e;
+module _ (s t : Search) (e : memory-of t [] ≡ enter (memory-of s [])) where
+  pub entered-paid : Paid 0 s (memory-of t [])
+  unfolding enter
+  entered-paid = subst (Paid 0 s) (sym e) (record { count-is = refl; visited-is = refl; terminal-is = refl; cuts-is = refl; hits-is = omega arith; suffice-is = refl })
+
+  pub hit-paid : (u : Search) → memory-of u [] ≡ hit (memory-of t []) → Paid 1 s (memory-of u [])
+  unfolding enter hit
+  hit-paid u f = subst (Paid 1 s) (sym (f ∙ ap hit e)) (record { count-is = refl; visited-is = refl; terminal-is = refl; cuts-is = refl; hits-is = omega arith; suffice-is = refl })
+
+paid-ready : (a : Ask) (s t : Search) (k : ℕ) → k ≤ 1 → Counted a s → s .count < a .allowance → 0 < a .depth → Paid k s (memory-of t []) → Ready a t
+paid-ready a s t k few counted more deep h = record {
+  deep = deep;
+  counted = record {
+    within = omega (arith, h .count-is);
+    visited-within = omega (arith, h .count-is, h .visited-is, counted .visited-within);
+    terminal-within = omega (arith, h .count-is, h .terminal-is, counted .terminal-within);
+    cuts-within = omega (arith, h .count-is, h .cuts-is, counted .cuts-within);
+    hits-within = omega (arith, h .count-is, h .hits-is, counted .hits-within);
+    suffice-within = omega (arith, h .count-is, h .suffice-is, counted .suffice-within);
+  };
+  room = omega (arith, h .count-is, h .cuts-is, counted .cuts-within);
 }
-
-pub record HitSteps (s t : Search) : Type 0 where
-  pub count-is : t .count ≡ s .count
-  pub visited-is : t .visited ≡ s .visited
-  pub terminal-is : t .terminal ≡ s .terminal
-  pub cuts-is : t .cuts ≡ s .cuts
-  pub hits-is : t .«tt_hit» ≡ suc (s .«tt_hit»)
-  pub suffice-is : t .«tt_suffice» ≡ s .«tt_suffice»
-
-pub hit-steps : (s t : Search) → memory-of t [] ≡ hit (memory-of s []) → HitSteps s t
-unfolding hit
-hit-steps s t e = record {
-  count-is = ap (λ (m : Memory). m .count) e;
-  visited-is = ap (λ (m : Memory). m .tally .visited) e;
-  terminal-is = ap (λ (m : Memory). m .tally .terminal) e;
-  cuts-is = ap (λ (m : Memory). m .tally .cuts) e;
-  hits-is = ap (λ (m : Memory). m .tally .tt-hit) e;
-  suffice-is = ap (λ (m : Memory). m .tally .tt-suffice) e;
-}
-
-module _ (a : Ask) (s t : Search) (counted : Counted a s) (more : s .count < a .allowance) (h : Steps s t) (deep : 0 < a .depth) where
-  pub entered-ready : Ready a t
-  entered-ready = record {
-    deep = deep;
-    counted = record {
-      within = omega (arith, h .count-is);
-      visited-within = omega (arith, h .count-is, h .visited-is, counted .visited-within);
-      terminal-within = omega (arith, h .count-is, h .terminal-is, counted .terminal-within);
-      cuts-within = omega (arith, h .count-is, h .cuts-is, counted .cuts-within);
-      hits-within = omega (arith, h .count-is, h .hits-is, counted .hits-within);
-      suffice-within = omega (arith, h .count-is, h .suffice-is, counted .suffice-within);
-    };
-    room = omega (arith, h .count-is, h .cuts-is, counted .cuts-within);
-  }
-
-  pub hit-ready : (u : Search) → HitSteps t u → Ready a u
-  hit-ready u k = record {
-    deep = deep;
-    counted = record {
-      within = omega (arith, h .count-is, k .count-is);
-      visited-within = omega (arith, h .count-is, k .count-is, h .visited-is, k .visited-is, counted .visited-within);
-      terminal-within = omega (arith, h .count-is, k .count-is, h .terminal-is, k .terminal-is, counted .terminal-within);
-      cuts-within = omega (arith, h .count-is, k .count-is, h .cuts-is, k .cuts-is, counted .cuts-within);
-      hits-within = omega (arith, h .count-is, k .count-is, h .hits-is, k .hits-is, counted .hits-within);
-      suffice-within = omega (arith, h .count-is, k .count-is, h .suffice-is, k .suffice-is, counted .suffice-within);
-    };
-    room = omega (arith, h .count-is, k .count-is, h .cuts-is, k .cuts-is, counted .cuts-within);
-  }
 
 -- ---- the ways out
 module _ (a : Ask) (s : Search) (l : Line) (words : List ℕ) (e : Entered) where
@@ -122,7 +84,7 @@ module _ (a : Ask) (s : Search) (l : Line) (words : List ℕ) (e : Entered) wher
   pub enter-stopped : (f : Found) → a .allowance ≤ s .count → f ≡ record { state = s; line = l; score = pos 0; stopped = true } → (e .answered ≡ true) × (e .found ≡ f) → Enters a s l words e
   unfolding searched
   enter-stopped f h q p = answers f p (subst (λ (x : Found). Gives a l x words (searched a s l words)) (sym q) (record {
-    same = outcome-stopped a _ words refl ∙ sym (search-stopped (asked-game a) (at-most (a .allowance)) (a .depth) (a .game) (a .alpha) (a .beta) (line-of l (a .depth)) (a .prev .bits) (memory-of s words) (le-ltb (s .count) (a .allowance) h));
+    same = outcome-stopped a _ words refl ∙ sym (search-stopped _ _ _ _ _ _ _ _ _ (le-ltb (s .count) (a .allowance) h));
     places = λ z. absurd (true≢false z);
   }))
 
@@ -136,8 +98,8 @@ module _ (a : Ask) (s : Search) (l : Line) (words : List ℕ) (e : Entered) wher
     leaf-is = go (eqb (a .depth) 0) refl
       where
         go : (x : Bool) → eqb (a .depth) 0 ≡ x → (x || not (going (position-of (a .game)))) ≡ true → search (asked-game a) (at-most (a .allowance)) (a .depth) (a .game) (a .alpha) (a .beta) (line-of l (a .depth)) (a .prev .bits) (memory-of s words) ≡ found (evaluate (a .«draw_winner») (position-of (a .game))) (line-of l (a .depth)) (leaf (enter (memory-of s words)))
-        go true x z = search-leaf-zero (asked-game a) (at-most (a .allowance)) (a .depth) (a .game) (a .alpha) (a .beta) (line-of l (a .depth)) (a .prev .bits) (memory-of s words) one-more-is (eqb-true (a .depth) 0 x)
-        go false x z = search-leaf-over (asked-game a) (at-most (a .allowance)) (a .depth) (a .game) (a .alpha) (a .beta) (line-of l (a .depth)) (a .prev .bits) (memory-of s words) one-more-is z
+        go true x z = search-leaf-zero _ _ _ _ _ _ _ _ _ one-more-is (eqb-true (a .depth) 0 x)
+        go false x z = search-leaf-over _ _ _ _ _ _ _ _ _ one-more-is z
 
     pub enter-leaf : (x : Bool) → x ≡ (eqb (a .depth) 0 || not (going (position-of (a .game)))) → x ≡ true → (s₂ : Search) → ((ws : List ℕ) → memory-of s₂ ws ≡ leaf (memory-of s₁ ws))
         → (f : Found) → f ≡ record { state = s₂; line = l; score = evaluate (a .«draw_winner») (position-of (a .game)); stopped = false } → (e .answered ≡ true) × (e .found ≡ f) → Enters a s l words e
@@ -190,9 +152,9 @@ module _ (a : Ask) (s : Search) (l : Line) (words : List ℕ) (e : Entered) wher
         -- it knows nothing
         pub enter-none : Counted a s → held ≡ Absent → (first : Move) → first .bits ≡ no-move → (e .answered ≡ false) × (e .first ≡ first) × (e .found .state ≡ s₁) × (e .found .line ≡ l) → Enters a s l words e
         unfolding searched
-        enter-none counted h first n p = unanswered first s₁ (entered-ready a s s₁ counted more (entered-steps s s₁ (entered [])) deep-enough)
+        enter-none counted h first n p = unanswered first s₁ (paid-ready a s s₁ 0 (omega arith) counted more deep-enough (entered-paid s s₁ (entered [])))
             (over-same first s₁ _ (entered words) ∙ ap (λ (ms : List ℕ). from-memory (tried ms (enter (memory-of s words))) (enter (memory-of s words))) (emptied (first .bits) n)
-            ∙ sym (search-none (asked-game a) (at-most (a .allowance)) (a .depth) (a .game) (a .alpha) (a .beta) (line-of l (a .depth)) (a .prev .bits) (memory-of s words) one-more-is deep-enough (not-leaf .1) (look-up-is none (ap held-means h))))
+            ∙ sym (search-none _ _ _ _ _ _ _ _ _ one-more-is deep-enough (not-leaf .1) (look-up-is none (ap held-means h))))
             p
 
         module _ (entry : Entry) (h : held ≡ Holds entry) (s₂ : Search) (was-hit : (ws : List ℕ) → memory-of s₂ ws ≡ hit (memory-of s₁ ws)) (b : Bool) (be : b ≡ suffices (entry-means entry) (a .depth) (a .alpha) (a .beta)) where
@@ -203,15 +165,15 @@ module _ (a : Ask) (s : Search) (l : Line) (words : List ℕ) (e : Entered) wher
           enter-known t s₃ w f q p = answers f p (subst (λ (y : Found). Gives a l y words (searched a s l words)) (sym q) (record {
             same = outcome-found a _ words refl
                 ∙ ap₂ (λ (line : List ℕ) (m : Memory). found (entry .value) line m) (set-first-place (l .moves) (entry .pv) (a .depth)) (w words ∙ ap answered (was-hit words ∙ ap hit (entered words)))
-                ∙ sym (search-known (asked-game a) (at-most (a .allowance)) (a .depth) (a .game) (a .alpha) (a .beta) (line-of l (a .depth)) (a .prev .bits) (memory-of s words) one-more-is deep-enough (not-leaf .1) (entry-means entry) (look-up-is _ (ap held-means h)) (sym be ∙ t));
+                ∙ sym (search-known _ _ _ _ _ _ _ _ _ one-more-is deep-enough (not-leaf .1) (entry-means entry) (look-up-is _ (ap held-means h)) (sym be ∙ t));
             places = λ _. set-first-drop (l .moves) (entry .pv) (a .depth) deep-enough;
           }))
 
           -- it does not
           pub enter-some : Counted a s → b ≡ false → (first : Move) → first ≡ entry .pv → (e .answered ≡ false) × (e .first ≡ first) × (e .found .state ≡ s₂) × (e .found .line ≡ l) → Enters a s l words e
           unfolding searched
-          enter-some counted t first n p = unanswered first s₂ (hit-ready a s s₁ counted more (entered-steps s s₁ (entered [])) deep-enough s₂ (hit-steps s₁ s₂ (was-hit [])))
+          enter-some counted t first n p = unanswered first s₂ (paid-ready a s s₂ 1 (omega arith) counted more deep-enough (hit-paid s s₁ (entered []) s₂ (was-hit [])))
               (over-same first s₂ _ (was-hit words ∙ ap hit (entered words))
               ∙ ap (λ (ms : List ℕ). from-memory ms (hit (enter (memory-of s words)))) (ap (λ (m : Move). tried (some-move (m .bits)) (hit (enter (memory-of s words)))) n ∙ sym (candidates-some (asked-game a) (hit (enter (memory-of s words))) (a .game) (a .prev .bits) (line-of l (a .depth)) (entry .pv .bits) (none-refused a)))
-              ∙ sym (search-some (asked-game a) (at-most (a .allowance)) (a .depth) (a .game) (a .alpha) (a .beta) (line-of l (a .depth)) (a .prev .bits) (memory-of s words) one-more-is deep-enough (not-leaf .1) (entry-means entry) (look-up-is _ (ap held-means h)) (sym be ∙ t)))
+              ∙ sym (search-some _ _ _ _ _ _ _ _ _ one-more-is deep-enough (not-leaf .1) (entry-means entry) (look-up-is _ (ap held-means h)) (sym be ∙ t)))
               p

@@ -1,16 +1,13 @@
 -- What a table's entry is good for, by the tests that the code makes.
-use mathlib.Core.Path.{_≡_, refl, sym, ap, ap₂, _∙_}
-use mathlib.Core.Bool.{Bool, true, false, _&&_}
+use mathlib.Core.Path.{_≡_, sym, ap, _∙_}
+use mathlib.Core.Bool.{Bool, true, false}
 use Prim.Native.Nat.{ℕ, _≤_, _<_}
-use native.Mathlib.Omega.{arith}
-use lib.Dec.{leb}
 use lib.IntN.{ℤ}
 use lib.Signed.{leZ}
 use borrow.Author.Tests.{le-leb, lt-leb}
 use Rattle.base.specs.Branch.{if_then_else_}
 use Rattle.theory.specs.Table.{suffices, bound-of, bound-suffices}
 use Rattle.table.specs.declared.Bound.{Bound}
-use Rattle.table.specs.declared.Bound.the-variants.{Exact, AtLeast, AtMost}
 use Rattle.table.specs.declared.Entry.{Entry}
 use Rattle.table.specs.Entries.{bound-number, entry-means}
 

@@ -1,5 +1,5 @@
 -- A line's places: the first one read and set, and a move put before the line below.
-use mathlib.Core.Path.{_≡_, refl, sym, ap, _∙_}
+use mathlib.Core.Path.{_≡_, refl, ap}
 use mathlib.Core.List.{List, [], _∷_, _++_}
 use Prim.Native.Nat.{ℕ, zero, suc, _+_, _-_, _≤_, _<_}
 use native.Mathlib.Omega.{arith}
@@ -8,8 +8,7 @@ use lib.ListN.{length, getD, set, take, drop, replicate}
 use Rattle.rules.specs.Play.{no-move}
 use Rattle.theory.specs.OrderedSearch.{set-first}
 use Rattle.boards.specs.declared.moves.Move.{Move}
-use Rattle.minimax.specs.declared.search.Line.{Line}
-use Rattle.minimax.specs.State.{byte-of, bytes-of, line-of}
+use Rattle.minimax.specs.State.{byte-of, bytes-of}
 
 -- ---- the first place
 pub first-place : (l : List Move) (x : Move) → 0 < length l → (d : ℕ) → 0 < d → byte-of (getD l 0 x) ≡ getD (take d (bytes-of l)) 0 no-move

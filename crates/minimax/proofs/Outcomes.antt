@@ -4,17 +4,19 @@ use mathlib.Core.Bool.{Bool, true, false}
 use mathlib.Core.List.{List, [], _∷_, _++_}
 use Prim.Native.Nat.{ℕ}
 use lib.Dec.{eqb}
-use lib.IntN.{ℤ}
 use lib.ListN.{getD}
 use Rattle.base.specs.Branch.{if_then_else_}
 use Rattle.rules.specs.Board.{other}
 use Rattle.rules.specs.Play.{accepts, no-move}
 use Rattle.rules.specs.Moves.{moves}
 use Rattle.theory.specs.Table.{Entry as Meant, store, bound-of}
-use Rattle.theory.specs.Memory.{Memory, some-move, hints, answers-to}
-use Rattle.theory.specs.OrderedSearch.{Outcome, stopped, found, unless-stopped, told, fresh, candidates}
+use Rattle.theory.specs.Memory.{some-move, hints, answers-to}
+use Rattle.theory.specs.OrderedSearch.{stopped, found, unless-stopped, told, fresh, candidates}
 use Rattle.boards.specs.declared.moves.Move.{Move}
 use Rattle.game.specs.Meaning.{position-of}
+use Rattle.order.specs.declared.Walk.{Walk}
+use Rattle.order.specs.Order.{marked, order-left, walk-left}
+use Rattle.order.proofs.Walks.{walk-new}
 use Rattle.table.specs.declared.Entry.{Entry}
 use Rattle.table.specs.Entries.{bound-number, entry-means}
 use Rattle.minimax.specs.declared.search.Search.{Search}
@@ -73,11 +75,13 @@ module _ (a : Ask) (s : Search) (words : List ℕ) (l : Line) (answer line secon
       ∙ ap₂ (λ (x y : ℕ). if eqb x no-move then (λ _. some-move y) else λ _. x ∷ []) f g
 
   -- what a walk has left at first are the candidates
-  pub walk-candidates : (first : Move) (left : List ℕ) → left ≡ fresh (accepts (position-of (a .game))) [] (some-move (first .bits) ++ (some-move (second .bits) ++ moves (position-of (a .game))))
+  pub walk-candidates : (first : Move) (w : Walk)
+      → (order-left (w .left) ≡ some-move (first .bits) ++ (some-move (second .bits) ++ moves (position-of (a .game)))) × ((k : ℕ) → marked (w .seen) k ≡ false)
       → second ≡ (if eqb (answer .bits) no-move then (λ _. line) else λ _. answer)
       → answer .bits ≡ getD (answers-to (memory-of s words) (other (a .game .«next_player»))) (a .prev .bits) no-move
       → line .bits ≡ getD (line-of l (a .depth)) 0 no-move
-      → left ≡ candidates (asked-game a) (some-move (first .bits)) (memory-of s words) (a .game) (a .prev .bits) (line-of l (a .depth))
+      → walk-left (a .game) w ≡ candidates (asked-game a) (some-move (first .bits)) (memory-of s words) (a .game) (a .prev .bits) (line-of l (a .depth))
   unfolding candidates
-  walk-candidates first left n e f g =
-      n ∙ ap (λ (hs : List ℕ). fresh (accepts (position-of (a .game))) [] (some-move (first .bits) ++ (hs ++ moves (position-of (a .game))))) (hinted e f g)
+  walk-candidates first w n e f g =
+      walk-new (a .game) w _ n
+      ∙ ap (λ (hs : List ℕ). fresh (accepts (position-of (a .game))) [] (some-move (first .bits) ++ (hs ++ moves (position-of (a .game))))) (hinted e f g)

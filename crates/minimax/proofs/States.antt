@@ -1,6 +1,6 @@
 -- The steps on the search's state are those on the memory that it means.
 use mathlib.Core.Path.{_≡_, refl, sym, ap, _∙_}
-use mathlib.Core.List.{List, [], _∷_, map}
+use mathlib.Core.List.{List, [], _∷_}
 use Prim.Native.Nat.{ℕ, zero, suc, _+_, _<_}
 use native.Mathlib.Omega.{arith}
 use native.Mathlib.Numerals.{unary-clauses}
@@ -12,7 +12,7 @@ use Rattle.rules.specs.declared.Player.{Player}
 use Rattle.rules.specs.declared.Player.the-variants.{X, O}
 use Rattle.rules.specs.Board.{other}
 use Rattle.rules.specs.Play.{no-move}
-use Rattle.theory.specs.Memory.{Memory, begin, enter, leaf, hit, answered, answers-to, cut}
+use Rattle.theory.specs.Memory.{begin, enter, leaf, hit, answered, answers-to, cut}
 use Rattle.boards.specs.declared.moves.Move.{Move}
 use Rattle.minimax.specs.declared.search.Search.{Search}
 use Rattle.minimax.specs.State.{byte-of, bytes-of, memory-of}

@@ -1,24 +1,20 @@
 -- One turn of the loop over a position's moves: what is left, searched from where it stands, is what there was to search at first.
 use mathlib.Core.Path.{_≡_, refl, sym, ap, ap₂, _∙_, subst}
-use mathlib.Core.Bool.{Bool, true, false, not, true≢false, false≢true}
-use mathlib.Core.List.{List, [], _∷_, _++_}
+use mathlib.Core.Bool.{Bool, true, false, true≢false}
+use mathlib.Core.List.{List, [], _∷_}
 use Prim.Native.Nat.{ℕ, _+_, _-_, _*_, _≤_, _<_}
 use native.Mathlib.Omega.{arith}
-use native.Mathlib.Numerals.{unary-clauses}
 use lib.Dec.{T, eqb}
-use lib.IntN.{ℤ, negℤ}
-use lib.ListN.{length, take, drop}
+use lib.IntN.{negℤ}
+use lib.ListN.{length, drop}
 use lib.Signed.{leZ, ltZ, _≤ℤ_}
 use borrow.Author.Tests.{eqb-true, eq-eqb}
-use Rattle.base.specs.Branch.{if_then_else_}
-use Rattle.base.specs.Lists.{all}
-use Rattle.base.proofs.Branch.{if-ind}
-use Rattle.base.proofs.Bool.{is}
+use Rattle.base.proofs.Bool.{deny, is}
 use Rattle.base.proofs.Integers.{hi, lo, zarith}
-use mathlib.Core.Logic.{_⊎_, inl, inr}
+use mathlib.Core.Logic.{inl, inr}
 use Rattle.rules.specs.Position.{going}
 use Rattle.rules.specs.Play.{accepts, no-move}
-use Rattle.rules.specs.Evaluation.{won, lost, evaluate}
+use Rattle.rules.specs.Evaluation.{evaluate}
 use Rattle.rules.proofs.Evaluation.{value-inside, finished-within}
 use Rattle.rules.specs.declared.DrawWinner.{DrawWinner}
 use Rattle.rules.specs.Position.{Position}
@@ -41,39 +37,28 @@ use Rattle.minimax.specs.declared.search.Ask.{Ask}
 use Rattle.minimax.specs.declared.search.Best.{Best}
 use Rattle.minimax.specs.declared.search.Found.{Found}
 use Rattle.minimax.specs.declared.search.Entered.{Entered}
-use Rattle.order.specs.Order.{unmarked, walk-left, NextIs}
-use Rattle.minimax.specs.State.{bytes-of, memory-of, line-of, empty-line, asked-game, outcome-of, searched, over-left, over-all, then-told, Within, Asked, Counted, Ready, Gives, Enters}
+use Rattle.order.specs.Order.{walk-left, NextOf}
+use Rattle.order.proofs.Walks.{NextIs, next-left, left-accepted, none-refused}
+use Rattle.minimax.specs.State.{memory-of, line-of, empty-line, asked-game, outcome-of, searched, over-left, over-all, then-told, Within, Asked, Counted, Ready, Gives, Enters}
 use Rattle.minimax.proofs.Scores.{neg-within}
 use Rattle.minimax.proofs.Outcomes.{outcome-stopped, outcome-found}
 
 -- ---- the next move
-left-accepted : (ok : ℕ → Bool) (seen : ℕ → Bool) (ms : List ℕ) (m : ℕ) (rest : List ℕ) → unmarked ok seen ms ≡ m ∷ rest → T (ok m)
-unfolding unmarked
-left-accepted ok seen [] m rest = λ e. absurd (let z : _≡_ {A = ℕ} 0 1 = cc in omega arith)
-left-accepted ok seen (x ∷ ms) m rest = if-ind (λ l. l ≡ m ∷ rest → T (ok m)) (seen x) _ _ (λ _ e. left-accepted ok _ ms m rest e)
-    (λ _. if-ind (λ l. l ≡ m ∷ rest → T (ok m)) (ok x) _ _ (λ t e. let q : x ≡ m = cc in subst (λ (z : ℕ). T (ok z)) q t) (λ _ e. left-accepted ok _ ms m rest e))
+module _ {g : Game} {w : Walk} {child : Child} (n : NextOf g w child) where
+  pub walk-ends : eqb (child .m .bits) no-move ≡ true → walk-left g w ≡ []
+  walk-ends e = go (walk-left g w) refl (next-left g w child n)
+    where
+      go : (ms : List ℕ) → walk-left g w ≡ ms → NextIs g ms child → walk-left g w ≡ []
+      go [] q h = q
+      go (m ∷ ms) q h = absurd (deny (accepts (position-of g) no-move) (none-refused (position-of g))
+          (subst (λ (z : ℕ). T (accepts (position-of g) z)) (sym (h .0) ∙ eqb-true _ no-move e) (left-accepted _ _ _ m ms q)))
 
-none-refused : (p : Position) → T (accepts p no-move) → ⊥
-unfolding accepts all
-none-refused p t = t
-
-pub walk-ends : (g : Game) (w : Walk) (child : Child) (b : Bool) → NextIs g (walk-left g w) child → b ≡ eqb (child .m .bits) no-move → b ≡ true → walk-left g w ≡ []
-walk-ends g w child b n e t = go (walk-left g w) refl n
-  where
-    go : (ms : List ℕ) → walk-left g w ≡ ms → NextIs g ms child → walk-left g w ≡ []
-    go [] q h = q
-    go (m ∷ ms) q h = absurd (none-refused (position-of g) (subst (λ (z : ℕ). T (accepts (position-of g) z)) (sym (h .0) ∙ eqb-true _ no-move (sym e ∙ t)) (left-accepted _ _ _ m ms q)))
-
-module _ (g : Game) (w : Walk) (child : Child) (b : Bool) (n : NextIs g (walk-left g w) child) (e : b ≡ eqb (child .m .bits) no-move) (f : b ≡ false) where
-  goes : (ms : List ℕ) → walk-left g w ≡ ms → NextIs g ms child → (walk-left g w ≡ child .m .bits ∷ walk-left g (child .walk)) × (child .game ≡ game-after g (child .m .bits))
-  goes [] q h = absurd (true≢false (sym (eq-eqb _ no-move (h .0)) ∙ sym e ∙ f))
-  goes (m ∷ ms) q h = (q ∙ ap₂ _∷_ (sym (h .0)) (sym (h .2)), h .1 ∙ ap (game-after g) (sym (h .0)))
-
-  pub walk-goes : (walk-left g w ≡ child .m .bits ∷ walk-left g (child .walk)) × (child .game ≡ game-after g (child .m .bits))
-  walk-goes = goes (walk-left g w) refl n
-
-  pub walk-shorter : length (walk-left g (child .walk)) < length (walk-left g w)
-  walk-shorter = rw (walk-goes .0) (omega arith)
+  pub walk-goes : eqb (child .m .bits) no-move ≡ false → (walk-left g w ≡ child .m .bits ∷ walk-left g (child .walk)) × (child .game ≡ game-after g (child .m .bits))
+  walk-goes e = go (walk-left g w) refl (next-left g w child n)
+    where
+      go : (ms : List ℕ) → walk-left g w ≡ ms → NextIs g ms child → (walk-left g w ≡ child .m .bits ∷ walk-left g (child .walk)) × (child .game ≡ game-after g (child .m .bits))
+      go [] q h = absurd (true≢false (sym (eq-eqb _ no-move (h .0)) ∙ e))
+      go (m ∷ ms) q h = (q ∙ ap₂ _∷_ (sym (h .0)) (sym (h .2)), h .1 ∙ ap (game-after g) (sym (h .0)))
 
 -- ---- every value is within the root's window
 value-within : (draws : DrawWinner) (p : Position) → (lowest ≤ℤ evaluate draws p) × (evaluate draws p ≤ℤ highest)
@@ -83,192 +68,261 @@ value-within draws p = elim (is (going p)) [
   | inr t ↦ let h = finished-within draws p t in (omega (zarith, h .0), omega (zarith, h .1))
 ]
 
--- ---- where the loop stands, from s₀, best₀, local₀ and words₀ on
-pub record Turn (a : Ask) (words₀ : List ℕ) (walk₀ : Walk) (s₀ : Search) (best₀ : Best) (local₀ : Line) (words : List ℕ) (walk : Walk) (s : Search) (best : Best) (local : Line) : Type 0 where
-  pub same : over-left a (walk-left (a .game) walk) best local s words ≡ over-left a (walk-left (a .game) walk₀) best₀ local₀ s₀ words₀
-  pub grown : Grown 0 (memory-of s₀ words₀) (memory-of s words)
-  pub allowed : s .count ≤ a .allowance
-  pub score : Within (best .score)
-  pub places : drop (a .depth) (best .line .moves) ≡ drop (a .depth) (best₀ .line .moves)
-  pub long : length words ≡ length words₀
+-- ---- where the loop stands
+pub record Stand : Type 0 where
+  pub words : List ℕ
+  pub walk : Walk
+  pub s : Search
+  pub best : Best
+  pub local : Line
 
-pub turn-first : (a : Ask) (words : List ℕ) (walk : Walk) (s : Search) (best : Best) (local : Line) (l : Line) → Asked a → Ready a s → best ≡ record { line = l; score = a .alpha } → Turn a words walk s best local words walk s best local
-turn-first a words walk s best local l h r e = record { same = refl; grown = grown-refl; allowed = r .counted .within; score = subst (λ (b : Best). Within (b .score)) (sym e) (h .alpha-within); places = refl; long = refl }
+abbrev pub stand : List ℕ → Walk → Search → Best → Line → Stand
+stand words walk s best local = record { words = words; walk = walk; s = s; best = best; local = local }
 
--- the walk, the best and the line below that the loop begins with
-pub turn-all : (a : Ask) (first : Move) (words : List ℕ) (walk : Walk) (s : Search) (l : Line) (best : Best) (local : Line)
-    → walk-left (a .game) walk ≡ candidates (asked-game a) (some-move (first .bits)) (memory-of s words) (a .game) (a .prev .bits) (line-of l (a .depth)) → best ≡ record { line = l; score = a .alpha } → local ≡ empty-line
-    → over-left a (walk-left (a .game) walk) best local s words ≡ over-all a first s l words
-unfolding over-all
-turn-all a first words walk s l best local w b e = λ i. over-left a (w i) (b i) (e i) s words
+-- what there is to search from there
+abbrev pub left-from : Ask → Stand → Outcome
+left-from a x = over-left a (walk-left (a .game) (x .walk)) (x .best) (x .local) (x .s) (x .words)
 
-module _ (a : Ask) (words₀ : List ℕ) (walk₀ : Walk) (s₀ : Search) (best₀ : Best) (local₀ : Line) (words : List ℕ) (walk : Walk) (s : Search) (best : Best) (local : Line)
-    (asked : Asked a) (ready : Ready a s₀) (turn : Turn a words₀ walk₀ s₀ best₀ local₀ words walk s best local) where
-  abbrev whole : Outcome
-  whole = over-left a (walk-left (a .game) walk₀) best₀ local₀ s₀ words₀
+-- at its beginning, with the table's move and the line that it is given
+pub record Begun : Type 0 where
+  pub a : Ask
+  pub first : Move
+  pub line : Line
+  pub from : Stand
+  pub asked : Asked a
+  pub ready : Ready a (from .s)
+  pub walk-is : walk-left (a .game) (from .walk) ≡ candidates (asked-game a) (some-move (first .bits)) (memory-of (from .s) (from .words)) (a .game) (a .prev .bits) (line-of line (a .depth))
+  pub best-is : from .best ≡ record { line = line; score = a .alpha }
+  pub local-is : from .local ≡ empty-line
 
-  counted : Counted a s
-  counted = record {
-    within = turn .allowed;
-    visited-within = omega (arith, turn .grown .visited-up, ready .counted .visited-within);
-    terminal-within = omega (arith, turn .grown .terminal-up, ready .counted .terminal-within);
-    cuts-within = omega (arith, turn .grown .cuts-up, ready .counted .cuts-within);
-    hits-within = omega (arith, turn .grown .hits-up, ready .counted .hits-within);
-    suffice-within = omega (arith, turn .grown .suffice-up, ready .counted .suffice-within);
+-- at a turn
+pub record Turn (a : Ask) (from at : Stand) : Type 0 where
+  pub same : left-from a at ≡ left-from a from
+  pub grown : Grown 0 (memory-of (from .s) (from .words)) (memory-of (at .s) (at .words))
+  pub allowed : at .s .count ≤ a .allowance
+  pub score : Within (at .best .score)
+  pub places : drop (a .depth) (at .best .line .moves) ≡ drop (a .depth) (from .best .line .moves)
+  pub long : length (at .words) ≡ length (from .words)
+
+pub record Held : Type 0 where
+  pub begun : Begun
+  pub at : Stand
+  pub turn : Turn (begun .a) (begun .from) at
+
+-- a move is met there, and asked about
+pub record Met (h : Held) : Type 0 where
+  pub child : Child
+  pub under : Ask
+  pub next : NextOf (h .begun .a .game) (h .at .walk) child
+  pub is-some : eqb (child .m .bits) no-move ≡ false
+  pub under-is : under ≡ record {
+    game = child .game;
+    depth = h .begun .a .depth - 1;
+    alpha = negℤ (h .begun .a .beta);
+    beta = negℤ (h .at .best .score);
+    prev = child .m;
+    «draw_winner» = h .begun .a .«draw_winner»;
+    allowance = h .begun .a .allowance;
   }
 
+-- and this is found below it, stopped or not
+pub record Brought {h : Held} (m : Met h) (b : Bool) : Type 0 where
+  pub r : Found
+  pub words : List ℕ
+  pub gives : Gives (m .under) (h .at .local) r words (searched (m .under) (h .at .s) (h .at .local) (h .at .words))
+  pub long : length words ≡ length (h .at .words)
+  pub is-stopped : r .stopped ≡ b
+
+-- and raises the lower edge
+pub record Raised {h : Held} {m : Met h} (x : Brought m false) : Type 0 where
+  pub best : Best
+  pub better : ltZ (h .at .best .score) (negℤ (x .r .score)) ≡ true
+  pub raises : (best .score ≡ negℤ (x .r .score))
+      × (line-of (best .line) (h .begun .a .depth) ≡ m .child .m .bits ∷ line-of (x .r .line) (h .begun .a .depth - 1))
+      × (drop (h .begun .a .depth) (best .line .moves) ≡ drop (h .begun .a .depth) (h .at .best .line .moves))
+
+-- what the loop is to give
+abbrev pub Answers : Begun → Found → List ℕ → Type 0
+Answers b r words = Gives (b .a) (b .line) r words (over-all (b .a) (b .first) (b .from .s) (b .line) (b .from .words))
+
+module _ (b : Begun) where
+  pub turn-first : Turn (b .a) (b .from) (b .from)
+  turn-first = record {
+    same = refl;
+    grown = grown-refl;
+    allowed = b .ready .counted .within;
+    score = subst (λ (x : Best). Within (x .score)) (sym (b .best-is)) (b .asked .alpha-within);
+    places = refl;
+    long = refl;
+  }
+
+  -- what there is to search at the beginning is what there is over all moves
+  whole-is : {r : Found} {words : List ℕ} → Gives (b .a) (b .from .best .line) r words (left-from (b .a) (b .from)) → Answers b r words
+  unfolding over-all
+  whole-is g = record {
+    same = g .same ∙ (λ i. over-left (b .a) (b .walk-is i) (b .best-is i) (b .local-is i) (b .from .s) (b .from .words));
+    places = λ z. g .places z ∙ ap (λ (x : Best). drop (b .a .depth) (x .line .moves)) (b .best-is);
+  }
+
+module _ (h : Held) where
+  abbrev a : Ask
+  a = h .begun .a
+
+  abbrev at : Stand
+  at = h .at
+
+  -- over a list of moves from there
+  abbrev over : List ℕ → Outcome
+  over ms = over-left a ms (at .best) (at .local) (at .s) (at .words)
+
   -- no move is left
-  pub turn-done : (child : Child) (b : Bool) → NextIs (a .game) (walk-left (a .game) walk) child → b ≡ eqb (child .m .bits) no-move → b ≡ true
-      → (f : Found) → f ≡ record { state = s; line = best .line; score = best .score; stopped = false } → Gives a (best₀ .line) f words whole
+  pub turn-done : {child : Child} → NextOf (a .game) (at .walk) child → eqb (child .m .bits) no-move ≡ true
+      → {f : Found} → f ≡ record { state = at .s; line = at .best .line; score = at .best .score; stopped = false } → Answers (h .begun) f (at .words)
   unfolding over-left
-  turn-done child b n e t f q = subst (λ (x : Found). Gives a (best₀ .line) x words whole) (sym q) (record {
-    same = outcome-found a _ words refl
-        ∙ sym (over-none (asked-game a) (search (asked-game a) (at-most (a .allowance)) (a .depth - 1)) (a .game) (a .beta) (a .prev .bits) (best .score) (line-of (best .line) (a .depth)) (line-of local (a .depth - 1)) (memory-of s words))
-        ∙ sym (ap (λ (ms : List ℕ). over-left a ms best local s words) (walk-ends (a .game) walk child b n e t))
-        ∙ turn .same;
-    places = λ _. turn .places;
+  turn-done n e q = subst (λ (x : Found). Answers (h .begun) x (at .words)) (sym q) (whole-is (h .begun) (record {
+    same = outcome-found a _ (at .words) refl ∙ sym (over-none _ _ _ _ _ _ _ _ _) ∙ sym (ap over (walk-ends n e)) ∙ h .turn .same;
+    places = λ _. h .turn .places;
+  }))
+
+module _ {h : Held} (m : Met h) where
+  pub under-asked : Asked (m .under)
+  under-asked = subst Asked (sym (m .under-is)) (record {
+    deep = omega (arith, h .begun .asked .deep);
+    alpha-within = neg-within (a h .beta) (h .begun .asked .beta-within);
+    beta-within = neg-within (at h .best .score) (h .turn .score);
+    allowed = h .begun .asked .allowed;
   })
 
-  module _ (child : Child) (b : Bool) (n : NextIs (a .game) (walk-left (a .game) walk) child) (be : b ≡ eqb (child .m .bits) no-move) (bf : b ≡ false)
-      (under : Ask) (under-is : under ≡ record { game = child .game; depth = a .depth - 1; alpha = negℤ (a .beta); beta = negℤ (best .score); prev = child .m; «draw_winner» = a .«draw_winner»; allowance = a .allowance }) where
-    pub under-asked : Asked under
-    under-asked = subst Asked (sym under-is) (record {
-      deep = omega (arith, asked .deep);
-      alpha-within = neg-within (a .beta) (asked .beta-within);
-      beta-within = neg-within (best .score) (turn .score);
-      allowed = asked .allowed;
-    })
+  pub under-counted : Counted (m .under) (at h .s)
+  under-counted = let c = h .begun .ready .counted in let g = h .turn .grown in
+      subst (λ (u : Ask). Counted u (at h .s)) (sym (m .under-is)) (record {
+        within = h .turn .allowed;
+        visited-within = omega (arith, g .visited-up, c .visited-within);
+        terminal-within = omega (arith, g .terminal-up, c .terminal-within);
+        cuts-within = omega (arith, g .cuts-up, c .cuts-within);
+        hits-within = omega (arith, g .hits-up, c .hits-within);
+        suffice-within = omega (arith, g .suffice-up, c .suffice-within);
+      })
 
-    pub under-counted : Counted under s
-    under-counted = subst (λ (u : Ask). Counted u s) (sym under-is) (record {
-      within = counted .within;
-      visited-within = counted .visited-within;
-      terminal-within = counted .terminal-within;
-      cuts-within = counted .cuts-within;
-      hits-within = counted .hits-within;
-      suffice-within = counted .suffice-within;
-    })
+  depth-is : m .under .depth ≡ a h .depth - 1
+  depth-is = ap (λ (u : Ask). u .depth) (m .under-is)
 
-    -- the depth falls
-    pub under-lower : 2 * under .depth + 1 < 2 * a .depth
-    under-lower = let e : under .depth ≡ a .depth - 1 = ap (λ (u : Ask). u .depth) under-is in omega (arith, ready .deep)
+  -- the depth falls
+  pub under-lower : 2 * m .under .depth + 1 < 2 * a h .depth
+  under-lower = omega (arith, depth-is, h .begun .ready .deep)
 
-    abbrev after : ℕ → Search → List ℕ → Line → Outcome
-    after m s' ws low = search (asked-game a) (at-most (a .allowance)) (a .depth - 1) (game-after (a .game) m) (negℤ (a .beta)) (negℤ (best .score)) (line-of low (a .depth - 1)) m (memory-of s' ws)
+  abbrev rest : List ℕ
+  rest = walk-left (a h .game) (m .child .walk)
 
-    abbrev rest : List ℕ
-    rest = walk-left (a .game) (child .walk)
+  left-is : over h (m .child .m .bits ∷ rest) ≡ left-from (a h) (h .begun .from)
+  left-is = sym (ap (over h) (walk-goes (m .next) (m .is-some) .0)) ∙ h .turn .same
 
-    left-is : over-left a (child .m .bits ∷ rest) best local s words ≡ whole
-    left-is = sym (ap (λ (ms : List ℕ). over-left a ms best local s words) (walk-goes (a .game) walk child b n be bf .0)) ∙ turn .same
+  -- the search of the game after the move
+  abbrev after : Game → Outcome
+  after g = search (asked-game (a h)) (at-most (a h .allowance)) (a h .depth - 1) g (negℤ (a h .beta)) (negℤ (at h .best .score))
+      (line-of (at h .local) (a h .depth - 1)) (m .child .m .bits) (memory-of (at h .s) (at h .words))
 
-    module _ (r : Found) (words' : List ℕ) (gives : Gives under local r words' (searched under s local words)) (long : length words' ≡ length words) where
-      below-is : after (child .m .bits) s words local ≡ outcome-of under r words'
-      unfolding searched
-      below-is =
-          ap (λ (g : Game). search (asked-game a) (at-most (a .allowance)) (a .depth - 1) g (negℤ (a .beta)) (negℤ (best .score)) (line-of local (a .depth - 1)) (child .m .bits) (memory-of s words)) (sym (walk-goes (a .game) walk child b n be bf .1))
-          ∙ sym (ap (λ (u : Ask). searched u s local words) under-is) ∙ sym (gives .same)
+module _ {h : Held} {m : Met h} {b : Bool} (x : Brought m b) where
+  below-is : after m (game-after (a h .game) (m .child .m .bits)) ≡ outcome-of (m .under) (x .r) (x .words)
+  unfolding searched
+  below-is =
+      ap (after m) (sym (walk-goes (m .next) (m .is-some) .1))
+      ∙ sym (ap (λ (u : Ask). searched u (at h .s) (at h .local) (at h .words)) (m .under-is)) ∙ sym (x .gives .same)
 
-      -- the allowance is spent below
-      pub turn-stopped : r .stopped ≡ true → Gives a (best₀ .line) r words' whole
-      unfolding over-left
-      turn-stopped e = record {
-        same = outcome-stopped a r words' e
-            ∙ sym (over-stopped (asked-game a) (search (asked-game a) (at-most (a .allowance)) (a .depth - 1)) (a .game) (a .beta) (a .prev .bits) (child .m .bits) rest (best .score) (line-of (best .line) (a .depth)) (line-of local (a .depth - 1)) (memory-of s words) _ (below-is ∙ outcome-stopped under r words' e))
-            ∙ left-is;
-        places = λ z. absurd (true≢false (sym e ∙ z));
-      }
+  pub words-long : length (x .words) ≡ length (h .begun .from .words)
+  words-long = x .long ∙ h .turn .long
 
-      module _ (e : r .stopped ≡ false) where
-        depth-is : under .depth ≡ a .depth - 1
-        depth-is = ap (λ (u : Ask). u .depth) under-is
+  pub walk-shorter : length (rest m) < length (walk-left (a h .game) (at h .walk))
+  walk-shorter = rw (walk-goes (m .next) (m .is-some) .0) (omega arith)
 
-        found-is : after (child .m .bits) s words local ≡ found (r .score) (line-of (r .line) (a .depth - 1)) (memory-of (r .state) words')
-        found-is = below-is ∙ outcome-found under r words' e ∙ ap (λ (d : ℕ). found (r .score) (line-of (r .line) d) (memory-of (r .state) words')) depth-is
+-- the allowance is spent below
+pub turn-stopped : {h : Held} {m : Met h} (x : Brought m true) → Answers (h .begun) (x .r) (x .words)
+unfolding over-left
+turn-stopped {h} {m} x = whole-is (h .begun) (record {
+  same = outcome-stopped (a h) (x .r) (x .words) (x .is-stopped)
+      ∙ sym (over-stopped _ _ _ _ _ _ _ _ _ _ _ _ (below-is x ∙ outcome-stopped (m .under) (x .r) (x .words) (x .is-stopped))) ∙ left-is m;
+  places = λ z. absurd (true≢false (sym (x .is-stopped) ∙ z));
+})
 
-        pub score-within : Within (r .score)
-        unfolding Finds
-        score-within =
-            let low = neg-within (a .beta) (asked .beta-within) in
-            let high = neg-within (best .score) (turn .score) in
-            let h = subst (Finds (λ x _ _. (lowest ≤ℤ x) × (x ≤ℤ highest))) found-is
-            (search-range (asked-game a) (λ g. value-within (a .«draw_winner») (position-of g)) (at-most (a .allowance)) (a .depth - 1) (game-after (a .game) (child .m .bits)) (negℤ (a .beta)) (negℤ (best .score)) (line-of local (a .depth - 1)) (child .m .bits) (memory-of s words)
-            (low .low) (low .high) (high .low) (high .high)) in
-            record { low = h .0; high = h .1 }
+module _ {h : Held} {m : Met h} (x : Brought m false) where
+  abbrev s' : Memory
+  s' = memory-of (x .r .state) (x .words)
 
-        grown-on : Grown 0 (memory-of s₀ words₀) (memory-of (r .state) words')
-        unfolding Ends
-        grown-on = grown-trans (turn .grown) (subst (Ends (Grown 0 (memory-of s words))) found-is
-            (search-grows (asked-game a) (at-most (a .allowance)) (a .depth - 1) (game-after (a .game) (child .m .bits)) (negℤ (a .beta)) (negℤ (best .score)) (line-of local (a .depth - 1)) (child .m .bits) (memory-of s words)))
+  found-is : after m (game-after (a h .game) (m .child .m .bits)) ≡ found (x .r .score) (line-of (x .r .line) (a h .depth - 1)) s'
+  found-is = below-is x ∙ outcome-found (m .under) (x .r) (x .words) (x .is-stopped) ∙ ap (λ (d : ℕ). found (x .r .score) (line-of (x .r .line) d) s') (depth-is m)
 
-        allowed-on : r .state .count ≤ a .allowance
-        unfolding Ends
-        allowed-on = subst (Ends (λ z. z .count ≤ a .allowance)) found-is
-            (search-allowed (asked-game a) (a .allowance) (a .depth - 1) (game-after (a .game) (child .m .bits)) (negℤ (a .beta)) (negℤ (best .score)) (line-of local (a .depth - 1)) (child .m .bits) (memory-of s words) (turn .allowed))
+  pub score-within : Within (x .r .score)
+  unfolding Finds
+  score-within =
+      let low = neg-within (a h .beta) (h .begun .asked .beta-within) in
+      let high = neg-within (at h .best .score) (h .turn .score) in
+      let w = subst (Finds (λ z _ _. (lowest ≤ℤ z) × (z ≤ℤ highest))) found-is
+      (search-range (asked-game (a h)) (λ g. value-within (a h .«draw_winner») (position-of g)) _ _ _ _ _ _ _ _ (low .low) (low .high) (high .low) (high .high)) in
+      record { low = w .0; high = w .1 }
 
-        pub cut-room : r .state .cuts < 1000000000
-        cut-room = omega (arith, grown-on .cuts-up, ready .room, allowed-on, asked .allowed)
+  -- what raising the lower edge asks
+  pub may-raise : Within (x .r .score) × (0 < a h .depth) × (a h .depth ≤ 81)
+  may-raise = (score-within, h .begun .ready .deep, h .begun .asked .deep)
 
-        -- the move is no better
-        pub turn-not : (x : Bool) → x ≡ ltZ (best .score) (negℤ (r .score)) → x ≡ false → Turn a words₀ walk₀ s₀ best₀ local₀ words' (child .walk) (r .state) best (r .line)
-        unfolding over-left
-        turn-not x xe xf = record {
-          same = sym (over-not (asked-game a) (search (asked-game a) (at-most (a .allowance)) (a .depth - 1)) (a .game) (a .beta) (a .prev .bits) (child .m .bits) rest (best .score) (line-of (best .line) (a .depth)) (line-of local (a .depth - 1)) (memory-of s words) _ _ _ found-is (sym xe ∙ xf)) ∙ left-is;
-          grown = grown-on;
-          allowed = allowed-on;
-          score = turn .score;
-          places = turn .places;
-          long = long ∙ turn .long;
-        }
+  grown-on : Grown 0 (memory-of (h .begun .from .s) (h .begun .from .words)) s'
+  unfolding Ends
+  grown-on = grown-trans (h .turn .grown) (subst (Ends (Grown 0 (memory-of (at h .s) (at h .words)))) found-is (search-grows _ _ _ _ _ _ _ _ _))
 
-        -- it is better
-        module _ (x : Bool) (xe : x ≡ ltZ (best .score) (negℤ (r .score))) (xt : x ≡ true) (raised : Best)
-            (raised-is : (raised .score ≡ negℤ (r .score)) × (line-of (raised .line) (a .depth) ≡ child .m .bits ∷ line-of (r .line) (a .depth - 1)) × (drop (a .depth) (raised .line .moves) ≡ drop (a .depth) (best .line .moves)))
-            (y : Bool) (ye : y ≡ leZ (a .beta) (raised .score)) where
-          reaches : (z : Bool) → y ≡ z → leZ (a .beta) (negℤ (r .score)) ≡ z
-          reaches z q = ap (leZ (a .beta)) (sym (raised-is .0)) ∙ sym ye ∙ q
+  allowed-on : x .r .state .count ≤ a h .allowance
+  unfolding Ends
+  allowed-on = subst (Ends (λ z. z .count ≤ a h .allowance)) found-is (search-allowed _ _ _ _ _ _ _ _ _ (h .turn .allowed))
 
-          pub turn-better : y ≡ false → Turn a words₀ walk₀ s₀ best₀ local₀ words' (child .walk) (r .state) raised (r .line)
-          unfolding over-left
-          turn-better yf = record {
-            same = (λ i. over-left-at (raised-is .0 i) (raised-is .1 i))
-                ∙ sym (over-better (asked-game a) (search (asked-game a) (at-most (a .allowance)) (a .depth - 1)) (a .game) (a .beta) (a .prev .bits) (child .m .bits) rest (best .score) (line-of (best .line) (a .depth)) (line-of local (a .depth - 1)) (memory-of s words) _ _ _ found-is (sym xe ∙ xt) (reaches false yf)) ∙ left-is;
-            grown = grown-on;
-            allowed = allowed-on;
-            score = subst Within (sym (raised-is .0)) (neg-within (r .score) score-within);
-            places = raised-is .2 ∙ turn .places;
-            long = long ∙ turn .long;
-          }
-            where
-              over-left-at : ℤ → List ℕ → Outcome
-              over-left-at z line = over-moves (asked-game a) (search (asked-game a) (at-most (a .allowance)) (a .depth - 1)) (a .game) (a .beta) (a .prev .bits) rest z line (line-of (r .line) (a .depth - 1)) (memory-of (r .state) words')
+  pub cut-room : x .r .state .cuts < 1000000000
+  cut-room = omega (arith, grown-on .cuts-up, h .begun .ready .room, allowed-on, h .begun .asked .allowed)
 
-          -- it reaches the upper edge
-          pub turn-cut : y ≡ true → (s' : Search) → ((ws : List ℕ) → memory-of s' ws ≡ cut (a .game .«next_player») (memory-of (r .state) ws) (a .prev .bits) (child .m .bits))
-              → (f : Found) → f ≡ record { state = s'; line = raised .line; score = raised .score; stopped = false } → Gives a (best₀ .line) f words' whole
-          unfolding over-left
-          turn-cut yt s' w f q = subst (λ (z : Found). Gives a (best₀ .line) z words' whole) (sym q) (record {
-            same = outcome-found a _ words' refl
-                ∙ (λ i. found (raised-is .0 i) (raised-is .1 i) (w words' i))
-                ∙ sym (over-cut (asked-game a) (search (asked-game a) (at-most (a .allowance)) (a .depth - 1)) (a .game) (a .beta) (a .prev .bits) (child .m .bits) rest (best .score) (line-of (best .line) (a .depth)) (line-of local (a .depth - 1)) (memory-of s words) _ _ _ found-is (sym xe ∙ xt) (reaches true yt))
-                ∙ left-is;
-            places = λ _. raised-is .2 ∙ turn .places;
-          })
+  -- the move is no better
+  pub turn-not : ltZ (at h .best .score) (negℤ (x .r .score)) ≡ false
+      → Turn (a h) (h .begun .from) (stand (x .words) (m .child .walk) (x .r .state) (at h .best) (x .r .line))
+  unfolding over-left
+  turn-not t = record {
+    same = sym (over-not _ _ _ _ _ _ _ _ _ _ _ _ _ _ found-is t) ∙ left-is m;
+    grown = grown-on;
+    allowed = allowed-on;
+    score = h .turn .score;
+    places = h .turn .places;
+    long = words-long x;
+  }
 
--- ---- the whole
--- what the loop gives is what there is over all moves
-pub whole-is : (a : Ask) (first : Move) (words : List ℕ) (walk : Walk) (s : Search) (l : Line) (best : Best) (local : Line)
-    → walk-left (a .game) walk ≡ candidates (asked-game a) (some-move (first .bits)) (memory-of s words) (a .game) (a .prev .bits) (line-of l (a .depth)) → best ≡ record { line = l; score = a .alpha } → local ≡ empty-line
-    → {r : Found} {words' : List ℕ} → Gives a (best .line) r words' (over-left a (walk-left (a .game) walk) best local s words) → Gives a l r words' (over-all a first s l words)
-whole-is a first words walk s l best local w b e g = record {
-  same = g .same ∙ turn-all a first words walk s l best local w b e;
-  places = λ z. g .places z ∙ ap (λ (x : Best). drop (a .depth) (x .line .moves)) b;
-}
+module _ {h : Held} {m : Met h} {x : Brought m false} (y : Raised x) where
+  reaches : (t : Bool) → leZ (a h .beta) (y .best .score) ≡ t → leZ (a h .beta) (negℤ (x .r .score)) ≡ t
+  reaches t e = ap (leZ (a h .beta)) (sym (y .raises .0)) ∙ e
 
--- a position that is entered and searched over its moves, and the table told
-pub entered-moves : (a : Ask) (s : Search) (l : Line) (words : List ℕ) (e : Entered) → Enters a s l words e → e .answered ≡ false → (r : Found) (words₁ words₂ : List ℕ)
+  -- the move is better
+  pub turn-better : leZ (a h .beta) (y .best .score) ≡ false
+      → Turn (a h) (h .begun .from) (stand (x .words) (m .child .walk) (x .r .state) (y .best) (x .r .line))
+  unfolding over-left
+  turn-better t = record {
+    same = (λ i. over-moves (asked-game (a h)) (search (asked-game (a h)) (at-most (a h .allowance)) (a h .depth - 1)) (a h .game) (a h .beta) (a h .prev .bits)
+        (rest m) (y .raises .0 i) (y .raises .1 i) (line-of (x .r .line) (a h .depth - 1)) (s' x))
+        ∙ sym (over-better _ _ _ _ _ _ _ _ _ _ _ _ _ _ (found-is x) (y .better) (reaches false t)) ∙ left-is m;
+    grown = grown-on x;
+    allowed = allowed-on x;
+    score = subst Within (sym (y .raises .0)) (neg-within (x .r .score) (score-within x));
+    places = y .raises .2 ∙ h .turn .places;
+    long = words-long x;
+  }
+
+  -- it reaches the upper edge
+  pub turn-cut : leZ (a h .beta) (y .best .score) ≡ true
+      → {s : Search} → ((ws : List ℕ) → memory-of s ws ≡ cut (a h .game .«next_player») (memory-of (x .r .state) ws) (a h .prev .bits) (m .child .m .bits))
+      → {f : Found} → f ≡ record { state = s; line = y .best .line; score = y .best .score; stopped = false } → Answers (h .begun) f (x .words)
+  unfolding over-left
+  turn-cut t w q = subst (λ (z : Found). Answers (h .begun) z (x .words)) (sym q) (whole-is (h .begun) (record {
+    same = outcome-found (a h) _ (x .words) refl
+        ∙ (λ i. found (y .raises .0 i) (y .raises .1 i) (w (x .words) i))
+        ∙ sym (over-cut _ _ _ _ _ _ _ _ _ _ _ _ _ _ (found-is x) (y .better) (reaches true t)) ∙ left-is m;
+    places = λ _. y .raises .2 ∙ h .turn .places;
+  }))
+
+-- ---- a position that is entered and searched over its moves, and the table told
+pub entered-moves : {a : Ask} {s : Search} {l : Line} {words : List ℕ} {e : Entered} → Enters a s l words e → e .answered ≡ false → {r : Found} {words₁ words₂ : List ℕ}
     → Gives a (e .found .line) r words₁ (over-all a (e .first) (e .found .state) (e .found .line) words) → outcome-of a r words₂ ≡ then-told a (outcome-of a r words₁) → Gives a l r words₂ (searched a s l words)
-entered-moves a s l words e h z r words₁ words₂ g t = record {
+entered-moves {a} h z g t = record {
   same = t ∙ ap (then-told a) (g .same) ∙ h .goes-on z;
   places = λ x. g .places x ∙ ap (λ (y : Line). drop (a .depth) (y .moves)) (h .line-kept z);
 }

@@ -1,15 +1,17 @@
--- What a walk has left: marks as a list of those seen, and one move met.
-use mathlib.Core.Path.{_≡_, refl, sym, ap, _∙_}
-use mathlib.Core.Bool.{Bool, true, false, _||_}
+-- One step of a walk, and what a walk has left by all its steps.
+use mathlib.Core.Path.{_≡_, refl, sym, ap, _∙_, subst}
+use mathlib.Core.Bool.{Bool, true, false, not, _||_}
 use mathlib.Core.List.{List, [], _∷_, _++_}
 use Prim.Native.Nat.{ℕ, _<_}
 use native.Mathlib.Omega.{arith}
 use lib.Dec.{T, eqb}
 use lib.ListN.{length}
 use Rattle.base.specs.Branch.{if_then_else_}
-use Rattle.base.specs.Lists.{elem}
+use Rattle.base.specs.Lists.{all, elem}
 use Rattle.base.proofs.Agree.{false-by}
 use Rattle.base.proofs.Bool.{deny}
+use Rattle.base.proofs.Branch.{if-ind, if-both}
+use Rattle.rules.specs.Position.{Position}
 use Rattle.rules.specs.Play.{accepts, no-move}
 use Rattle.rules.specs.Moves.{moves}
 use Rattle.theory.specs.Memory.{some-move}
@@ -20,67 +22,42 @@ use Rattle.boards.specs.declared.moves.MoveError.{MoveError}
 use Rattle.boards.specs.declared.moves.MoveError.the-variants.{WrongBoard, WonBoard, OutOfBounds, NotEmpty, GameOver}
 use Rattle.boards.specs.declared.moves.Answer.the-variants.{Accepted, Refused}
 use Rattle.boards.specs.Answers.{answer-number, error-number}
-use Rattle.boards.specs.Cursor.{moves-left, cursor-over}
+use Rattle.boards.specs.Cursor.{cursor-over}
 use Rattle.game.specs.declared.Game.{Game}
 use Rattle.game.specs.declared.Made.{Made}
 use Rattle.game.specs.Meaning.{position-of}
-use Rattle.game.specs.After.{Plays}
+use Rattle.game.specs.After.{Plays, game-after}
 use Rattle.game.proofs.Answers.{nought-accepts, refused-not-accepts}
 use Rattle.game.proofs.Lists.{all-moves-listed}
+use Rattle.game.proofs.Meaning.{game-refused}
 use Rattle.order.specs.declared.Seen.{Seen}
 use Rattle.order.specs.declared.Order.{Order}
+use Rattle.order.specs.declared.Walk.{Walk}
 use Rattle.order.specs.declared.Child.{Child}
-use Rattle.order.specs.Order.{marked, order-left, unmarked, walk-left, NextIs}
-
-module _ (ok : ℕ → Bool) where
-  -- ---- marks as a list of those seen
-  pub unmarked-same : (f g : ℕ → Bool) → ((k : ℕ) → f k ≡ g k) → (ms : List ℕ) → unmarked ok f ms ≡ unmarked ok g ms
-  unmarked-same f g e ms = λ i. unmarked ok (λ k. e k i) ms
-
-  unmarked-listed : (seen ms : List ℕ) → unmarked ok (λ k. elem k seen) ms ≡ fresh ok seen ms
-  unfolding unmarked fresh elem
-  unmarked-listed seen [] = refl
-  unmarked-listed seen (m ∷ ms) = λ i.
-      if elem m seen then (λ _. unmarked-listed seen ms i) else
-      λ _. if ok m then (λ _. m ∷ unmarked-listed (m ∷ seen) ms i) else λ _. unmarked-listed (m ∷ seen) ms i
-
-  pub unmarked-fresh : (f : ℕ → Bool) (seen : List ℕ) → ((k : ℕ) → f k ≡ elem k seen) → (ms : List ℕ) → unmarked ok f ms ≡ fresh ok seen ms
-  unmarked-fresh f seen e ms = unmarked-same f (λ k. elem k seen) e ms ∙ unmarked-listed seen ms
-
-  pub none-seen : (f : ℕ → Bool) → ((k : ℕ) → f k ≡ false) → (ms : List ℕ) → unmarked ok f ms ≡ fresh ok [] ms
-  unfolding elem
-  none-seen f e ms = unmarked-fresh f [] e ms
-
-  -- ---- one move met
-  module _ (f : ℕ → Bool) (m : ℕ) (ms : List ℕ) where
-    pub a-repeat : f m ≡ true → unmarked ok f (m ∷ ms) ≡ unmarked ok f ms
-    unfolding unmarked if_then_else_
-    a-repeat e = rw e
-
-    module _ (g : ℕ → Bool) (more : (k : ℕ) → g k ≡ (eqb k m || f k)) (e : f m ≡ false) where
-      pub a-refused : ok m ≡ false → unmarked ok f (m ∷ ms) ≡ unmarked ok g ms
-      unfolding unmarked if_then_else_
-      a-refused a = rw (e, a) (unmarked-same (λ k. eqb k m || f k) g (λ k. sym (more k)) ms)
-
-      pub an-accepted : ok m ≡ true → unmarked ok f (m ∷ ms) ≡ m ∷ unmarked ok g ms
-      unfolding unmarked if_then_else_
-      an-accepted a = rw (e, a) (ap (_∷_ m) (unmarked-same (λ k. eqb k m || f k) g (λ k. sym (more k)) ms))
+use Rattle.order.specs.Order.{marked, order-left, Step, with-mark, step, step-of, NextOf, unmarked, walk-left}
 
 -- ---- a new walk
-pub walk-new : (g : Game) (first second : Move) (list : MoveIterator) (seen : Seen) → list ≡ cursor-over (moves (position-of g)) → ((k : ℕ) → marked seen k ≡ false)
-    → walk-left g (record { left = record { first = first; second = second; list = list }; seen = seen })
-    ≡ fresh (accepts (position-of g)) [] (some-move (first .bits) ++ (some-move (second .bits) ++ moves (position-of g)))
+pub new-order : (g : Game) (first second : Move) (list : MoveIterator) → list ≡ cursor-over (moves (position-of g))
+    → order-left (record { first = first; second = second; list = list }) ≡ some-move (first .bits) ++ (some-move (second .bits) ++ moves (position-of g))
 unfolding order-left
-walk-new g first second list seen e n =
-    none-seen (accepts (position-of g)) (marked seen) n _
-    ∙ ap (λ (ms : List ℕ). fresh (accepts (position-of g)) [] (some-move (first .bits) ++ (some-move (second .bits) ++ ms))) (ap moves-left e ∙ all-moves-listed g)
+new-order g first second list e = rw (e, all-moves-listed g)
 
--- ---- one step of a walk
+-- ---- one move met
+module _ (ok : ℕ → Bool) (seen : ℕ → Bool) (m : ℕ) (ms : List ℕ) where
+  step-repeat : seen m ≡ true → step ok seen (m ∷ ms) ≡ step ok seen ms
+  unfolding step if_then_else_
+  step-repeat e = rw e
+
+  step-refused : seen m ≡ false → ok m ≡ false → step ok seen (m ∷ ms) ≡ step ok (with-mark seen m) ms
+  unfolding step if_then_else_
+  step-refused e a = rw (e, a)
+
+  step-accepted : seen m ≡ false → ok m ≡ true → step ok seen (m ∷ ms) ≡ record { found = m; marks = with-mark seen m; left = ms }
+  unfolding step if_then_else_
+  step-accepted e a = rw (e, a)
+
 abbrev ok : Game → ℕ → Bool
 ok g = accepts (position-of g)
-
-abbrev rest-of : Game → Order → Seen → List ℕ
-rest-of g left seen = unmarked (ok g) (marked seen) (order-left left)
 
 is-true : (b : Bool) → T b → b ≡ true
 is-true true t = refl
@@ -96,31 +73,100 @@ numbered OutOfBounds e = omega arith
 numbered NotEmpty e = omega arith
 numbered GameOver e = omega arith
 
+-- no game accepts the empty move
+pub none-refused : (p : Position) → T (not (accepts p no-move))
+unfolding accepts all
+none-refused p = tt
+
+abbrev pub step-from : Game → Order → Seen → Step
+step-from g left seen = step-of g (record { left = left; seen = seen })
+
+-- what comes back, by what the step is
+next-by : (g : Game) (w : Walk) (r : Child) (s : Step) → step-of g w ≡ s → r .m .bits ≡ s .found → r .game ≡ game-after g (s .found)
+    → ((k : ℕ) → marked (r .walk .seen) k ≡ s .marks k) → order-left (r .walk .left) ≡ s .left → NextOf g w r
+next-by g w r s e m a k l = record {
+  move-is = m ∙ sym (ap (λ (x : Step). x .found) e);
+  game-is = a ∙ sym (ap (λ (x : Step). game-after g (x .found)) e);
+  marks-are = λ n. k n ∙ sym (ap (λ (x : Step). x .marks n) e);
+  left-are = l ∙ sym (ap (λ (x : Step). x .left) e);
+}
+
 module _ (g : Game) (left : Order) (seen : Seen) (m : Move) (rest : Order) (e : order-left left ≡ m .bits ∷ order-left rest) where
-  pub repeated : (b : Bool) → b ≡ marked seen (m .bits) → b ≡ true → rest-of g rest seen ≡ rest-of g left seen
-  repeated b f h = sym (ap (unmarked (ok g) (marked seen)) e ∙ a-repeat (ok g) (marked seen) (m .bits) (order-left rest) (sym f ∙ h))
+  pub repeated : (b : Bool) → b ≡ marked seen (m .bits) → b ≡ true → step-from g rest seen ≡ step-from g left seen
+  repeated b f h = sym (ap (step (ok g) (marked seen)) e ∙ step-repeat (ok g) (marked seen) (m .bits) (order-left rest) (sym f ∙ h))
 
   module _ (b : Bool) (f : b ≡ marked seen (m .bits)) (h : b ≡ false) (new : Seen) (more : (k : ℕ) → marked new k ≡ (eqb k (m .bits) || marked seen k))
       (made : Made) (p : Plays g m made) where
-    pub refused : (r : MoveError) → made .answer ≡ Refused r → rest-of g rest new ≡ rest-of g left seen
+    pub refused : (r : MoveError) → made .answer ≡ Refused r → step-from g rest new ≡ step-from g left seen
     refused r q =
         let a : ok g (m .bits) ≡ false = false-by (ok g (m .bits)) (deny (ok g (m .bits))
         (refused-not-accepts (position-of g) (m .bits) (λ z. numbered r (sym (ap answer-number q) ∙ p .number ∙ z)))) in
-        sym (ap (unmarked (ok g) (marked seen)) e
-        ∙ a-refused (ok g) (marked seen) (m .bits) (order-left rest) (marked new) more (sym f ∙ h) a)
+        (λ i. step (ok g) (λ k. more k i) (order-left rest))
+        ∙ sym (ap (step (ok g) (marked seen)) e ∙ step-refused (ok g) (marked seen) (m .bits) (order-left rest) (sym f ∙ h) a)
 
-    pub accepted : made .answer ≡ Accepted → (ms : List ℕ) → rest-of g left seen ≡ ms
-        → NextIs g ms (record { m = m; game = made .game; walk = record { left = rest; seen = new } })
-    accepted q ms s =
+    pub accepted : made .answer ≡ Accepted → (w : Walk) → step-from g left seen ≡ step-of g w
+        → NextOf g w (record { m = m; game = made .game; walk = record { left = rest; seen = new } })
+    accepted q w s =
         let a : ok g (m .bits) ≡ true = is-true (ok g (m .bits)) (nought-accepts (position-of g) (m .bits) (sym (p .number) ∙ ap answer-number q)) in
-        let l : ms ≡ m .bits ∷ rest-of g rest new = sym s ∙ ap (unmarked (ok g) (marked seen)) e
-        ∙ an-accepted (ok g) (marked seen) (m .bits) (order-left rest) (marked new) more (sym f ∙ h) a in
-        rw l (refl, p .exact, refl)
+        next-by g w _ _ (sym s ∙ ap (step (ok g) (marked seen)) e ∙ step-accepted (ok g) (marked seen) (m .bits) (order-left rest) (sym f ∙ h) a)
+        refl (p .exact) more refl
 
-pub ended : (g : Game) (left : Order) (seen : Seen) (ms : List ℕ) → order-left left ≡ [] → rest-of g left seen ≡ ms → (m : Move) → m .bits ≡ no-move
-    → NextIs g ms (record { m = m; game = g; walk = record { left = left; seen = seen } })
-unfolding unmarked
-ended g left seen ms e s m z =
-    let n : rest-of g left seen ≡ [] = ap (unmarked (ok g) (marked seen)) e in
-    let l : ms ≡ [] = sym s ∙ n in
-    rw l (z, refl, n)
+pub ended : (g : Game) (left : Order) (seen : Seen) (w : Walk) → order-left left ≡ [] → step-from g left seen ≡ step-of g w → (m : Move) → m .bits ≡ no-move
+    → NextOf g w (record { m = m; game = g; walk = record { left = left; seen = seen } })
+unfolding step
+ended g left seen w e s m z =
+    next-by g w _ _ (sym s ∙ ap (step (ok g) (marked seen)) e) z (sym (game-refused g no-move (none-refused (position-of g)))) (λ k. refl) e
+
+-- ---- what a walk has left
+module _ (ok : ℕ → Bool) where
+  unmarked-listed : (seen ms : List ℕ) → unmarked ok (λ k. elem k seen) ms ≡ fresh ok seen ms
+  unfolding unmarked fresh elem
+  unmarked-listed seen [] = refl
+  unmarked-listed seen (m ∷ ms) = λ i.
+      if elem m seen then (λ _. unmarked-listed seen ms i) else
+      λ _. if ok m then (λ _. m ∷ unmarked-listed (m ∷ seen) ms i) else λ _. unmarked-listed (m ∷ seen) ms i
+
+  pub left-accepted : (seen : ℕ → Bool) (ms : List ℕ) (m : ℕ) (rest : List ℕ) → unmarked ok seen ms ≡ m ∷ rest → T (ok m)
+  unfolding unmarked
+  left-accepted seen [] m rest = λ e. absurd (let z : _≡_ {A = ℕ} 0 1 = cc in omega arith)
+  left-accepted seen (x ∷ ms) m rest = if-ind (λ l. l ≡ m ∷ rest → T (ok m)) (seen x) _ _ (λ _ e. left-accepted _ ms m rest e)
+      (λ _. if-ind (λ l. l ≡ m ∷ rest → T (ok m)) (ok x) _ _ (λ t e. let q : x ≡ m = cc in subst (λ (z : ℕ). T (ok z)) q t) (λ _ e. left-accepted _ ms m rest e))
+
+  -- a step gives the first of those left, and leaves the others
+  abbrev FirstOf : List ℕ → Step → Type 0
+  FirstOf [] s = (s .found ≡ no-move) × (s .left ≡ [])
+  FirstOf (m ∷ ms) s = (s .found ≡ m) × (unmarked ok (s .marks) (s .left) ≡ ms)
+
+  step-first : (seen : ℕ → Bool) (ms : List ℕ) → FirstOf (unmarked ok seen ms) (step ok seen ms)
+  unfolding unmarked step
+  step-first seen [] = (refl, refl)
+  step-first seen (m ∷ ms) = if-both FirstOf (seen m) _ _ _ _ (λ _. step-first seen ms)
+      (λ _. if-both FirstOf (ok m) _ _ _ _ (λ _. (refl, refl)) (λ _. step-first (with-mark seen m) ms))
+
+-- with no mark, the order's moves with no repeat
+pub walk-new : (g : Game) (w : Walk) (ms : List ℕ) → (order-left (w .left) ≡ ms) × ((k : ℕ) → marked (w .seen) k ≡ false)
+    → walk-left g w ≡ fresh (accepts (position-of g)) [] ms
+unfolding elem
+walk-new g w ms e = (λ i. unmarked (ok g) (λ k. e .1 k i) (e .0 i)) ∙ unmarked-listed (ok g) [] ms
+
+-- the next of those left and the game after it, with the rest; where there is none the empty move and the game itself, with nothing left
+abbrev pub NextIs : Game → List ℕ → Child → Type 0
+NextIs g [] r = (r .m .bits ≡ no-move) × (r .game ≡ g) × (walk-left g (r .walk) ≡ [])
+NextIs g (m ∷ ms) r = (r .m .bits ≡ m) × (r .game ≡ game-after g m) × (walk-left g (r .walk) ≡ ms)
+
+module _ (g : Game) (w : Walk) (r : Child) (n : NextOf g w r) where
+  by-first : (ms : List ℕ) → FirstOf (ok g) ms (step-of g w) → NextIs g ms r
+  unfolding unmarked
+  by-first [] f = (
+    n .move-is ∙ f .0,
+    n .game-is ∙ ap (game-after g) (f .0) ∙ game-refused g no-move (none-refused (position-of g)),
+    ap (unmarked (ok g) (marked (r .walk .seen))) (n .left-are ∙ f .1),
+  )
+  by-first (m ∷ ms) f = (
+    n .move-is ∙ f .0,
+    n .game-is ∙ ap (game-after g) (f .0),
+    (λ i. unmarked (ok g) (λ k. n .marks-are k i) (n .left-are i)) ∙ f .1,
+  )
+
+  pub next-left : NextIs g (walk-left g w) r
+  next-left = by-first (walk-left g w) (step-first (ok g) (marked (w .seen)) (order-left (w .left)))

@@ -1,4 +1,4 @@
--- The order in which a position's moves are searched: what a walk has left.
+-- The order in which a position's moves are searched: what a walk means, and one step of it.
 use mathlib.Core.Path.{_≡_}
 use mathlib.Core.Bool.{Bool, _||_}
 use mathlib.Core.List.{List, [], _∷_, _++_}
@@ -20,7 +20,7 @@ use Rattle.order.specs.declared.Ordered.the-variants.{Next, End}
 use Rattle.order.specs.declared.Walk.{Walk}
 use Rattle.order.specs.declared.Child.{Child}
 
--- a mark for each of the 256 moves
+-- ---- a walk means its marks, one for each of the 256 moves, and the moves still to be met
 unfoldable pub marked : Seen → ℕ → Bool
 marked s m = bit (getD (s .marks) (m / 64) 0) (m % 64)
 
@@ -34,17 +34,40 @@ OrderedIs [] End = Unit {0}
 OrderedIs (m ∷ ms) (Next k o) = (k .bits ≡ m) × (order-left o ≡ ms)
 OrderedIs (m ∷ ms) End = ⊥
 
--- those that are accepted, each once; those that are marked are passed over
-unfoldable pub unmarked : (ℕ → Bool) → (ℕ → Bool) → List ℕ → List ℕ
+-- ---- a step: the move found, or the empty one; the marks by then; the moves left
+pub record Step : Type 0 where
+  pub found : ℕ
+  pub marks : ℕ → Bool
+  pub left : List ℕ
+
+-- one mark more
+abbrev pub with-mark : (ℕ → Bool) → ℕ → ℕ → Bool
+with-mark seen m k = eqb k m || seen k
+
+-- the first move that is not marked and passes; each that is met is marked
+unfoldable pub step : (ok : ℕ → Bool) → (seen : ℕ → Bool) → List ℕ → Step
+step ok seen [] = record { found = no-move; marks = seen; left = [] }
+step ok seen (m ∷ ms) =
+    if seen m then (λ _. step ok seen ms) else
+    λ _. if ok m then (λ _. record { found = m; marks = with-mark seen m; left = ms }) else λ _. step ok (with-mark seen m) ms
+
+-- over the moves that a game accepts
+abbrev pub step-of : Game → Walk → Step
+step-of g w = step (accepts (position-of g)) (marked (w .seen)) (order-left (w .left))
+
+-- the move found and the game after it, with the rest; where none is found the empty move and the game itself, as no game accepts that move
+pub record NextOf (g : Game) (w : Walk) (r : Child) : Type 0 where
+  pub move-is : r .m .bits ≡ step-of g w .found
+  pub game-is : r .game ≡ game-after g (step-of g w .found)
+  pub marks-are : (k : ℕ) → marked (r .walk .seen) k ≡ step-of g w .marks k
+  pub left-are : order-left (r .walk .left) ≡ step-of g w .left
+
+-- ---- all the steps: those that are accepted, each once; those that are marked are passed over
+unfoldable pub unmarked : (ok : ℕ → Bool) → (seen : ℕ → Bool) → List ℕ → List ℕ
 unmarked ok seen [] = []
 unmarked ok seen (m ∷ ms) =
     if seen m then (λ _. unmarked ok seen ms) else
-    λ _. if ok m then (λ _. m ∷ unmarked ok (λ k. eqb k m || seen k) ms) else λ _. unmarked ok (λ k. eqb k m || seen k) ms
+    λ _. if ok m then (λ _. m ∷ unmarked ok (with-mark seen m) ms) else λ _. unmarked ok (with-mark seen m) ms
 
 abbrev pub walk-left : Game → Walk → List ℕ
 walk-left g w = unmarked (accepts (position-of g)) (marked (w .seen)) (order-left (w .left))
-
--- the next move and the game after it, with the rest; where there is none the empty move and the game itself, with nothing left
-abbrev pub NextIs : Game → List ℕ → Child → Type 0
-NextIs g [] r = (r .m .bits ≡ no-move) × (r .game ≡ g) × (walk-left g (r .walk) ≡ [])
-NextIs g (m ∷ ms) r = (r .m .bits ≡ m) × (r .game ≡ game-after g m) × (walk-left g (r .walk) ≡ ms)

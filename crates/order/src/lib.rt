@@ -5,13 +5,11 @@ ghost use mathlib.Core.Path.{_≡_};
 ghost use mathlib.Core.Bool.{false, _||_};
 ghost use Prim.Native.Nat.{ℕ};
 ghost use lib.Dec.{eqb};
-ghost use mathlib.Core.List.{List, [], _++_};
-ghost use Rattle.rules.specs.Play.{accepts};
+ghost use mathlib.Core.List.{_++_};
 ghost use Rattle.rules.specs.Moves.{moves};
 ghost use Rattle.theory.specs.Memory.{some-move};
-ghost use Rattle.theory.specs.OrderedSearch.{fresh};
 ghost use Rattle.game.specs.Meaning.{position-of};
-ghost use Rattle.order.specs.Order.{marked, order-left, walk-left, NextIs, OrderedIs};
+ghost use Rattle.order.specs.Order.{marked, order-left, OrderedIs, NextOf};
 use boards::Answer;
 use boards::Listed;
 use boards::Move;
@@ -101,7 +99,7 @@ pub struct Child {
 
 impl Walk {
     pub fn new(game: Game, first: Move, second: Move) -> Walk
-        ensures { λ r. ⌜ walk-left game r ≡ fresh (accepts (position-of game)) [] (some-move (first .bits) ++ (some-move (second .bits) ++ moves (position-of game))) ⌝ }
+        ensures { λ r. ⌜ (order-left (r .left) ≡ some-move (first .bits) ++ (some-move (second .bits) ++ moves (position-of game))) × ((k : ℕ) → marked (r .seen) k ≡ false) ⌝ }
     {
         let list = game.all_moves();
         let left = Order {
@@ -114,7 +112,7 @@ impl Walk {
     }
 
     pub fn next(self, game: Game) -> Child
-        ensures { λ r. ⌜ NextIs game (walk-left game self) r ⌝ }
+        ensures { λ r. ⌜ NextOf game self r ⌝ }
     {
         let mut left = self.left;
         let mut seen = self.seen;

@@ -1,12 +1,14 @@
 -- The two functions together: a position is entered, answered or searched over its moves, and each turn over the moves is one of the definition's.
-use mathlib.Core.Path.{refl, _∙_}
+use mathlib.Core.Path.{_≡_, refl, sym, _∙_}
+use mathlib.Core.Bool.{Bool, false}
 use Prim.Native.Nat.{ℕ, _+_, _*_, _<_}
 use native.Mathlib.Omega.{arith}
 use lib.ListN.{length}
 use denote.Ref.{now}
 use Rattle.order.specs.Order.{walk-left}
-use Rattle.minimax.proofs.Turns.{Turn, walk-shorter, turn-first, whole-is, turn-done, under-asked, under-counted, under-lower, turn-stopped, score-within, cut-room, turn-not, turn-better, turn-cut, entered-moves}
-use borrow.Fn.Kinds.{In}
+use Rattle.minimax.specs.State.{Ready}
+use Rattle.minimax.proofs.Turns.{stand, Turn, Begun, Held, Met, Brought, Raised, walk-shorter, words-long, may-raise, turn-first, turn-done, under-asked, under-counted, under-lower, turn-stopped, score-within, cut-room, turn-not, turn-better, turn-cut, entered-moves}
+use borrow.Fn.Kinds.{In, Out}
 use borrow.Fn.PlainCycle.{Measures, is, falls, and}
 use Rattle.minimax.proofs.search.minimax.Reads as minimax
 use Rattle.minimax.proofs.search.minimax.Kinds as minimax-kinds
@@ -52,109 +54,191 @@ abbrev minimax-env : ℕ → minimax-lts.Claims
 minimax-env t = (enter-reads.Asked, enter-reads.Learnt, moves-below t, moves.Post, leave-reads.Asked, leave-reads.Learnt)
 
 abbrev moves-env : ℕ → moves-lts.Claims
-moves-env t = (walk-reads.Asked, walk-reads.Learnt, best-reads.Asked, best-reads.Learnt, empty-reads.Asked, empty-reads.Learnt, next-reads.Asked, next-reads.Learnt, is-none-reads.Asked, is-none-reads.Learnt, of-reads.Asked, of-reads.Learnt, below-reads.Asked, below-reads.Learnt, minimax-below t, minimax.Post, is-below-reads.Asked, is-below-reads.Learnt, raise-reads.Asked, raise-reads.Learnt, is-cut-reads.Asked, is-cut-reads.Learnt, cut-reads.Asked, cut-reads.Learnt)
-
-minimax-enter-requires : (t : ℕ) → minimax-lts.Need-enter-requires (minimax-env t) (minimax-at t) minimax.Post
-minimax-enter-requires t c κs = c .before .before .pre .1
-
-minimax-same-length : (t : ℕ) → minimax-lts.Need-same-length (minimax-env t) (minimax-at t) minimax.Post
-minimax-same-length t c = refl
-
-minimax-returns : (t : ℕ) → minimax-lts.Need-returns (minimax-env t) (minimax-at t) minimax.Post
-minimax-returns t c = c .before .before .enter .ensures .at-once (c .if1 .taken)
-
-minimax-moves-requires : (t : ℕ) → minimax-lts.Need-moves-requires (minimax-env t) (minimax-at t) minimax.Post
-minimax-moves-requires t c κs = (omega (arith, c .before .before .before .before .before .before .before .before .before .pre .0), (c .before .before .before .before .before .before .before .before .before .pre .1 .0, c .before .before .before .before .before .before .enter .ensures .ready (c .before .before .before .before .if1 .left)))
-
-minimax-leave-requires : (t : ℕ) → minimax-lts.Need-leave-requires (minimax-env t) (minimax-at t) minimax.Post
-minimax-leave-requires t c κs = (c .before .before .before .before .before .before .before .before .before .before .enter .ensures .ready (c .before .before .before .before .before .before .before .before .if1 .left) .deep, c .before .before .before .before .before .before .before .before .before .before .before .before .before .pre .1 .0 .deep)
-
-minimax-same-length-2 : (t : ℕ) → minimax-lts.Need-same-length-2 (minimax-env t) (minimax-at t) minimax.Post
-minimax-same-length-2 t c = c .before .before .leave .kept .1 .1 .0 ∙ c .before .before .before .before .before .before .moves .kept .1 .1 .1 .1 .0
-
-minimax-returns-2 : (t : ℕ) → minimax-lts.Need-returns-2 (minimax-env t) (minimax-at t) minimax.Post
-minimax-returns-2 t c = entered-moves (c .before .before .before .before .before .before .before .before .before .before .before .before .before .before .before .before .args .a) (c .before .before .before .before .before .before .before .before .before .before .before .before .before .before .before .before .args .state) (c .before .before .before .before .before .before .before .before .before .before .before .before .before .before .before .before .args .line) (now (c .before .before .before .before .before .before .before .before .before .before .before .before .before .before .before .before .args .words)) (c .before .before .before .before .before .before .before .before .before .before .before .before .before .enter .result) (c .before .before .before .before .before .before .before .before .before .before .before .before .before .enter .ensures) (c .before .before .before .before .before .before .before .before .before .before .before .if1 .left) (c .before .before .before .before .before .before .moves .result) _ _ (c .before .before .before .before .before .before .moves .ensures) (c .before .before .leave .ensures)
+moves-env t = (
+  walk-reads.Asked,
+  walk-reads.Learnt,
+  best-reads.Asked,
+  best-reads.Learnt,
+  empty-reads.Asked,
+  empty-reads.Learnt,
+  next-reads.Asked,
+  next-reads.Learnt,
+  is-none-reads.Asked,
+  is-none-reads.Learnt,
+  of-reads.Asked,
+  of-reads.Learnt,
+  below-reads.Asked,
+  below-reads.Learnt,
+  minimax-below t,
+  minimax.Post,
+  is-below-reads.Asked,
+  is-below-reads.Learnt,
+  raise-reads.Asked,
+  raise-reads.Learnt,
+  is-cut-reads.Asked,
+  is-cut-reads.Learnt,
+  cut-reads.Asked,
+  cut-reads.Learnt,
+)
 
 abbrev moves-Inv-loop : moves-lts.InvT-loop
-moves-Inv-loop a words₀ game walk₀ s₀ best₀ local₀ words walk s best local = Turn a words₀ walk₀ s₀ best₀ local₀ words walk s best local
+moves-Inv-loop a words₀ game walk₀ s₀ best₀ local₀ words walk s best local = Turn a (stand words₀ walk₀ s₀ best₀ local₀) (stand words walk s best local)
 
 abbrev moves-μ-loop : moves-lts.MeasureT-loop
 moves-μ-loop a words₀ game walk₀ s₀ best₀ local₀ words walk s best local = length (walk-left (a .game) walk)
 
-moves-walk-requires : (t : ℕ) → moves-lts.Need-walk-requires (moves-env t) (moves-at t) moves.Post moves-Inv-loop moves-μ-loop
-moves-walk-requires t c κs = (c .before .before .pre .1 .1 .deep, c .before .before .pre .1 .0 .deep)
+module _ (t : ℕ) where
+  -- what is known at a place of each function, and what is needed there
+  abbrev Minimax : (minimax-lts.Claims → In 1 minimax-kinds.ps → Out 1 minimax-kinds.ps minimax-kinds.r → Type 0) → Type 0
+  Minimax place = place (minimax-env t) (minimax-at t) minimax.Post
 
-moves-best-requires : (t : ℕ) → moves-lts.Need-best-requires (moves-env t) (moves-at t) moves.Post moves-Inv-loop moves-μ-loop
-moves-best-requires t c κs = tt
+  abbrev Moves : (moves-lts.Claims → In 1 moves-kinds.ps → Out 1 moves-kinds.ps moves-kinds.r → moves-lts.InvT-loop → moves-lts.MeasureT-loop → Type 0) → Type 0
+  Moves place = place (moves-env t) (moves-at t) moves.Post moves-Inv-loop moves-μ-loop
 
-moves-empty-requires : (t : ℕ) → moves-lts.Need-empty-requires (moves-env t) (moves-at t) moves.Post moves-Inv-loop moves-μ-loop
-moves-empty-requires t c κs = tt
+  -- ---- the search of a position
+  minimax-enter-requires : Minimax minimax-lts.Need-enter-requires
+  minimax-enter-requires c κs = c .before .before .pre .1
 
-moves-loop-holds : (t : ℕ) → moves-lts.Need-loop-holds (moves-env t) (moves-at t) moves.Post moves-Inv-loop moves-μ-loop
-moves-loop-holds t c = turn-first (c .before .before .before .before .before .args .a) (now (c .before .before .before .before .before .args .words)) (c .before .before .walk .result) (c .before .before .before .before .before .args .state) (c .before .best .result) (c .empty .result) (c .before .before .before .before .before .args .line) (c .before .before .before .before .before .pre .1 .0) (c .before .before .before .before .before .pre .1 .1) (c .before .best .ensures)
+  minimax-same-length : Minimax minimax-lts.Need-same-length
+  minimax-same-length c = refl
 
-moves-next-requires : (t : ℕ) → moves-lts.Need-next-requires (moves-env t) (moves-at t) moves.Post moves-Inv-loop moves-μ-loop
-moves-next-requires t c κs = tt
+  minimax-returns : Minimax minimax-lts.Need-returns
+  minimax-returns c = c .before .before .enter .ensures .at-once (c .if1 .taken)
 
-moves-is-none-requires : (t : ℕ) → moves-lts.Need-is-none-requires (moves-env t) (moves-at t) moves.Post moves-Inv-loop moves-μ-loop
-moves-is-none-requires t c κs = tt
+  ready : (c : Minimax minimax-lts.Else1) → Ready (c .before .before .before .before .before .args .a) (c .before .before .enter .result .found .state)
+  ready c = c .before .before .enter .ensures .ready (c .if1 .left)
 
-moves-of-requires : (t : ℕ) → moves-lts.Need-of-requires (moves-env t) (moves-at t) moves.Post moves-Inv-loop moves-μ-loop
-moves-of-requires t c κs = tt
+  minimax-moves-requires : Minimax minimax-lts.Need-moves-requires
+  minimax-moves-requires c κs =
+      let entered = c .before .before .before .before in
+      let start = entered .before .before .before .before .before in
+      (omega (arith, start .pre .0), (start .pre .1 .0, ready entered))
 
-moves-same-length : (t : ℕ) → moves-lts.Need-same-length (moves-env t) (moves-at t) moves.Post moves-Inv-loop moves-μ-loop
-moves-same-length t c = c .before .before .before .before .before .loop .inv .long
+  minimax-leave-requires : Minimax minimax-lts.Need-leave-requires
+  minimax-leave-requires c κs = let entered = c .before .before .before .before .before .before .before .before in (ready entered .deep, entered .before .before .before .before .before .pre .1 .0 .deep)
 
-moves-returns : (t : ℕ) → moves-lts.Need-returns (moves-env t) (moves-at t) moves.Post moves-Inv-loop moves-μ-loop
-moves-returns t c = whole-is (c .before .before .before .before .before .before .before .before .before .before .before .args .a) (c .before .before .before .before .before .before .before .before .before .before .before .args .first) (now (c .before .before .before .before .before .before .before .before .before .before .before .args .words)) (c .before .before .before .before .before .before .before .before .walk .result) (c .before .before .before .before .before .before .before .before .before .before .before .args .state) (c .before .before .before .before .before .before .before .before .before .before .before .args .line) (c .before .before .before .before .before .before .before .best .result) (c .before .before .before .before .before .before .empty .result) (c .before .before .before .before .before .before .before .before .walk .ensures (now (c .before .before .before .before .before .before .before .before .before .before .before .args .words))) (c .before .before .before .before .before .before .before .best .ensures) (c .before .before .before .before .before .before .empty .ensures)
-    (turn-done (c .before .before .before .before .before .before .before .before .before .before .before .args .a) (now (c .before .before .before .before .before .before .before .before .before .before .before .args .words)) (c .before .before .before .before .before .before .before .before .walk .result) (c .before .before .before .before .before .before .before .before .before .before .before .args .state) (c .before .before .before .before .before .before .before .best .result) (c .before .before .before .before .before .before .empty .result) (c .before .before .before .before .before .loop .words) (c .before .before .before .before .before .loop .walk) (c .before .before .before .before .before .loop .s) (c .before .before .before .before .before .loop .best) (c .before .before .before .before .before .loop .local) (c .before .before .before .before .before .before .before .before .before .before .before .pre .1 .0) (c .before .before .before .before .before .before .before .before .before .before .before .pre .1 .1) (c .before .before .before .before .before .loop .inv) (c .before .before .before .before .next .result) _ (c .before .before .before .before .next .ensures) (c .before .before .is-none .ensures) (c .before .if1 .taken) (c .of .result) (c .of .ensures))
+  minimax-same-length-2 : Minimax minimax-lts.Need-same-length-2
+  minimax-same-length-2 c = c .before .before .leave .kept .1 .1 .0 ∙ c .before .before .before .before .before .before .moves .kept .1 .1 .1 .1 .0
 
-moves-below-requires : (t : ℕ) → moves-lts.Need-below-requires (moves-env t) (moves-at t) moves.Post moves-Inv-loop moves-μ-loop
-moves-below-requires t c κs = (c .before .before .before .before .before .before .before .before .before .before .pre .1 .1 .deep, c .before .before .before .before .before .before .before .before .before .before .pre .1 .0 .beta-within, c .before .before .before .before .loop .inv .score)
+  minimax-returns-2 : Minimax minimax-lts.Need-returns-2
+  minimax-returns-2 c =
+      let told = c .before .before in
+      let searched = told .before .before .before .before in
+      let entered = searched .before .before .before .before .before in
+      entered-moves (entered .before .before .enter .ensures) (entered .if1 .left) (searched .moves .ensures) (told .leave .ensures)
 
-moves-minimax-requires : (t : ℕ) → moves-lts.Need-minimax-requires (moves-env t) (moves-at t) moves.Post moves-Inv-loop moves-μ-loop
-moves-minimax-requires t c κs = (omega (arith, under-lower (c .before .before .before .before .before .before .before .before .before .before .before .before .args .a) (now (c .before .before .before .before .before .before .before .before .before .before .before .before .args .words)) (c .before .before .before .before .before .before .before .before .before .walk .result) (c .before .before .before .before .before .before .before .before .before .before .before .before .args .state) (c .before .before .before .before .before .before .before .before .best .result) (c .before .before .before .before .before .before .before .empty .result) (c .before .before .before .before .before .before .loop .words) (c .before .before .before .before .before .before .loop .walk) (c .before .before .before .before .before .before .loop .s) (c .before .before .before .before .before .before .loop .best) (c .before .before .before .before .before .before .loop .local) (c .before .before .before .before .before .before .before .before .before .before .before .before .pre .1 .0) (c .before .before .before .before .before .before .before .before .before .before .before .before .pre .1 .1) (c .before .before .before .before .before .before .loop .inv) (c .before .before .before .before .before .next .result) _ (c .before .before .before .before .before .next .ensures) (c .before .before .before .is-none .ensures) (c .before .before .if1 .left) (c .before .below .result) (c .before .below .ensures), c .before .before .before .before .before .before .before .before .before .before .before .before .pre .0), (under-asked (c .before .before .before .before .before .before .before .before .before .before .before .before .args .a) (now (c .before .before .before .before .before .before .before .before .before .before .before .before .args .words)) (c .before .before .before .before .before .before .before .before .before .walk .result) (c .before .before .before .before .before .before .before .before .before .before .before .before .args .state) (c .before .before .before .before .before .before .before .before .best .result) (c .before .before .before .before .before .before .before .empty .result) (c .before .before .before .before .before .before .loop .words) (c .before .before .before .before .before .before .loop .walk) (c .before .before .before .before .before .before .loop .s) (c .before .before .before .before .before .before .loop .best) (c .before .before .before .before .before .before .loop .local) (c .before .before .before .before .before .before .before .before .before .before .before .before .pre .1 .0) (c .before .before .before .before .before .before .before .before .before .before .before .before .pre .1 .1) (c .before .before .before .before .before .before .loop .inv) (c .before .before .before .before .before .next .result) _ (c .before .before .before .before .before .next .ensures) (c .before .before .before .is-none .ensures) (c .before .before .if1 .left) (c .before .below .result) (c .before .below .ensures), under-counted (c .before .before .before .before .before .before .before .before .before .before .before .before .args .a) (now (c .before .before .before .before .before .before .before .before .before .before .before .before .args .words)) (c .before .before .before .before .before .before .before .before .before .walk .result) (c .before .before .before .before .before .before .before .before .before .before .before .before .args .state) (c .before .before .before .before .before .before .before .before .best .result) (c .before .before .before .before .before .before .before .empty .result) (c .before .before .before .before .before .before .loop .words) (c .before .before .before .before .before .before .loop .walk) (c .before .before .before .before .before .before .loop .s) (c .before .before .before .before .before .before .loop .best) (c .before .before .before .before .before .before .loop .local) (c .before .before .before .before .before .before .before .before .before .before .before .before .pre .1 .0) (c .before .before .before .before .before .before .before .before .before .before .before .before .pre .1 .1) (c .before .before .before .before .before .before .loop .inv) (c .before .before .before .before .before .next .result) _ (c .before .before .before .before .before .next .ensures) (c .before .before .before .is-none .ensures) (c .before .before .if1 .left) (c .before .below .result) (c .before .below .ensures)))
+  -- ---- the search over its moves: where the loop begins and stands, the move that it meets, and what is found below that
+  abbrev begun : Moves moves-lts.After-empty → Begun
+  begun c = let start = c .before .before .before .before .before in record {
+    a = start .args .a;
+    first = start .args .first;
+    line = start .args .line;
+    from = stand (now (start .args .words)) (c .before .before .walk .result) (start .args .state) (c .before .best .result) (c .empty .result);
+    asked = start .pre .1 .0;
+    ready = start .pre .1 .1;
+    walk-is = c .before .before .walk .ensures (now (start .args .words));
+    best-is = c .before .best .ensures;
+    local-is = c .empty .ensures;
+  }
 
-moves-same-length-2 : (t : ℕ) → moves-lts.Need-same-length-2 (moves-env t) (moves-at t) moves.Post moves-Inv-loop moves-μ-loop
-moves-same-length-2 t c = c .before .before .before .minimax .kept .1 .1 .1 .0 ∙ c .before .before .before .before .before .before .before .before .before .before .loop .inv .long
+  abbrev held : Moves moves-lts.At-loop → Held
+  held c = record { begun = begun (c .before); at = stand (c .loop .words) (c .loop .walk) (c .loop .s) (c .loop .best) (c .loop .local); turn = c .loop .inv }
 
-moves-returns-2 : (t : ℕ) → moves-lts.Need-returns-2 (moves-env t) (moves-at t) moves.Post moves-Inv-loop moves-μ-loop
-moves-returns-2 t c = whole-is (c .before .before .before .before .before .before .before .before .before .before .before .before .before .before .before .before .args .a) (c .before .before .before .before .before .before .before .before .before .before .before .before .before .before .before .before .args .first) (now (c .before .before .before .before .before .before .before .before .before .before .before .before .before .before .before .before .args .words)) (c .before .before .before .before .before .before .before .before .before .before .before .before .before .walk .result) (c .before .before .before .before .before .before .before .before .before .before .before .before .before .before .before .before .args .state) (c .before .before .before .before .before .before .before .before .before .before .before .before .before .before .before .before .args .line) (c .before .before .before .before .before .before .before .before .before .before .before .before .best .result) (c .before .before .before .before .before .before .before .before .before .before .before .empty .result) (c .before .before .before .before .before .before .before .before .before .before .before .before .before .walk .ensures (now (c .before .before .before .before .before .before .before .before .before .before .before .before .before .before .before .before .args .words))) (c .before .before .before .before .before .before .before .before .before .before .before .before .best .ensures) (c .before .before .before .before .before .before .before .before .before .before .before .empty .ensures)
-    (turn-stopped (c .before .before .before .before .before .before .before .before .before .before .before .before .before .before .before .before .args .a) (now (c .before .before .before .before .before .before .before .before .before .before .before .before .before .before .before .before .args .words)) (c .before .before .before .before .before .before .before .before .before .before .before .before .before .walk .result) (c .before .before .before .before .before .before .before .before .before .before .before .before .before .before .before .before .args .state) (c .before .before .before .before .before .before .before .before .before .before .before .before .best .result) (c .before .before .before .before .before .before .before .before .before .before .before .empty .result) (c .before .before .before .before .before .before .before .before .before .before .loop .words) (c .before .before .before .before .before .before .before .before .before .before .loop .walk) (c .before .before .before .before .before .before .before .before .before .before .loop .s) (c .before .before .before .before .before .before .before .before .before .before .loop .best) (c .before .before .before .before .before .before .before .before .before .before .loop .local) (c .before .before .before .before .before .before .before .before .before .before .before .before .before .before .before .before .pre .1 .0) (c .before .before .before .before .before .before .before .before .before .before .before .before .before .before .before .before .pre .1 .1) (c .before .before .before .before .before .before .before .before .before .before .loop .inv) (c .before .before .before .before .before .before .before .before .before .next .result) _ (c .before .before .before .before .before .before .before .before .before .next .ensures) (c .before .before .before .before .before .before .before .is-none .ensures) (c .before .before .before .before .before .before .if1 .left) (c .before .before .before .before .before .below .result) (c .before .before .before .before .before .below .ensures) (c .before .before .before .minimax .result) (c .before .before .before .minimax .last .1 .1 .1 .0) (c .before .before .before .minimax .ensures) (c .before .before .before .minimax .kept .1 .1 .1 .0) (c .if2 .taken))
+  abbrev met : (c : Moves moves-lts.After-below) → Met (held (c .before .before .before .before .before))
+  met c = record {
+    child = c .before .before .before .before .next .result;
+    under = c .below .result;
+    next = c .before .before .before .before .next .ensures;
+    is-some = sym (c .before .before .is-none .ensures) ∙ c .before .if1 .left;
+    under-is = c .below .ensures;
+  }
 
-moves-is-below-requires : (t : ℕ) → moves-lts.Need-is-below-requires (moves-env t) (moves-at t) moves.Post moves-Inv-loop moves-μ-loop
-moves-is-below-requires t c κs = score-within (c .before .before .before .before .before .before .before .before .before .before .before .before .before .before .before .before .before .before .before .args .a) (now (c .before .before .before .before .before .before .before .before .before .before .before .before .before .before .before .before .before .before .before .args .words)) (c .before .before .before .before .before .before .before .before .before .before .before .before .before .before .before .before .walk .result) (c .before .before .before .before .before .before .before .before .before .before .before .before .before .before .before .before .before .before .before .args .state) (c .before .before .before .before .before .before .before .before .before .before .before .before .before .before .before .best .result) (c .before .before .before .before .before .before .before .before .before .before .before .before .before .before .empty .result) (c .before .before .before .before .before .before .before .before .before .before .before .before .before .loop .words) (c .before .before .before .before .before .before .before .before .before .before .before .before .before .loop .walk) (c .before .before .before .before .before .before .before .before .before .before .before .before .before .loop .s) (c .before .before .before .before .before .before .before .before .before .before .before .before .before .loop .best) (c .before .before .before .before .before .before .before .before .before .before .before .before .before .loop .local) (c .before .before .before .before .before .before .before .before .before .before .before .before .before .before .before .before .before .before .before .pre .1 .0) (c .before .before .before .before .before .before .before .before .before .before .before .before .before .before .before .before .before .before .before .pre .1 .1) (c .before .before .before .before .before .before .before .before .before .before .before .before .before .loop .inv) (c .before .before .before .before .before .before .before .before .before .before .before .before .next .result) _ (c .before .before .before .before .before .before .before .before .before .before .before .before .next .ensures) (c .before .before .before .before .before .before .before .before .before .before .is-none .ensures) (c .before .before .before .before .before .before .before .before .before .if1 .left) (c .before .before .before .before .before .before .before .before .below .result) (c .before .before .before .before .before .before .before .before .below .ensures) (c .before .before .before .before .before .before .minimax .result) (c .before .before .before .before .before .before .minimax .last .1 .1 .1 .0) (c .before .before .before .before .before .before .minimax .ensures) (c .before .before .before .before .before .before .minimax .kept .1 .1 .1 .0) (c .before .before .before .if2 .left)
+  abbrev brought : {b : Bool} (c : Moves moves-lts.After-slice-known2) → c .before .before .minimax .result .stopped ≡ b → Brought (met (c .before .before .before .before)) b
+  brought c e = let below = c .before .before .minimax in record {
+    r = below .result;
+    words = below .last .1 .1 .1 .0;
+    gives = below .ensures;
+    long = below .kept .1 .1 .1 .0;
+    is-stopped = e;
+  }
 
-moves-raise-requires : (t : ℕ) → moves-lts.Need-raise-requires (moves-env t) (moves-at t) moves.Post moves-Inv-loop moves-μ-loop
-moves-raise-requires t c κs = (score-within (c .before .before .before .before .before .before .before .before .before .before .before .before .before .before .before .before .before .before .before .before .before .args .a) (now (c .before .before .before .before .before .before .before .before .before .before .before .before .before .before .before .before .before .before .before .before .before .args .words)) (c .before .before .before .before .before .before .before .before .before .before .before .before .before .before .before .before .before .before .walk .result) (c .before .before .before .before .before .before .before .before .before .before .before .before .before .before .before .before .before .before .before .before .before .args .state) (c .before .before .before .before .before .before .before .before .before .before .before .before .before .before .before .before .before .best .result) (c .before .before .before .before .before .before .before .before .before .before .before .before .before .before .before .before .empty .result) (c .before .before .before .before .before .before .before .before .before .before .before .before .before .before .before .loop .words) (c .before .before .before .before .before .before .before .before .before .before .before .before .before .before .before .loop .walk) (c .before .before .before .before .before .before .before .before .before .before .before .before .before .before .before .loop .s) (c .before .before .before .before .before .before .before .before .before .before .before .before .before .before .before .loop .best) (c .before .before .before .before .before .before .before .before .before .before .before .before .before .before .before .loop .local) (c .before .before .before .before .before .before .before .before .before .before .before .before .before .before .before .before .before .before .before .before .before .pre .1 .0) (c .before .before .before .before .before .before .before .before .before .before .before .before .before .before .before .before .before .before .before .before .before .pre .1 .1) (c .before .before .before .before .before .before .before .before .before .before .before .before .before .before .before .loop .inv) (c .before .before .before .before .before .before .before .before .before .before .before .before .before .before .next .result) _ (c .before .before .before .before .before .before .before .before .before .before .before .before .before .before .next .ensures) (c .before .before .before .before .before .before .before .before .before .before .before .before .is-none .ensures) (c .before .before .before .before .before .before .before .before .before .before .before .if1 .left) (c .before .before .before .before .before .before .before .before .before .before .below .result) (c .before .before .before .before .before .before .before .before .before .before .below .ensures) (c .before .before .before .before .before .before .before .before .minimax .result) (c .before .before .before .before .before .before .before .before .minimax .last .1 .1 .1 .0) (c .before .before .before .before .before .before .before .before .minimax .ensures) (c .before .before .before .before .before .before .before .before .minimax .kept .1 .1 .1 .0) (c .before .before .before .before .before .if2 .left), c .before .before .before .before .before .before .before .before .before .before .before .before .before .before .before .before .before .before .before .before .before .pre .1 .1 .deep, c .before .before .before .before .before .before .before .before .before .before .before .before .before .before .before .before .before .before .before .before .before .pre .1 .0 .deep)
+  abbrev whole : (c : Moves moves-lts.Else2) → Brought (met (c .before .before .before .before .before)) false
+  whole c = brought (c .before) (c .if2 .left)
 
-moves-is-cut-requires : (t : ℕ) → moves-lts.Need-is-cut-requires (moves-env t) (moves-at t) moves.Post moves-Inv-loop moves-μ-loop
-moves-is-cut-requires t c κs = tt
+  abbrev raised : (c : Moves moves-lts.After-raise) → Raised (whole (c .before .before .before .before .before .before))
+  raised c = record { best = c .raise .result; better = sym (c .before .before .is-below .ensures) ∙ c .before .if3 .taken; raises = c .raise .ensures }
 
-moves-cut-requires : (t : ℕ) → moves-lts.Need-cut-requires (moves-env t) (moves-at t) moves.Post moves-Inv-loop moves-μ-loop
-moves-cut-requires t c κs = cut-room (c .before .before .before .before .before .before .before .before .before .before .before .before .before .before .before .before .before .before .before .before .before .before .before .before .args .a) (now (c .before .before .before .before .before .before .before .before .before .before .before .before .before .before .before .before .before .before .before .before .before .before .before .before .args .words)) (c .before .before .before .before .before .before .before .before .before .before .before .before .before .before .before .before .before .before .before .before .before .walk .result) (c .before .before .before .before .before .before .before .before .before .before .before .before .before .before .before .before .before .before .before .before .before .before .before .before .args .state) (c .before .before .before .before .before .before .before .before .before .before .before .before .before .before .before .before .before .before .before .before .best .result) (c .before .before .before .before .before .before .before .before .before .before .before .before .before .before .before .before .before .before .before .empty .result) (c .before .before .before .before .before .before .before .before .before .before .before .before .before .before .before .before .before .before .loop .words) (c .before .before .before .before .before .before .before .before .before .before .before .before .before .before .before .before .before .before .loop .walk) (c .before .before .before .before .before .before .before .before .before .before .before .before .before .before .before .before .before .before .loop .s) (c .before .before .before .before .before .before .before .before .before .before .before .before .before .before .before .before .before .before .loop .best) (c .before .before .before .before .before .before .before .before .before .before .before .before .before .before .before .before .before .before .loop .local) (c .before .before .before .before .before .before .before .before .before .before .before .before .before .before .before .before .before .before .before .before .before .before .before .before .pre .1 .0) (c .before .before .before .before .before .before .before .before .before .before .before .before .before .before .before .before .before .before .before .before .before .before .before .before .pre .1 .1) (c .before .before .before .before .before .before .before .before .before .before .before .before .before .before .before .before .before .before .loop .inv) (c .before .before .before .before .before .before .before .before .before .before .before .before .before .before .before .before .before .next .result) _ (c .before .before .before .before .before .before .before .before .before .before .before .before .before .before .before .before .before .next .ensures) (c .before .before .before .before .before .before .before .before .before .before .before .before .before .before .before .is-none .ensures) (c .before .before .before .before .before .before .before .before .before .before .before .before .before .before .if1 .left) (c .before .before .before .before .before .before .before .before .before .before .before .before .before .below .result) (c .before .before .before .before .before .before .before .before .before .before .before .before .before .below .ensures) (c .before .before .before .before .before .before .before .before .before .before .before .minimax .result) (c .before .before .before .before .before .before .before .before .before .before .before .minimax .last .1 .1 .1 .0) (c .before .before .before .before .before .before .before .before .before .before .before .minimax .ensures) (c .before .before .before .before .before .before .before .before .before .before .before .minimax .kept .1 .1 .1 .0) (c .before .before .before .before .before .before .before .before .if2 .left)
+  moves-walk-requires : Moves moves-lts.Need-walk-requires
+  moves-walk-requires c κs = (c .before .before .pre .1 .1 .deep, c .before .before .pre .1 .0 .deep)
 
-moves-of-requires-2 : (t : ℕ) → moves-lts.Need-of-requires-2 (moves-env t) (moves-at t) moves.Post moves-Inv-loop moves-μ-loop
-moves-of-requires-2 t c κs = tt
+  moves-best-requires : Moves moves-lts.Need-best-requires
+  moves-best-requires c κs = tt
 
-moves-same-length-3 : (t : ℕ) → moves-lts.Need-same-length-3 (moves-env t) (moves-at t) moves.Post moves-Inv-loop moves-μ-loop
-moves-same-length-3 t c = c .before .before .before .before .before .before .before .before .before .before .before .before .before .minimax .kept .1 .1 .1 .0 ∙ c .before .before .before .before .before .before .before .before .before .before .before .before .before .before .before .before .before .before .before .before .loop .inv .long
+  moves-empty-requires : Moves moves-lts.Need-empty-requires
+  moves-empty-requires c κs = tt
 
-moves-returns-3 : (t : ℕ) → moves-lts.Need-returns-3 (moves-env t) (moves-at t) moves.Post moves-Inv-loop moves-μ-loop
-moves-returns-3 t c = whole-is (c .before .before .before .before .before .before .before .before .before .before .before .before .before .before .before .before .before .before .before .before .before .before .before .before .before .before .args .a) (c .before .before .before .before .before .before .before .before .before .before .before .before .before .before .before .before .before .before .before .before .before .before .before .before .before .before .args .first) (now (c .before .before .before .before .before .before .before .before .before .before .before .before .before .before .before .before .before .before .before .before .before .before .before .before .before .before .args .words)) (c .before .before .before .before .before .before .before .before .before .before .before .before .before .before .before .before .before .before .before .before .before .before .before .walk .result) (c .before .before .before .before .before .before .before .before .before .before .before .before .before .before .before .before .before .before .before .before .before .before .before .before .before .before .args .state) (c .before .before .before .before .before .before .before .before .before .before .before .before .before .before .before .before .before .before .before .before .before .before .before .before .before .before .args .line) (c .before .before .before .before .before .before .before .before .before .before .before .before .before .before .before .before .before .before .before .before .before .before .best .result) (c .before .before .before .before .before .before .before .before .before .before .before .before .before .before .before .before .before .before .before .before .before .empty .result) (c .before .before .before .before .before .before .before .before .before .before .before .before .before .before .before .before .before .before .before .before .before .before .before .walk .ensures (now (c .before .before .before .before .before .before .before .before .before .before .before .before .before .before .before .before .before .before .before .before .before .before .before .before .before .before .args .words))) (c .before .before .before .before .before .before .before .before .before .before .before .before .before .before .before .before .before .before .before .before .before .before .best .ensures) (c .before .before .before .before .before .before .before .before .before .before .before .before .before .before .before .before .before .before .before .before .before .empty .ensures)
-    (turn-cut (c .before .before .before .before .before .before .before .before .before .before .before .before .before .before .before .before .before .before .before .before .before .before .before .before .before .before .args .a) (now (c .before .before .before .before .before .before .before .before .before .before .before .before .before .before .before .before .before .before .before .before .before .before .before .before .before .before .args .words)) (c .before .before .before .before .before .before .before .before .before .before .before .before .before .before .before .before .before .before .before .before .before .before .before .walk .result) (c .before .before .before .before .before .before .before .before .before .before .before .before .before .before .before .before .before .before .before .before .before .before .before .before .before .before .args .state) (c .before .before .before .before .before .before .before .before .before .before .before .before .before .before .before .before .before .before .before .before .before .before .best .result) (c .before .before .before .before .before .before .before .before .before .before .before .before .before .before .before .before .before .before .before .before .before .empty .result) (c .before .before .before .before .before .before .before .before .before .before .before .before .before .before .before .before .before .before .before .before .loop .words) (c .before .before .before .before .before .before .before .before .before .before .before .before .before .before .before .before .before .before .before .before .loop .walk) (c .before .before .before .before .before .before .before .before .before .before .before .before .before .before .before .before .before .before .before .before .loop .s) (c .before .before .before .before .before .before .before .before .before .before .before .before .before .before .before .before .before .before .before .before .loop .best) (c .before .before .before .before .before .before .before .before .before .before .before .before .before .before .before .before .before .before .before .before .loop .local) (c .before .before .before .before .before .before .before .before .before .before .before .before .before .before .before .before .before .before .before .before .before .before .before .before .before .before .pre .1 .0) (c .before .before .before .before .before .before .before .before .before .before .before .before .before .before .before .before .before .before .before .before .before .before .before .before .before .before .pre .1 .1) (c .before .before .before .before .before .before .before .before .before .before .before .before .before .before .before .before .before .before .before .before .loop .inv) (c .before .before .before .before .before .before .before .before .before .before .before .before .before .before .before .before .before .before .before .next .result) _ (c .before .before .before .before .before .before .before .before .before .before .before .before .before .before .before .before .before .before .before .next .ensures) (c .before .before .before .before .before .before .before .before .before .before .before .before .before .before .before .before .before .is-none .ensures) (c .before .before .before .before .before .before .before .before .before .before .before .before .before .before .before .before .if1 .left) (c .before .before .before .before .before .before .before .before .before .before .before .before .before .before .before .below .result) (c .before .before .before .before .before .before .before .before .before .before .before .before .before .before .before .below .ensures) (c .before .before .before .before .before .before .before .before .before .before .before .before .before .minimax .result) (c .before .before .before .before .before .before .before .before .before .before .before .before .before .minimax .last .1 .1 .1 .0) (c .before .before .before .before .before .before .before .before .before .before .before .before .before .minimax .ensures) (c .before .before .before .before .before .before .before .before .before .before .before .before .before .minimax .kept .1 .1 .1 .0) (c .before .before .before .before .before .before .before .before .before .before .if2 .left) _ (c .before .before .before .before .before .before .is-below .ensures) (c .before .before .before .before .before .if3 .taken) (c .before .before .before .before .raise .result) (c .before .before .before .before .raise .ensures) _ (c .before .before .before .is-cut .ensures) (c .before .before .if4 .taken) (c .before .cut .result) (c .before .cut .ensures) (c .of2 .result) (c .of2 .ensures))
+  moves-loop-holds : Moves moves-lts.Need-loop-holds
+  moves-loop-holds c = turn-first (begun c)
 
-moves-loop-less : (t : ℕ) → moves-lts.Need-loop-less (moves-env t) (moves-at t) moves.Post moves-Inv-loop moves-μ-loop
-moves-loop-less t c = walk-shorter (c .before .before .before .before .before .before .before .before .before .before .before .before .before .before .before .before .before .before .before .before .before .before .before .before .args .a .game) (c .before .before .before .before .before .before .before .before .before .before .before .before .before .before .before .before .before .before .loop .walk) (c .before .before .before .before .before .before .before .before .before .before .before .before .before .before .before .before .before .next .result) _ (c .before .before .before .before .before .before .before .before .before .before .before .before .before .before .before .before .before .next .ensures) (c .before .before .before .before .before .before .before .before .before .before .before .before .before .before .before .is-none .ensures) (c .before .before .before .before .before .before .before .before .before .before .before .before .before .before .if1 .left)
+  moves-next-requires : Moves moves-lts.Need-next-requires
+  moves-next-requires c κs = tt
 
-moves-loop-again : (t : ℕ) → moves-lts.Need-loop-again (moves-env t) (moves-at t) moves.Post moves-Inv-loop moves-μ-loop
-moves-loop-again t c = turn-better (c .before .before .before .before .before .before .before .before .before .before .before .before .before .before .before .before .before .before .before .before .before .before .before .before .args .a) (now (c .before .before .before .before .before .before .before .before .before .before .before .before .before .before .before .before .before .before .before .before .before .before .before .before .args .words)) (c .before .before .before .before .before .before .before .before .before .before .before .before .before .before .before .before .before .before .before .before .before .walk .result) (c .before .before .before .before .before .before .before .before .before .before .before .before .before .before .before .before .before .before .before .before .before .before .before .before .args .state) (c .before .before .before .before .before .before .before .before .before .before .before .before .before .before .before .before .before .before .before .before .best .result) (c .before .before .before .before .before .before .before .before .before .before .before .before .before .before .before .before .before .before .before .empty .result) (c .before .before .before .before .before .before .before .before .before .before .before .before .before .before .before .before .before .before .loop .words) (c .before .before .before .before .before .before .before .before .before .before .before .before .before .before .before .before .before .before .loop .walk) (c .before .before .before .before .before .before .before .before .before .before .before .before .before .before .before .before .before .before .loop .s) (c .before .before .before .before .before .before .before .before .before .before .before .before .before .before .before .before .before .before .loop .best) (c .before .before .before .before .before .before .before .before .before .before .before .before .before .before .before .before .before .before .loop .local) (c .before .before .before .before .before .before .before .before .before .before .before .before .before .before .before .before .before .before .before .before .before .before .before .before .pre .1 .0) (c .before .before .before .before .before .before .before .before .before .before .before .before .before .before .before .before .before .before .before .before .before .before .before .before .pre .1 .1) (c .before .before .before .before .before .before .before .before .before .before .before .before .before .before .before .before .before .before .loop .inv) (c .before .before .before .before .before .before .before .before .before .before .before .before .before .before .before .before .before .next .result) _ (c .before .before .before .before .before .before .before .before .before .before .before .before .before .before .before .before .before .next .ensures) (c .before .before .before .before .before .before .before .before .before .before .before .before .before .before .before .is-none .ensures) (c .before .before .before .before .before .before .before .before .before .before .before .before .before .before .if1 .left) (c .before .before .before .before .before .before .before .before .before .before .before .before .before .below .result) (c .before .before .before .before .before .before .before .before .before .before .before .before .before .below .ensures) (c .before .before .before .before .before .before .before .before .before .before .before .minimax .result) (c .before .before .before .before .before .before .before .before .before .before .before .minimax .last .1 .1 .1 .0) (c .before .before .before .before .before .before .before .before .before .before .before .minimax .ensures) (c .before .before .before .before .before .before .before .before .before .before .before .minimax .kept .1 .1 .1 .0) (c .before .before .before .before .before .before .before .before .if2 .left) _ (c .before .before .before .before .is-below .ensures) (c .before .before .before .if3 .taken) (c .before .before .raise .result) (c .before .before .raise .ensures) _ (c .before .is-cut .ensures) (c .if4 .left)
+  moves-is-none-requires : Moves moves-lts.Need-is-none-requires
+  moves-is-none-requires c κs = tt
 
-moves-loop-less-2 : (t : ℕ) → moves-lts.Need-loop-less-2 (moves-env t) (moves-at t) moves.Post moves-Inv-loop moves-μ-loop
-moves-loop-less-2 t c = walk-shorter (c .before .before .before .before .before .before .before .before .before .before .before .before .before .before .before .before .before .before .before .before .before .args .a .game) (c .before .before .before .before .before .before .before .before .before .before .before .before .before .before .before .loop .walk) (c .before .before .before .before .before .before .before .before .before .before .before .before .before .before .next .result) _ (c .before .before .before .before .before .before .before .before .before .before .before .before .before .before .next .ensures) (c .before .before .before .before .before .before .before .before .before .before .before .before .is-none .ensures) (c .before .before .before .before .before .before .before .before .before .before .before .if1 .left)
+  moves-of-requires : Moves moves-lts.Need-of-requires
+  moves-of-requires c κs = tt
 
-moves-loop-again-2 : (t : ℕ) → moves-lts.Need-loop-again-2 (moves-env t) (moves-at t) moves.Post moves-Inv-loop moves-μ-loop
-moves-loop-again-2 t c = turn-not (c .before .before .before .before .before .before .before .before .before .before .before .before .before .before .before .before .before .before .before .before .before .args .a) (now (c .before .before .before .before .before .before .before .before .before .before .before .before .before .before .before .before .before .before .before .before .before .args .words)) (c .before .before .before .before .before .before .before .before .before .before .before .before .before .before .before .before .before .before .walk .result) (c .before .before .before .before .before .before .before .before .before .before .before .before .before .before .before .before .before .before .before .before .before .args .state) (c .before .before .before .before .before .before .before .before .before .before .before .before .before .before .before .before .before .best .result) (c .before .before .before .before .before .before .before .before .before .before .before .before .before .before .before .before .empty .result) (c .before .before .before .before .before .before .before .before .before .before .before .before .before .before .before .loop .words) (c .before .before .before .before .before .before .before .before .before .before .before .before .before .before .before .loop .walk) (c .before .before .before .before .before .before .before .before .before .before .before .before .before .before .before .loop .s) (c .before .before .before .before .before .before .before .before .before .before .before .before .before .before .before .loop .best) (c .before .before .before .before .before .before .before .before .before .before .before .before .before .before .before .loop .local) (c .before .before .before .before .before .before .before .before .before .before .before .before .before .before .before .before .before .before .before .before .before .pre .1 .0) (c .before .before .before .before .before .before .before .before .before .before .before .before .before .before .before .before .before .before .before .before .before .pre .1 .1) (c .before .before .before .before .before .before .before .before .before .before .before .before .before .before .before .loop .inv) (c .before .before .before .before .before .before .before .before .before .before .before .before .before .before .next .result) _ (c .before .before .before .before .before .before .before .before .before .before .before .before .before .before .next .ensures) (c .before .before .before .before .before .before .before .before .before .before .before .before .is-none .ensures) (c .before .before .before .before .before .before .before .before .before .before .before .if1 .left) (c .before .before .before .before .before .before .before .before .before .before .below .result) (c .before .before .before .before .before .before .before .before .before .before .below .ensures) (c .before .before .before .before .before .before .before .before .minimax .result) (c .before .before .before .before .before .before .before .before .minimax .last .1 .1 .1 .0) (c .before .before .before .before .before .before .before .before .minimax .ensures) (c .before .before .before .before .before .before .before .before .minimax .kept .1 .1 .1 .0) (c .before .before .before .before .before .if2 .left) _ (c .before .is-below .ensures) (c .if3 .left)
+  moves-same-length : Moves moves-lts.Need-same-length
+  moves-same-length c = c .before .before .before .before .before .loop .inv .long
+
+  moves-returns : Moves moves-lts.Need-returns
+  moves-returns c = turn-done (held (c .before .before .before .before .before)) (c .before .before .before .before .next .ensures) (sym (c .before .before .is-none .ensures) ∙ c .before .if1 .taken) (c .of .ensures)
+
+  moves-below-requires : Moves moves-lts.Need-below-requires
+  moves-below-requires c κs = let h = held (c .before .before .before .before) in (h .begun .ready .deep, h .begun .asked .beta-within, h .turn .score)
+
+  moves-minimax-requires : Moves moves-lts.Need-minimax-requires
+  moves-minimax-requires c κs = let m = met (c .before) in (omega (arith, under-lower m, c .before .before .before .before .before .before .before .before .before .before .before .before .pre .0), (under-asked m, under-counted m))
+
+  moves-same-length-2 : Moves moves-lts.Need-same-length-2
+  moves-same-length-2 c = words-long (brought (c .before) (c .if2 .taken))
+
+  moves-returns-2 : Moves moves-lts.Need-returns-2
+  moves-returns-2 c = turn-stopped (brought (c .before) (c .if2 .taken))
+
+  moves-is-below-requires : Moves moves-lts.Need-is-below-requires
+  moves-is-below-requires c κs = score-within (whole (c .before .before .before))
+
+  moves-raise-requires : Moves moves-lts.Need-raise-requires
+  moves-raise-requires c κs = may-raise (whole (c .before .before .before .before .before))
+
+  moves-is-cut-requires : Moves moves-lts.Need-is-cut-requires
+  moves-is-cut-requires c κs = tt
+
+  moves-cut-requires : Moves moves-lts.Need-cut-requires
+  moves-cut-requires c κs = cut-room (whole (c .before .before .before .before .before .before .before .before))
+
+  moves-of-requires-2 : Moves moves-lts.Need-of-requires-2
+  moves-of-requires-2 c κs = tt
+
+  moves-same-length-3 : Moves moves-lts.Need-same-length-3
+  moves-same-length-3 c = words-long (whole (c .before .before .before .before .before .before .before .before .before .before))
+
+  moves-returns-3 : Moves moves-lts.Need-returns-3
+  moves-returns-3 c = turn-cut (raised (c .before .before .before .before)) (sym (c .before .before .before .is-cut .ensures) ∙ c .before .before .if4 .taken) (c .before .cut .ensures) (c .of2 .ensures)
+
+  moves-loop-less : Moves moves-lts.Need-loop-less
+  moves-loop-less c = walk-shorter (whole (c .before .before .before .before .before .before .before .before))
+
+  moves-loop-again : Moves moves-lts.Need-loop-again
+  moves-loop-again c = turn-better (raised (c .before .before)) (sym (c .before .is-cut .ensures) ∙ c .if4 .left)
+
+  moves-loop-less-2 : Moves moves-lts.Need-loop-less-2
+  moves-loop-less-2 c = walk-shorter (whole (c .before .before .before .before .before))
+
+  moves-loop-again-2 : Moves moves-lts.Need-loop-again-2
+  moves-loop-again-2 c = turn-not (whole (c .before .before .before .before .before)) (sym (c .before .is-below .ensures) ∙ c .if3 .left)
 
 pub +minimax+moves-spec : {M : Type 1} → statement M
 +minimax+moves-spec = close μ-minimax μ-moves (λ t. minimax-lts.spec (minimax-env t)

@@ -1,5 +1,5 @@
 -- Nothing is marked, and the cursor has the list of moves.
-use Rattle.order.proofs.Walks.{walk-new}
+use Rattle.order.proofs.Walks.{new-order}
 use borrow.Author.Needs.{needs}
 use Rattle.order.proofs.Walk.new.Statement.{statement}
 use Rattle.order.proofs.Walk.new.Tie as tie
@@ -11,7 +11,7 @@ new-requires : tie.Need-new-requires
 new-requires c κs = search needs
 
 returns : tie.Need-returns
-returns c = walk-new (c .before .before .args .game) (c .before .before .args .first) (c .before .before .args .second) _ _ (c .before .all-moves .ensures) (c .new .ensures)
+returns c = (new-order (c .before .before .args .game) (c .before .before .args .first) (c .before .before .args .second) _ (c .before .all-moves .ensures), c .new .ensures)
 
 pub new-spec : {M : Type 1} → statement M
 new-spec = tie.close (tie.spec all-moves-requires new-requires returns)

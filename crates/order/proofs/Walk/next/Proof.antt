@@ -1,18 +1,16 @@
--- Each turn meets the next move in the order: what is left, by the moves not met and the marks, stays as it was at the start.
+-- Each turn meets the next move in the order: the step from the moves not met and the marks stays as it was at the start.
 use mathlib.Core.Path.{_≡_, refl, _∙_}
 use mathlib.Core.List.{_∷_}
 use lib.ListN.{length}
-use Rattle.rules.specs.Play.{accepts}
-use Rattle.game.specs.Meaning.{position-of}
-use Rattle.order.specs.Order.{marked, unmarked, order-left}
+use Rattle.order.specs.Order.{order-left}
 use Rattle.order.proofs.Orders.{was-next, was-end}
-use Rattle.order.proofs.Walks.{shorter, repeated, refused, accepted, ended}
+use Rattle.order.proofs.Walks.{step-from, shorter, repeated, refused, accepted, ended}
 use borrow.Author.Needs.{needs}
 use Rattle.order.proofs.Walk.next.Statement.{statement}
 use Rattle.order.proofs.Walk.next.Tie as tie
 
 abbrev Inv-loop : tie.InvT-loop
-Inv-loop game left₀ seen₀ left seen = unmarked (accepts (position-of game)) (marked seen) (order-left left) ≡ unmarked (accepts (position-of game)) (marked seen₀) (order-left left₀)
+Inv-loop game left₀ seen₀ left seen = step-from game left seen ≡ step-from game left₀ seen₀
 
 abbrev μ-loop : tie.MeasureT-loop
 μ-loop game left₀ seen₀ left seen = length (order-left left)

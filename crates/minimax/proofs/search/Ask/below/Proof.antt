@@ -1,8 +1,7 @@
 -- Negatives within the window are exact.
-use mathlib.Core.Path.{_≡_, ap₂}
+use mathlib.Core.Path.{ap₂}
 use Prim.Native.Nat.{_-_}
 use lib.IntN.{ℤ}
-use Rattle.minimax.specs.declared.search.Ask.{Ask}
 use Rattle.minimax.proofs.Scores.{minus-fits, minus-reads}
 use borrow.Author.Needs.{needs}
 use Rattle.minimax.proofs.search.Ask.below.Statement.{statement}

@@ -3,7 +3,7 @@ use mathlib.Core.Path.{refl}
 use mathlib.Core.List.{[]}
 use native.Mathlib.Omega.{arith}
 use denote.Ref.{now}
-use Rattle.minimax.proofs.Entering.{entered-steps, hit-steps, enter-stopped, enter-leaf, enter-none, enter-known, enter-some}
+use Rattle.minimax.proofs.Entering.{entered-paid, hit-paid, enter-stopped, enter-leaf, enter-none, enter-known, enter-some}
 use borrow.Author.Needs.{needs}
 use Rattle.minimax.proofs.search.Ask.enter.Statement.{statement}
 use Rattle.minimax.proofs.search.Ask.enter.Tie as tie
@@ -25,7 +25,7 @@ is-leaf-requires c κs = search needs
 
 leaf-requires : tie.Need-leaf-requires
 leaf-requires c κs =
-    let h = entered-steps (c .before .before .before .before .before .before .before .args .state) (c .before .before .enter .result) (c .before .before .enter .ensures []) in
+    let h = entered-paid (c .before .before .before .before .before .before .before .args .state) (c .before .before .enter .result) (c .before .before .enter .ensures []) in
     omega (arith, h .terminal-is, c .before .before .before .before .before .before .before .pre .1 .terminal-within, c .before .before .before .before .before .before .before .pre .0 .allowed, c .before .before .before .if1 .left)
 
 evaluated-requires : tie.Need-evaluated-requires
@@ -57,7 +57,7 @@ enum-known-held c = search needs
 
 hit-requires : tie.Need-hit-requires
 hit-requires c κs =
-    let h = entered-steps (c .before .before .before .before .before .before .before .before .before .before .before .before .before .args .state) (c .before .before .before .before .before .before .before .before .enter .result) (c .before .before .before .before .before .before .before .before .enter .ensures []) in
+    let h = entered-paid (c .before .before .before .before .before .before .before .before .before .before .before .before .before .args .state) (c .before .before .before .before .before .before .before .before .enter .result) (c .before .before .before .before .before .before .before .before .enter .ensures []) in
     omega (arith, h .hits-is, c .before .before .before .before .before .before .before .before .before .before .before .before .before .pre .1 .hits-within, c .before .before .before .before .before .before .before .before .before .before .before .before .before .pre .0 .allowed, c .before .before .before .before .before .before .before .before .before .if1 .left)
 
 suffices-requires : tie.Need-suffices-requires
@@ -65,9 +65,8 @@ suffices-requires c κs = search needs
 
 suffice-requires : tie.Need-suffice-requires
 suffice-requires c κs =
-    let h = entered-steps (c .before .before .before .before .before .before .before .before .before .before .before .before .before .before .before .before .args .state) (c .before .before .before .before .before .before .before .before .before .before .before .enter .result) (c .before .before .before .before .before .before .before .before .before .before .before .enter .ensures []) in
-    let k = hit-steps (c .before .before .before .before .before .before .before .before .before .before .before .enter .result) (c .before .before .hit .result) (c .before .before .hit .ensures []) in
-    omega (arith, h .suffice-is, k .suffice-is, c .before .before .before .before .before .before .before .before .before .before .before .before .before .before .before .before .pre .1 .suffice-within, c .before .before .before .before .before .before .before .before .before .before .before .before .before .before .before .before .pre .0 .allowed, c .before .before .before .before .before .before .before .before .before .before .before .before .if1 .left)
+    let h = hit-paid (c .before .before .before .before .before .before .before .before .before .before .before .before .before .before .before .before .args .state) (c .before .before .before .before .before .before .before .before .before .before .before .enter .result) (c .before .before .before .before .before .before .before .before .before .before .before .enter .ensures []) (c .before .before .hit .result) (c .before .before .hit .ensures []) in
+    omega (arith, h .suffice-is, c .before .before .before .before .before .before .before .before .before .before .before .before .before .before .before .before .pre .1 .suffice-within, c .before .before .before .before .before .before .before .before .before .before .before .before .before .before .before .before .pre .0 .allowed, c .before .before .before .before .before .before .before .before .before .before .before .before .if1 .left)
 
 known-requires : tie.Need-known-requires
 known-requires c κs = search needs

@@ -1,9 +1,8 @@
 -- The evaluation is read back.
-use mathlib.Core.Path.{_≡_, ap}
+use mathlib.Core.Path.{ap}
 use lib.IntN.{ℤ}
 use mathlib.Core.Bool.{false}
 use Rattle.evaluation.proofs.Signed.{result}
-use Rattle.minimax.specs.declared.search.Found.{Found}
 use borrow.Author.Needs.{needs}
 use Rattle.minimax.proofs.search.Ask.evaluated.Statement.{statement}
 use Rattle.minimax.proofs.search.Ask.evaluated.Tie as tie

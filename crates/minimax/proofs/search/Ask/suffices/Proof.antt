@@ -1,6 +1,5 @@
 -- The tests are the definition's.
 use mathlib.Core.Path.{refl, ap₂}
-use native.Mathlib.Omega.{arith}
 use lib.Signed.{leZ}
 use Rattle.table.specs.declared.Bound.the-variants.{Exact, AtLeast, AtMost}
 use Rattle.minimax.proofs.Scores.{told}

@@ -1,9 +1,8 @@
 -- The table's move is the first place, its value the score.
-use mathlib.Core.Path.{_≡_, ap₂}
+use mathlib.Core.Path.{ap₂}
 use mathlib.Core.Bool.{false}
 use lib.IntN.{ℤ}
 use Rattle.minimax.specs.declared.search.Line.{Line}
-use Rattle.minimax.specs.declared.search.Found.{Found}
 use Rattle.minimax.proofs.Scores.{told}
 use borrow.Author.Needs.{needs}
 use Rattle.minimax.proofs.search.Found.known.Statement.{statement}
