@@ -5,3 +5,5 @@ pub mod Depths
 pub mod HeldLine
 pub mod OutBytes
 pub mod Signs
+pub mod Bounds
+pub mod Answered

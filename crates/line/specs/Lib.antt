@@ -1,3 +1,4 @@
 pub mod Padded
 pub mod HeldLine
 pub mod OutBytes
+pub mod Answered

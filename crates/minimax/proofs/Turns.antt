@@ -76,7 +76,7 @@ module _ (g : Game) (w : Walk) (child : Child) (b : Bool) (n : NextIs g (walk-le
   walk-shorter = rw (walk-goes .0) (omega arith)
 
 -- ---- every value is within the root's window
-value-within : (draws : DrawWinner) (p : Position) → (lowest ≤ℤ evaluate draws p) × (evaluate draws p ≤ℤ highest)
+pub value-within : (draws : DrawWinner) (p : Position) → (lowest ≤ℤ evaluate draws p) × (evaluate draws p ≤ℤ highest)
 unfolding hi lo
 value-within draws p = elim (is (going p)) [
   | inl t ↦ let h = value-inside draws p t in (omega (zarith, h .0), omega (zarith, h .1))
