@@ -6,6 +6,7 @@ use mathlib.Core.Option.{Option, none, some}
 use Prim.Native.Nat.{ℕ, _^_, _≤_, _<_}
 use native.Mathlib.Omega.{arith}
 use lib.Dec.{T, eqb}
+use lib.IntN.{ℤ}
 use lib.ListN.{length}
 use borrow.Author.Tests.{eq-eqb, ne-eqb}
 use Rattle.base.specs.Bits.{bit}
@@ -67,9 +68,9 @@ module _ (s : Set) (legal : ℕ) (r : Reported) where
   unfolding report-text if_then_else_
   report-refused n = rw (ne-eqb (r .number) 0 n)
 
-  pub report-answered : r .number ≡ 0 → answer-text s legal (r .depth) (r .score) (r .count) (r .line) ≡ report-text s legal r
+  pub report-answered : (o : Out) (n : ℕ) (z : ℤ) → n ≡ legal → z ≡ r .score → r .number ≡ 0 → o ≡ out-of (answer-text s n (r .depth) z (r .count) (r .line)) → o ≡ out-of (report-text s legal r)
   unfolding report-text if_then_else_
-  report-answered e = rw (eq-eqb (r .number) 0 e)
+  report-answered o n z e f g h = h ∙ rw (e, f, eq-eqb (r .number) 0 g)
 
 -- ---- a position: 14, or the search
 set-again : (s : Set) → set-of (status-of s) ≡ s

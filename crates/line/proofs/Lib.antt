@@ -7,3 +7,4 @@ pub mod OutBytes
 pub mod Signs
 pub mod Bounds
 pub mod Answered
+pub mod TakenLine

@@ -2,3 +2,4 @@ pub mod Padded
 pub mod HeldLine
 pub mod OutBytes
 pub mod Answered
+pub mod TakenLine

@@ -23,6 +23,7 @@ use game::Game;
 pub use held::After;
 pub use held::Depth;
 pub use held::Held;
+pub use held::Taken;
 use minimax::Config;
 use minimax::Ending;
 use minimax::Minimax;

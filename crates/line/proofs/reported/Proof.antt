@@ -1,15 +1,11 @@
 -- The number is 0 where the search was not refused.
-use mathlib.Core.Path.{_≡_, sym, ap, ap₂, _∙_}
+use mathlib.Core.Path.{sym, ap, _∙_}
 use mathlib.Core.List.{[]}
-use Prim.Native.Nat.{ℕ}
-use lib.IntN.{ℤ}
-use mir.Syntax.{w64}
-use mir.Val.{toZ, ofZ}
 use Rattle.base.proofs.Signed.{back}
-use Rattle.text.specs.ProgramLine.{answer-text, refusal-text}
+use Rattle.text.specs.ProgramLine.{refusal-text}
 use Rattle.status.specs.Sets.{set-of}
 use Rattle.minimax.specs.Report.{report-of}
-use Rattle.line.specs.OutBytes.{move-bytes, out-of}
+use Rattle.line.specs.OutBytes.{out-of}
 use Rattle.line.proofs.Answered.{report-refused, report-answered}
 use borrow.Author.Needs.{needs}
 use Rattle.line.proofs.reported.Statement.{statement}
@@ -36,10 +32,8 @@ returns-2 : tie.Need-returns-2
 returns-2 c =
     let b = c .before .before .before .before .before in
     let a = b .before .args in
-    let score : toZ w64 (ofZ w64 (a .report .score)) ≡ a .report .score = back (a .report .score) (record { sfits = c .before .struct-told .given .1 .1 .1 .0 .1 }) in
-    c .answer .ensures
-    ∙ ap out-of (ap₂ (λ (n : ℕ) (z : ℤ). answer-text (set-of (a .status)) n (a .report .depth) z (a .report .count) (move-bytes (a .report .line))) (c .before .before .before .legal-moves .ensures) score
-    ∙ report-answered (set-of (a .status)) _ (report-of (a .report) []) (sym (b .ending-number .ensures) ∙ c .before .before .before .before .if1 .left))
+    report-answered (set-of (a .status)) _ (report-of (a .report) []) _ _ _ (c .before .before .before .legal-moves .ensures)
+    (back (a .report .score) (record { sfits = c .before .struct-told .given .1 .1 .1 .0 .1 })) (sym (b .ending-number .ensures) ∙ c .before .before .before .before .if1 .left) (c .answer .ensures)
 
 pub reported-spec : {M : Type 1} → statement M
 reported-spec =
