@@ -5,3 +5,6 @@ pub mod Depths
 pub mod HeldLine
 pub mod OutBytes
 pub mod Signs
+pub mod Bounds
+pub mod Answered
+pub mod TakenLine

@@ -1,9 +1,11 @@
 // A line of any length, held in bounded memory: its first 257 bytes, where its last blank stands, and what follows that blank.
 ghost use mathlib.Core.Path.{_≡_};
 ghost use Prim.Native.Nat.{min};
+ghost use lib.Dec.{eqb};
 ghost use Rattle.text.specs.ProgramLine.{is-digit};
 ghost use Rattle.notation.specs.Parsed.{Parses};
 ghost use Rattle.line.specs.HeldLine.{longer, depth-after, DepthIs, new-held, pushed, held-text};
+ghost use Rattle.line.specs.TakenLine.{Takes};
 use notation::Parsed;
 
 // One more than the longest text that is read: a longer one is refused by its first 257 bytes.
@@ -76,6 +78,13 @@ pub struct Held {
     pub after: After,
 }
 
+// A line as far as its bytes came, where the next bytes are, and whether its end was met.
+pub struct Taken {
+    pub line: Held,
+    pub at: usize,
+    pub found: bool,
+}
+
 impl Held {
     // The empty line.
     pub fn new() -> Held
@@ -115,6 +124,37 @@ impl Held {
             len,
             text,
             after: after.push(b),
+        }
+    }
+
+    pub fn is_empty(self) -> bool
+        ensures { λ r. ⌜ r ≡ eqb (self .len) 0 ⌝ }
+    {
+        self.len == 0
+    }
+
+    // Takes the bytes from a place on, up to a line feed, or all.
+    pub fn take(self, bytes: &[u8], from: usize) -> Taken
+        ensures { λ r. ⌜ Takes self (now (bytes .entry)) from r ⌝ }
+    {
+        let mut line = self;
+        let mut i = from;
+        while i < bytes.len() {
+            let b = bytes[i];
+            i += 1;
+            if b == b'\n' {
+                return Taken {
+                    line,
+                    at: i,
+                    found: true,
+                };
+            }
+            line = line.push(b);
+        }
+        Taken {
+            line,
+            at: i,
+            found: false,
         }
     }
 

@@ -61,7 +61,7 @@ module _ {g : Game} {w : Walk} {child : Child} (n : NextOf g w child) where
       go (m ∷ ms) q h = (q ∙ ap₂ _∷_ (sym (h .0)) (sym (h .2)), h .1 ∙ ap (game-after g) (sym (h .0)))
 
 -- ---- every value is within the root's window
-value-within : (draws : DrawWinner) (p : Position) → (lowest ≤ℤ evaluate draws p) × (evaluate draws p ≤ℤ highest)
+pub value-within : (draws : DrawWinner) (p : Position) → (lowest ≤ℤ evaluate draws p) × (evaluate draws p ≤ℤ highest)
 unfolding hi lo
 value-within draws p = elim (is (going p)) [
   | inl t ↦ let h = value-inside draws p t in (omega (zarith, h .0), omega (zarith, h .1))

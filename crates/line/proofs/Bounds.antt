@@ -1,0 +1,106 @@
+-- What the program's search reports, depth after depth: no score leaves the root's window, and no count the allowance.
+use mathlib.Core.Path.{_≡_, sym}
+use mathlib.Core.Bool.{Bool}
+use mathlib.Core.List.{List, [], _∷_, _++_}
+use Prim.Native.Nat.{ℕ, zero, suc, _+_, _^_, _≤_, _<_}
+use native.Mathlib.Omega.{arith}
+use lib.Dec.{T, eqb, eqb→eq}
+use lib.IntN.{ℤ, natAbs}
+use lib.ListN.{length, replicate, length-append, length-replicate}
+use lib.Signed.{_≤ℤ_}
+use Rattle.base.specs.Lists.{keep, each}
+use Rattle.base.proofs.Branch.{if-ind}
+use Rattle.base.proofs.Integers.{hi, lo, zarith, hi-le, lo-le}
+use Rattle.rules.specs.declared.DrawWinner.the-variants.{Nobody}
+use Rattle.rules.specs.Position.{Position}
+use Rattle.rules.specs.Play.{no-move, accepts}
+use Rattle.rules.specs.Moves.{places, moves}
+use Rattle.rules.proofs.Evaluation.{within-abs}
+use Rattle.theory.specs.Game.{Game}
+use Rattle.theory.specs.PlainMinimax.{lowest, highest}
+use Rattle.theory.specs.Memory.{Memory, begin, fresh-memory}
+use Rattle.theory.specs.OrderedSearch.{at-most, Outcome, stopped, found}
+use Rattle.theory.specs.Deepening.{Whole, nothing-yet, one-deeper, Answer, decided, on-outcome, deepen, analyze}
+use Rattle.theory.specs.Reported.{Settings, entry-refusal, Reported, filled, report, refused-entry, reported}
+use Rattle.theory.proofs.Search.{Gives}
+use Rattle.theory.proofs.Range.{search-range}
+use Rattle.theory.proofs.Growth.{Ends, search-allowed}
+use Rattle.theory.proofs.Places.{analyze-places}
+use Rattle.reference.specs.Reference.{game}
+use Rattle.minimax.proofs.Refusals.{limits}
+use Rattle.minimax.proofs.Turns.{value-within}
+use Rattle.line.specs.Answered.{settings, no-answers, searched}
+
+-- ---- there are 81 moves at most
+keep-short : (f : ℕ → Bool) (xs : List ℕ) → length (keep f xs) ≤ length xs
+unfolding keep
+keep-short f [] = omega arith
+keep-short f (x ∷ xs) = if-ind (λ (l : List ℕ). length l ≤ suc (length xs)) (f x) _ _ (λ _. omega (arith, keep-short f xs)) (λ _. omega (arith, keep-short f xs))
+
+pub moves-short : (p : Position) → length (moves p) ≤ 81
+unfolding moves places each
+moves-short p = keep-short (accepts p) places
+
+-- ---- the whole depths and the count
+pub record Bounded (limit n : ℕ) (x : Answer) : Type 0 where
+  pub deep : x .whole .depth ≤ limit
+  pub low : lowest ≤ℤ x .whole .score
+  pub high : x .whole .score ≤ℤ highest
+  pub counted : x .memory .count ≤ n
+
+on-outcome-both : (P : ℤ → Type 0) (M : Memory → Type 0) (Q : Answer → Type 0) (o : Outcome) (f : Memory → Answer) (g : ℤ → List ℕ → Memory → Answer) →
+    Gives (λ r _ _. P r) o → Ends M o → ((s : Memory) → M s → Q (f s)) → ((r : ℤ) (line : List ℕ) (s : Memory) → P r → M s → Q (g r line s)) → Q (on-outcome o f g)
+unfolding on-outcome Gives Ends
+on-outcome-both P M Q (stopped s) f g h k i j = i s k
+on-outcome-both P M Q (found r line s) f g h k i j = j r line s h k
+
+module _ (G : Game) (values : (p : G .Pos) → (lowest ≤ℤ G .value p) × (G .value p ≤ℤ highest)) (n : ℕ) (p : G .Pos) where
+  deepen-bounded : (limit k : ℕ) (w : Whole) (s : Memory) → k + w .depth ≤ limit → lowest ≤ℤ w .score → w .score ≤ℤ highest → s .count ≤ n → Bounded limit n (deepen G (at-most n) k p w s)
+  unfolding deepen begin hi lo
+  deepen-bounded limit zero w s d a b c = record { deep = omega arith; low = a; high = b; counted = c }
+  deepen-bounded limit (suc k) w s d a b c = on-outcome-both (λ r. (lowest ≤ℤ r) × (r ≤ℤ highest)) (λ z. z .count ≤ n) (Bounded limit n) _ _ _
+      (search-range G values (at-most n) (suc (w .depth)) p lowest highest (w .line ++ (no-move ∷ [])) no-move (begin s) (omega zarith) (omega zarith) (omega zarith) (omega zarith))
+      (search-allowed G n (suc (w .depth)) p lowest highest (w .line ++ (no-move ∷ [])) no-move (begin s) c)
+      (λ _ e. record { deep = omega arith; low = a; high = b; counted = e })
+      (λ r line s' h e. if-ind (Bounded limit n) (decided r) _ _
+      (λ _. record { deep = omega arith; low = h .0; high = h .1; counted = e })
+      (λ _. deepen-bounded limit k (one-deeper w r line (s' .tally)) s' (omega arith) (h .0) (h .1) e))
+
+  analyze-bounded : (limit : ℕ) (s : Memory) → s .count ≤ n → Bounded limit n (analyze G (at-most n) limit p s)
+  unfolding analyze hi lo
+  analyze-bounded limit s c = deepen-bounded limit limit nothing-yet s (omega arith) (omega zarith) (omega zarith) c
+
+-- ---- what is reported
+pub record Small (r : Reported) : Type 0 where
+  pub number-small : r .number ≤ 18
+  pub depth-small : r .depth ≤ 81
+  pub score-small : natAbs (r .score) ≤ 2 ^ 60 + 1
+  pub count-small : r .count ≤ 1000000
+  pub line-long : length (r .line) ≡ 81
+
+module _ (c : Settings) (words : ℕ) where
+  entry-small : entry-refusal c words ≤ 18
+  unfolding entry-refusal
+  entry-small = if-ind (λ (n : ℕ). n ≤ 18) _ _ _ (λ _. omega arith) (λ _. if-ind (λ (n : ℕ). n ≤ 18) _ _ _ (λ _. omega arith) (λ _. if-ind (λ (n : ℕ). n ≤ 18) _ _ _ (λ _. omega arith) (λ _. omega arith)))
+
+report-small : (x : Answer) → Bounded 81 1000000 x → length (x .whole .line) ≡ x .whole .depth → Small (report x)
+report-small x b e = record {
+  number-small = if-ind (λ (n : ℕ). n ≤ 18) _ _ _ (λ _. omega arith) (λ _. omega arith);
+  depth-small = b .deep;
+  score-small = within-abs (2 ^ 60 + 1) (x .whole .score) (hi-le (x .whole .score) _ (b .high), lo-le (x .whole .score) _ (b .low));
+  count-small = b .counted;
+  line-long = simp (length-append, length-replicate) (omega (arith, b .deep));
+}
+
+refused-small : (n : ℕ) (xs os words : List ℕ) → n ≤ 18 → Small (refused-entry n xs os words)
+refused-small n xs os words h = record { number-small = h; depth-small = omega arith; score-small = omega arith; count-small = omega arith; line-long = length-replicate 81 no-move }
+
+pub searched-small : (depth : ℕ) (p : Position) → Small (searched depth p)
+unfolding reported
+searched-small depth p =
+    if-ind Small _ _ _
+    (λ t. let l = limits (settings depth) 0 (sym (eqb→eq _ 0 t)) in
+    let s = fresh-memory no-answers no-answers [] in
+    let a = analyze-bounded (game Nobody) (value-within Nobody) 1000000 p depth s (omega arith) in
+    report-small (analyze (game Nobody) (at-most 1000000) depth p s) (record { deep = omega arith; low = a .low; high = a .high; counted = a .counted }) (analyze-places (game Nobody) (at-most 1000000) depth p s))
+    (λ _. refused-small _ no-answers no-answers [] (entry-small (settings depth) 0))

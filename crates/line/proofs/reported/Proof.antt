@@ -1,0 +1,47 @@
+-- The number is 0 where the search was not refused.
+use mathlib.Core.Path.{sym, ap, _∙_}
+use mathlib.Core.List.{[]}
+use Rattle.base.proofs.Signed.{back}
+use Rattle.text.specs.ProgramLine.{refusal-text}
+use Rattle.status.specs.Sets.{set-of}
+use Rattle.minimax.specs.Report.{report-of}
+use Rattle.line.specs.OutBytes.{out-of}
+use Rattle.line.proofs.Answered.{report-refused, report-answered}
+use borrow.Author.Needs.{needs}
+use Rattle.line.proofs.reported.Statement.{statement}
+use Rattle.line.proofs.reported.Tie as tie
+
+ending-number-requires : tie.Need-ending-number-requires
+ending-number-requires c κs = search needs
+
+refused-requires : tie.Need-refused-requires
+refused-requires c κs = search needs
+
+returns : tie.Need-returns
+returns c =
+    let s = c .before .before .before in
+    c .refused .ensures ∙ ap out-of (ap refusal-text (c .before .before .ending-number .ensures) ∙ report-refused (set-of (s .args .status)) _ (report-of (s .args .report) []) (λ e. c .before .if1 .taken (c .before .before .ending-number .ensures ∙ e)))
+
+legal-moves-requires : tie.Need-legal-moves-requires
+legal-moves-requires c κs = search needs
+
+answer-requires : tie.Need-answer-requires
+answer-requires c κs = search needs
+
+returns-2 : tie.Need-returns-2
+returns-2 c =
+    let b = c .before .before .before .before .before in
+    let a = b .before .args in
+    report-answered (set-of (a .status)) _ (report-of (a .report) []) _ _ _ (c .before .before .before .legal-moves .ensures)
+    (back (a .report .score) (record { sfits = c .before .struct-told .given .1 .1 .1 .0 .1 })) (sym (b .ending-number .ensures) ∙ c .before .before .before .before .if1 .left) (c .answer .ensures)
+
+pub reported-spec : {M : Type 1} → statement M
+reported-spec =
+    tie.close
+    (tie.spec
+    ending-number-requires
+    refused-requires
+    returns
+    legal-moves-requires
+    answer-requires
+    returns-2)

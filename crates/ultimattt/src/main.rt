@@ -1,0 +1,41 @@
+// For each line `position depth` of standard input a line with its answer. There may be any number of lines, of any length.
+use libc::STDIN_FILENO;
+use libc::STDOUT_FILENO;
+use line::Held;
+use line::Out;
+
+fn write(out: Out) {
+    let bytes = out.bytes;
+    let n = out.written();
+    io::write_all(STDOUT_FILENO, &bytes[..n]);
+    io::write_all(STDOUT_FILENO, b"\n");
+}
+
+// Answers the lines that end in the bytes. The line that goes on comes back.
+fn feed(begun: Held, bytes: &[u8]) -> Held {
+    let mut taken = begun.take(bytes, 0);
+    while taken.found {
+        write(line::answer(taken.line));
+        taken = Held::new().take(bytes, taken.at);
+    }
+    taken.line
+}
+
+// A proved loop has to end, and nothing says that the input does: the turns are counted down from a number that no run uses up.
+fn main() {
+    let mut buffer = io::large_buffer();
+    let mut held = Held::new();
+    let mut turns = u64::MAX;
+    while turns > 0 {
+        let got = libc::read(STDIN_FILENO, &mut buffer);
+        let n = io::count(got, &buffer);
+        if n == 0 {
+            break;
+        }
+        held = feed(held, &buffer[..n]);
+        turns -= 1;
+    }
+    if !held.is_empty() {
+        write(line::answer(held));
+    }
+}
