@@ -1,2 +1,3 @@
 pub mod Claims
 pub mod AfterMoves
+pub mod Demand1
