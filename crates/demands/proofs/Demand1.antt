@@ -1,20 +1,28 @@
 -- Each promise says the refusals of demand 1.
 use mathlib.Core.Path.{_≡_, refl, sym, ap, _∙_, subst}
-use mathlib.Core.Bool.{Bool, true, false, not, _||_, _&&_}
-use mathlib.Core.List.{List, [], _∷_}
+use mathlib.Core.Bool.{Bool, true, false, not, _||_, _&&_, and-false}
+use mathlib.Core.List.{List, [], _∷_, _++_}
 use mathlib.Core.Logic.{_⊎_, inl, inr}
-use Prim.Native.Nat.{ℕ, zero, suc, _≤_, _<_}
+use Prim.Native.Nat.{ℕ, zero, suc, _%_, _≤_, _<_}
 use native.Mathlib.Omega.{arith}
-use lib.Dec.{T, eqb, ltb, ltb→lt, nltb→le}
-use borrow.Author.Tests.{lt-ltb, le-ltb}
+use lib.Dec.{T, eqb, leb, ltb, eqb→eq, ltb→lt, lt→ltb, nltb→le}
+use lib.ListN.{length}
+use borrow.Author.Tests.{lt-ltb, le-ltb, le-leb, lt-leb, eq-eqb, ne-eqb}
 use Rattle.base.specs.Branch.{if_then_else_}
 use Rattle.base.specs.Lists.{all}
-use Rattle.base.proofs.Bool.{deny, is}
-use Rattle.base.proofs.Branch.{if-ind}
+use Rattle.base.proofs.Bool.{and→, is}
+use Rattle.base.proofs.Branch.{if-ind, if-both}
 use Rattle.rules.specs.Board.{blank, in-play}
 use Rattle.rules.specs.Position.{Due, free, at, Position, going, open-board, free-cell}
-use Rattle.rules.specs.Play.{board-of, cell-of, may, checks, first-failed, accepts, after, left-by, tried, play}
+use Rattle.rules.specs.Play.{no-move, board-of, cell-of, may, checks, first-failed, accepts, after, left-by, tried, play}
 use Rattle.rules.proofs.Play.{play-accepted, play-refused, tried-accepted, refusal-is-first}
+use Rattle.theory.specs.Game.{Game as Searched}
+use Rattle.theory.specs.PlainMinimax.{lowest, highest}
+use Rattle.theory.specs.Memory.{Memory, begin, fresh-memory}
+use Rattle.theory.specs.OrderedSearch.{Allowance, unlimited, at-most, Outcome, stopped, found, search}
+use Rattle.theory.specs.Deepening.{Whole, nothing-yet, one-deeper, Answer, decided, on-outcome, deepen, analyze}
+use Rattle.theory.specs.Reported.{Settings, entry-refusal, no-stats, filled, report, refused-entry}
+use Rattle.theory.proofs.Allowance.{lt-or, allowance-limits, mark-means-spent, spent-means-mark}
 use Rattle.boards.specs.declared.moves.Move.{Move}
 use Rattle.boards.specs.Answers.{answer-number}
 use Rattle.game.specs.declared.NextBoard.{NextBoard}
@@ -25,7 +33,14 @@ use Rattle.game.specs.Meaning.{due-of, position-of}
 use Rattle.game.specs.After.{after-move, game-after, refusal, Plays}
 use Rattle.game.proofs.Meaning.{game-accepted, game-refused}
 use Rattle.game.proofs.Answers.{first-is-refusal}
-use Rattle.demands.specs.Demand1.{_when_else_, over-8, other-due, playing, Playing}
+use Rattle.minimax.specs.declared.Minimax.{Minimax}
+use Rattle.minimax.specs.declared.Config.{Config}
+use Rattle.minimax.specs.declared.Report.{Report}
+use Rattle.minimax.specs.Structs.{structs}
+use Rattle.minimax.specs.State.{bytes-of}
+use Rattle.minimax.specs.Report.{settings-of, report-of, answer-of, reported-of}
+use Rattle.minimax.proofs.Refusals.{some-depth, accepted-reported, turned-reported}
+use Rattle.demands.specs.Demand1.{_when_else_, over-8, other-due, playing, Playing, depth-1-enters, searching, Silent, Unchanged, Spent, Searching}
 
 -- ---- tests said the other way round
 over-is : (n : ℕ) → ltb n 9 ≡ not (ltb 8 n)
@@ -88,3 +103,174 @@ module _ (g : Game) (m : Move) (r : Made) (h : Plays g m r) where
     accepted = λ e. by-number _ e (λ t. h .exact ∙ game-accepted g (m .bits) t);
     accepted-means = λ e. by-number _ e (λ t. h .position ∙ tried-accepted p (m .bits) t);
   }
+
+-- ---- searching
+same-test : (a b : Bool) → (T a → T b) → (T b → T a) → a ≡ b
+same-test true true f k = refl
+same-test true false f k = absurd (f tt)
+same-test false true f k = absurd (k tt)
+same-test false false f k = refl
+
+most-is : (n k : ℕ) → not (leb n k) ≡ ltb k n
+most-is n k = elim (lt-or k n) [ inl h ↦ rw (lt-leb n k h, lt-ltb k n h) | inr h ↦ rw (le-leb n k h, le-ltb k n h) ]
+
+outside-is : (n k : ℕ) → not (leb 1 n && leb n k) ≡ (eqb n 0 || ltb k n)
+outside-is n k = elim (lt-or 0 n) [
+  | inl h ↦ (λ i. not (le-leb 1 n h i && leb n k)) ∙ most-is n k ∙ sym (λ i. ne-eqb n 0 (λ e. omega (arith, h, e)) i || ltb k n)
+  | inr h ↦ (λ i. not (lt-leb 1 n (omega (arith, h)) i && leb n k)) ∙ sym (λ i. eq-eqb n 0 (omega (arith, h)) i || ltb k n)
+]
+
+entry-chain : (a b d : Bool) → _≡_ {A = ℕ} (if a then (λ _. 15) else λ _. if b then (λ _. 16) else λ _. if d then (λ _. 17) else λ _. 0) (15 when a else 16 when b else 17 when d else 0)
+unfolding if_then_else_
+entry-chain true b d = refl
+entry-chain false true d = refl
+entry-chain false false true = refl
+entry-chain false false false = refl
+
+entry-is : (c : Settings) (w : ℕ) → entry-refusal c w ≡ (15 when eqb (c .max-depth) 0 || ltb 81 (c .max-depth) else 16 when eqb (c .allowance) 0 || ltb 1000000000 (c .allowance) else 17 when not (eqb (w % 3) 0) || ltb 196608 w else 0)
+unfolding entry-refusal
+entry-is c w =
+    (λ i. if outside-is (c .max-depth) 81 i then (λ _. 15) else λ _. if outside-is (c .allowance) 1000000000 i then (λ _. 16) else λ _. if not (eqb (w % 3) 0) || most-is w 196608 i then (λ _. 17) else λ _. 0)
+    ∙ entry-chain (eqb (c .max-depth) 0 || ltb 81 (c .max-depth)) (eqb (c .allowance) 0 || ltb 1000000000 (c .allowance)) (not (eqb (w % 3) 0) || ltb 196608 w)
+
+-- n, the number of the entry's tests, and all, that with 18's
+record Turned (n whole : ℕ) : Type 0 where
+  some : n ≡ 0 → ⊥
+  not-18 : n ≡ 18 → ⊥
+  all-is : whole ≡ n
+
+at-entry-or : (a b d e : Bool) → let n : ℕ = 15 when a else 16 when b else 17 when d else 0 in let whole : ℕ = 15 when a else 16 when b else 17 when d else 18 when e else 0 in Turned n whole ⊎ ((n ≡ 0) × (whole ≡ (18 when e else 0)))
+at-entry-or true b d e = inl (record { some = λ q. omega (arith, q); not-18 = λ q. omega (arith, q); all-is = refl })
+at-entry-or false true d e = inl (record { some = λ q. omega (arith, q); not-18 = λ q. omega (arith, q); all-is = refl })
+at-entry-or false false true e = inl (record { some = λ q. omega (arith, q); not-18 = λ q. omega (arith, q); all-is = refl })
+at-entry-or false false false e = inr (refl, refl)
+
+number-18 : (t : Bool) → _≡_ {A = ℕ} (if t then (λ _. 18) else λ _. 0) (18 when t else 0)
+unfolding if_then_else_
+number-18 true = refl
+number-18 false = refl
+
+some-18 : (t : Bool) → ((18 when t else 0) ≡ 0 → ⊥) → T t
+some-18 true h = tt
+some-18 false h = h refl
+
+-- the depths of a search: what becomes of the outcome of the next one, if after it k are left
+module _ (G : Searched) (p : G .Pos) (allowed : Allowance) where
+  abbrev next-depth : ℕ → Whole → Outcome → Answer
+  next-depth k w o = on-outcome o
+      (λ s'. record { is-stopped = true; whole = w; memory = s' })
+      (λ r line s'. let w' = one-deeper w r line (s' .tally) in
+      if decided r then (λ _. record { is-stopped = false; whole = w'; memory = s' }) else λ _. deepen G allowed k p w' s')
+
+  outcome-no-shallower : (k : ℕ) (w : Whole) (o : Outcome) → ((w' : Whole) (z : Memory) → w' .depth ≤ deepen G allowed k p w' z .whole .depth) → w .depth ≤ next-depth k w o .whole .depth
+  unfolding on-outcome
+  outcome-no-shallower k w (stopped z) f = omega arith
+  outcome-no-shallower k w (found r line z) f = if-ind (λ (x : Answer). w .depth ≤ x .whole .depth) (decided r) _ _ (λ _. omega arith) (λ _. let h = f (one-deeper w r line (z .tally)) z in omega (arith, h))
+
+  no-shallower : (k : ℕ) (w : Whole) (s : Memory) → w .depth ≤ deepen G allowed k p w s .whole .depth
+  unfolding deepen
+  no-shallower zero w s = omega arith
+  no-shallower (suc k) w s = outcome-no-shallower k w (search G allowed (suc (w .depth)) p lowest highest (w .line ++ (no-move ∷ [])) no-move (begin s)) (no-shallower k)
+
+  -- stopped without a whole depth is stopped inside depth 1
+  none-whole : (k : ℕ) (o : Outcome) → (next-depth k nothing-yet o .is-stopped && eqb (next-depth k nothing-yet o .whole .depth) 0) ≡ next-depth 0 nothing-yet o .is-stopped
+  unfolding on-outcome deepen
+  none-whole k (stopped z) = refl
+  none-whole k (found r line z) = if-both (λ (x y : Answer). (x .is-stopped && eqb (x .whole .depth) 0) ≡ y .is-stopped) (decided r) _ _ _ _ (λ _. refl)
+      (λ _. let w' = one-deeper nothing-yet r line (z .tally) in let h = no-shallower k w' z in
+      (λ i. deepen G allowed k p w' z .is-stopped && ne-eqb (deepen G allowed k p w' z .whole .depth) 0 (λ e. omega (arith, h, e)) i) ∙ and-false (deepen G allowed k p w' z .is-stopped))
+
+  none-whole-1 : (limit : ℕ) (s : Memory) → 1 ≤ limit → (analyze G allowed limit p s .is-stopped && eqb (analyze G allowed limit p s .whole .depth) 0) ≡ analyze G allowed 1 p s .is-stopped
+  unfolding analyze deepen
+  none-whole-1 zero s h = absurd (omega (arith, h))
+  none-whole-1 (suc k) s h = none-whole k (search G allowed 1 p lowest highest ([] ++ (no-move ∷ [])) no-move (begin s))
+
+module _ (G : Searched) (p : G .Pos) (n limit : ℕ) (s : Memory) (le : s .count ≤ n) where
+  abbrev x : Answer
+  x = analyze G (at-most n) limit p s
+
+  none-whole-is : 1 ≤ limit → (x .is-stopped && eqb (x .whole .depth) 0) ≡ ltb n (analyze G unlimited 1 p s .memory .count)
+  none-whole-is h = none-whole-1 G p (at-most n) limit s h
+      ∙ same-test (analyze G (at-most n) 1 p s .is-stopped) (ltb n (analyze G unlimited 1 p s .memory .count))
+      (λ t. lt→ltb n _ (mark-means-spent G n 1 p s le t)) (λ t. spent-means-mark G n 1 p s le (ltb→lt n _ t))
+
+  module _ (t : T (x .is-stopped && eqb (x .whole .depth) 0)) where
+    is-marked : T (x .is-stopped)
+    is-marked = and→ (x .is-stopped) _ t .0
+
+    none-deep : x .whole .depth ≡ 0
+    none-deep = eqb→eq (x .whole .depth) 0 (and→ (x .is-stopped) _ t .1)
+
+    all-counted : x .memory .count ≡ n
+    all-counted = allowance-limits G n limit p s le .spent (mark-means-spent G n limit p s le is-marked) .counted
+
+    nothing-whole : x .whole ≡ nothing-yet
+    unfolding analyze deepen
+    nothing-whole = allowance-limits G n limit p s le .spent (mark-means-spent G n limit p s le is-marked) .whole-is ∙ ap (λ (j : ℕ). analyze G unlimited j p s .whole) none-deep
+
+module _ (m : Minimax) (g : Game) (c : Config) (words : List ℕ) where
+  abbrev G : Searched
+  G = structs (c .«draw_winner»)
+
+  abbrev s : Memory
+  s = fresh-memory (bytes-of (m .«answers_x»)) (bytes-of (m .«answers_o»)) words
+
+  abbrev y : Answer
+  y = answer-of m g c words
+
+  abbrev entry : ℕ
+  entry = entry-refusal (settings-of c) (length words)
+
+  abbrev chosen : Bool
+  chosen = y .is-stopped && eqb (y .whole .depth) 0
+
+  searched-holds : 1 ≤ c .«max_depth» → searching m g c words ≡ (18 when ltb (c .allowance) (depth-1-enters m g c words) else 0) → Searching m g c words (report y)
+  searched-holds d e = record {
+    number = number-18 chosen ∙ ap (λ (t : Bool). 18 when t else 0) (none-whole-is G g (c .allowance) (c .«max_depth») s (omega arith) d) ∙ sym e;
+    refused = λ h. silent (some-18 chosen (λ q. h (number-18 chosen ∙ q)));
+    at-entry = λ h k. absurd (k (number-18 chosen ∙ ap (λ (t : Bool). 18 when t else 0) (T-true chosen (some-18 chosen (λ q. h (number-18 chosen ∙ q))))));
+    in-depth-1 = λ h. spent (some-18 chosen (λ q. omega (arith, sym h ∙ number-18 chosen ∙ q)));
+  }
+    where
+      T-true : (t : Bool) → T t → t ≡ true
+      T-true true u = refl
+      T-true false u = absurd u
+
+      silent : T chosen → Silent m g c words (report y)
+      silent t = let w = nothing-whole G g (c .allowance) (c .«max_depth») s (omega arith) t in record {
+        depth = ap (λ (v : Whole). v .depth) w;
+        score = ap (λ (v : Whole). v .score) w;
+        line = ap (λ (v : Whole). filled no-move (v .line)) w;
+        stats = ap (λ (v : Whole). filled no-stats (v .stats)) w;
+      }
+
+      spent : T chosen → Spent m g c words (report y)
+      spent t = record {
+        count = all-counted G g (c .allowance) (c .«max_depth») s (omega arith) t;
+        marked = is-marked G g (c .allowance) (c .«max_depth») s (omega arith) t;
+        answers-x = refl;
+        answers-o = refl;
+        table = refl;
+      }
+
+  turned-holds : (n : ℕ) → Turned n (searching m g c words) → Searching m g c words (refused-entry n (bytes-of (m .«answers_x»)) (bytes-of (m .«answers_o»)) words)
+  turned-holds n h = record {
+    number = sym (h .all-is);
+    refused = λ _. record { depth = refl; score = refl; line = refl; stats = refl };
+    at-entry = λ _ _. record { count = refl; unmarked = tt; answers-x = refl; answers-o = refl; table = refl };
+    in-depth-1 = λ e. absurd (h .not-18 e);
+  }
+
+  reported-holds : Searching m g c words (reported-of m g c words)
+  reported-holds = elim (at-entry-or (eqb (c .«max_depth») 0 || ltb 81 (c .«max_depth»)) (eqb (c .allowance) 0 || ltb 1000000000 (c .allowance)) (not (eqb (length words % 3) 0) || ltb 196608 (length words)) (ltb (c .allowance) (depth-1-enters m g c words))) [
+    | inl h ↦ (let k = subst (λ (n : ℕ). Turned n (searching m g c words)) (sym e) h in
+        subst (Searching m g c words) (sym (turned-reported G (settings-of c) g _ _ words (ne-eqb entry 0 (k .some)))) (turned-holds entry k))
+    | inr h ↦ (let z = sym (e ∙ h .0) in
+        subst (Searching m g c words) (accepted-reported G (settings-of c) g _ _ words z) (searched-holds (some-depth (settings-of c) (length words) z) (h .1)))
+  ]
+    where
+      e : entry ≡ (15 when eqb (c .«max_depth») 0 || ltb 81 (c .«max_depth») else 16 when eqb (c .allowance) 0 || ltb 1000000000 (c .allowance) else 17 when not (eqb (length words % 3) 0) || ltb 196608 (length words) else 0)
+      e = entry-is (settings-of c) (length words)
+
+  pub searching-holds : (r : Report) (words' : List ℕ) → report-of r words' ≡ reported-of m g c words → Searching m g c words (report-of r words')
+  searching-holds r words' h = subst (Searching m g c words) (sym h) reported-holds

@@ -1,10 +1,17 @@
 -- Demand 1: what each entry point refuses, by document 01's numbers in their order, and what it returns then. All else is accepted, with number 0.
 use mathlib.Core.Path.{_≡_}
 use mathlib.Core.Bool.{Bool, true, false, not, _||_, _&&_}
-use Prim.Native.Nat.{ℕ}
-use lib.Dec.{eqb, ltb}
+use mathlib.Core.List.{List}
+use Prim.Native.Nat.{ℕ, _%_}
+use lib.Dec.{T, eqb, ltb}
+use lib.IntN.{pos}
+use lib.ListN.{length, replicate}
 use Rattle.rules.specs.Board.{blank, in-play}
-use Rattle.rules.specs.Play.{board-of, cell-of, after}
+use Rattle.rules.specs.Play.{no-move, board-of, cell-of, after}
+use Rattle.theory.specs.Memory.{fresh-memory}
+use Rattle.theory.specs.OrderedSearch.{unlimited}
+use Rattle.theory.specs.Deepening.{analyze}
+use Rattle.theory.specs.Reported.{Reported, no-stats}
 use Rattle.boards.specs.declared.moves.Move.{Move}
 use Rattle.boards.specs.Packed.{cell-at, state-at}
 use Rattle.boards.specs.Answers.{answer-number}
@@ -14,6 +21,11 @@ use Rattle.game.specs.declared.Game.{Game}
 use Rattle.game.specs.declared.Made.{Made}
 use Rattle.game.specs.Meaning.{position-of}
 use Rattle.game.specs.After.{after-move}
+use Rattle.minimax.specs.declared.Minimax.{Minimax}
+use Rattle.minimax.specs.declared.Config.{Config}
+use Rattle.minimax.specs.Structs.{structs}
+use Rattle.minimax.specs.State.{bytes-of}
+use Rattle.minimax.specs.Report.{answer-of}
 
 -- the number n where the test passes, and else what the later tests say
 infixr 5 _when_else_
@@ -46,3 +58,49 @@ pub record Playing (g : Game) (m : Move) (r : Made) : Type 0 where
   pub refused : (answer-number (r .answer) ≡ 0 → ⊥) → r .game ≡ g
   pub accepted : answer-number (r .answer) ≡ 0 → r .game ≡ after-move g (board-of (m .bits)) (cell-of (m .bits))
   pub accepted-means : answer-number (r .answer) ≡ 0 → position-of (r .game) ≡ after (position-of g) (board-of (m .bits)) (cell-of (m .bits))
+
+-- ---- searching
+module _ (m : Minimax) (g : Game) (c : Config) (words : List ℕ) where
+  -- what the ordered search enters at depth 1 alone, if nothing limits it
+  abbrev pub depth-1-enters : ℕ
+  depth-1-enters = analyze (structs (c .«draw_winner»)) unlimited 1 g (fresh-memory (bytes-of (m .«answers_x»)) (bytes-of (m .«answers_o»)) words) .memory .count
+
+  abbrev pub searching : ℕ
+  searching =
+      15 when eqb (c .«max_depth») 0 || ltb 81 (c .«max_depth») else
+      16 when eqb (c .allowance) 0 || ltb 1000000000 (c .allowance) else
+      17 when not (eqb (length words % 3) 0) || ltb 196608 (length words) else
+      18 when ltb (c .allowance) depth-1-enters else
+      0
+
+  -- x is what is reported
+  module _ (x : Reported) where
+    -- score 0 and no move, of no depth
+    pub record Silent : Type 0 where
+      pub depth : x .depth ≡ 0
+      pub score : x .score ≡ pos 0
+      pub line : x .line ≡ replicate 81 no-move
+      pub stats : x .stats ≡ replicate 81 no-stats
+
+    -- nothing is changed, and no position was entered
+    pub record Unchanged : Type 0 where
+      pub count : x .count ≡ 0
+      pub unmarked : T (not (x .is-stopped))
+      pub answers-x : x .answers-x ≡ bytes-of (m .«answers_x»)
+      pub answers-o : x .answers-o ≡ bytes-of (m .«answers_o»)
+      pub table : x .table ≡ words
+
+    -- all that is allowed was entered; answers and table are as the ordered search has left them where it stopped
+    pub record Spent : Type 0 where
+      pub count : x .count ≡ c .allowance
+      pub marked : T (x .is-stopped)
+      pub answers-x : x .answers-x ≡ answer-of m g c words .memory .answers-x
+      pub answers-o : x .answers-o ≡ answer-of m g c words .memory .answers-o
+      pub table : x .table ≡ answer-of m g c words .memory .table
+
+    pub record Searching : Type 0 where
+      pub number : x .number ≡ searching
+      pub refused : (x .number ≡ 0 → ⊥) → Silent
+      -- 15 to 17
+      pub at-entry : (x .number ≡ 0 → ⊥) → (x .number ≡ 18 → ⊥) → Unchanged
+      pub in-depth-1 : x .number ≡ 18 → Spent
