@@ -9,12 +9,20 @@ use lib.Dec.{T, eqb, leb, ltb, eqb→eq, ltb→lt, lt→ltb, nltb→le}
 use lib.ListN.{length}
 use borrow.Author.Tests.{lt-ltb, le-ltb, le-leb, lt-leb, eq-eqb, ne-eqb}
 use Rattle.base.specs.Branch.{if_then_else_}
-use Rattle.base.specs.Lists.{all}
-use Rattle.base.proofs.Bool.{and→, is}
+use Rattle.base.specs.Lists.{any, all}
+use Rattle.base.proofs.Bool.{and→, deny, is}
 use Rattle.base.proofs.Branch.{if-ind, if-both}
-use Rattle.rules.specs.Board.{blank, in-play}
-use Rattle.rules.specs.Position.{Due, free, at, Position, going, open-board, free-cell}
-use Rattle.rules.specs.Play.{no-move, board-of, cell-of, may, checks, first-failed, accepts, after, left-by, tried, play}
+use Rattle.rules.specs.declared.Player.the-variants.{X, O}
+use Rattle.rules.specs.declared.CellState.{CellState}
+use Rattle.rules.specs.declared.CellState.the-variants.{Empty}
+use Rattle.rules.specs.declared.GameState.{GameState}
+use Rattle.rules.specs.declared.GameState.the-variants.{InPlay}
+use Rattle.rules.specs.Board.{in-play, nine, sides, has-line}
+use Rattle.rules.specs.Position.{Due, free, at, Position, going, open-board, free-cell, has}
+use Rattle.rules.specs.Play.{no-move, move-of, board-of, cell-of, may, checks, first-failed, accepts, Tried, played, refused, play}
+use Rattle.rules.specs.Sound.{sound}
+use Rattle.rules.specs.Status.{Status as Set, unproven}
+use Rattle.rules.specs.Endgame.{Analysis as Meant, Stats as Counts, no-stats as no-counts, stats, merged, or-unproven, analysis, Judged, judge-tried, evaluate-move}
 use Rattle.rules.proofs.Play.{play-accepted, play-refused, tried-accepted, refusal-is-first}
 use Rattle.theory.specs.Game.{Game as Searched}
 use Rattle.theory.specs.PlainMinimax.{lowest, highest}
@@ -24,15 +32,26 @@ use Rattle.theory.specs.Deepening.{Whole, nothing-yet, one-deeper, Answer, deci
 use Rattle.theory.specs.Reported.{Settings, entry-refusal, no-stats, filled, report, refused-entry}
 use Rattle.theory.proofs.Allowance.{lt-or, allowance-limits, mark-means-spent, spent-means-mark}
 use Rattle.boards.specs.declared.moves.Move.{Move}
-use Rattle.boards.specs.Answers.{answer-number}
+use Rattle.boards.specs.declared.moves.Built.{Built}
+use Rattle.boards.specs.declared.local.LocalBoards.{LocalBoards}
+use Rattle.boards.specs.declared.states.GlobalStates.{GlobalStates}
+use Rattle.boards.specs.Packed.{cell-at, state-at}
+use Rattle.boards.specs.Answers.{answer-number, range-refusal, Builds}
 use Rattle.game.specs.declared.NextBoard.{NextBoard}
 use Rattle.game.specs.declared.NextBoard.the-variants.{Any, Only}
 use Rattle.game.specs.declared.Game.{Game}
 use Rattle.game.specs.declared.Made.{Made}
+use Rattle.game.specs.declared.CellAnswer.{CellAnswer}
+use Rattle.game.specs.declared.StateAnswer.{StateAnswer}
 use Rattle.game.specs.Meaning.{due-of, position-of}
-use Rattle.game.specs.After.{after-move, game-after, refusal, Plays}
+use Rattle.game.specs.After.{refusal, Plays}
+use Rattle.game.specs.Look.{Looks-cell, Looks-state}
 use Rattle.game.proofs.Meaning.{game-accepted, game-refused}
 use Rattle.game.proofs.Answers.{first-is-refusal}
+use Rattle.status.specs.Sets.{status-of}
+use Rattle.endgame.specs.declared.Analysis.{Analysis}
+use Rattle.endgame.specs.declared.MoveStatus.{MoveStatus}
+use Rattle.endgame.specs.Means.{Analyses, Judges}
 use Rattle.minimax.specs.declared.Minimax.{Minimax}
 use Rattle.minimax.specs.declared.Config.{Config}
 use Rattle.minimax.specs.declared.Report.{Report}
@@ -40,7 +59,7 @@ use Rattle.minimax.specs.Structs.{structs}
 use Rattle.minimax.specs.State.{bytes-of}
 use Rattle.minimax.specs.Report.{settings-of, report-of, answer-of, reported-of}
 use Rattle.minimax.proofs.Refusals.{some-depth, accepted-reported, turned-reported}
-use Rattle.demands.specs.Demand1.{_when_else_, over-8, other-due, playing, Playing, depth-1-enters, searching, Silent, Unchanged, Spent, Searching}
+use Rattle.demands.specs.Demand1.{_when_else_, over-8, other-due, playing, Playing, depth-1-enters, searching, Silent, Unchanged, Spent, Searching, line-of-boards, broken-board, unsound, analysing, Analysing, Judging, LookingCell, LookingBoard, Building}
 
 -- ---- tests said the other way round
 over-is : (n : ℕ) → ltb n 9 ≡ not (ltb 8 n)
@@ -53,6 +72,10 @@ neither : (a b : Bool) → (not a && not b) ≡ not (a || b)
 neither true b = refl
 neither false b = refl
 
+twice : (t : Bool) → not (not t) ≡ t
+twice true = refl
+twice false = refl
+
 in-range-is : (b c : ℕ) → (ltb b 9 && ltb c 9) ≡ not (over-8 b c)
 in-range-is b c = (λ i. over-is b i && over-is c i) ∙ neither (ltb 8 b) (ltb 8 c)
 
@@ -60,10 +83,6 @@ in-range-is b c = (λ i. over-is b i && over-is c i) ∙ neither (ltb 8 b) (ltb 
 due-is : (n : NextBoard) (b : ℕ) → may (due-of n) b ≡ not (other-due n b)
 due-is Any b = refl
 due-is (Only d) b = sym (twice (eqb d b))
-  where
-    twice : (t : Bool) → not (not t) ≡ t
-    twice true = refl
-    twice false = refl
 
 -- the checks by their failures
 first-is : (a s o d e : Bool) → first-failed ((not a, 9) ∷ (s, 10) ∷ (o, 11) ∷ (not d, 12) ∷ (e, 13) ∷ []) ≡ (9 when a else 10 when not s else 11 when not o else 12 when d else 13 when not e else 0)
@@ -145,14 +164,14 @@ at-entry-or false true d e = inl (record { some = λ q. omega (arith, q); not-18
 at-entry-or false false true e = inl (record { some = λ q. omega (arith, q); not-18 = λ q. omega (arith, q); all-is = refl })
 at-entry-or false false false e = inr (refl, refl)
 
+some-when : (n : ℕ) (t : Bool) → ((n when t else 0) ≡ 0 → ⊥) → T t
+some-when n true h = tt
+some-when n false h = h refl
+
 number-18 : (t : Bool) → _≡_ {A = ℕ} (if t then (λ _. 18) else λ _. 0) (18 when t else 0)
 unfolding if_then_else_
 number-18 true = refl
 number-18 false = refl
-
-some-18 : (t : Bool) → ((18 when t else 0) ≡ 0 → ⊥) → T t
-some-18 true h = tt
-some-18 false h = h refl
 
 -- the depths of a search: what becomes of the outcome of the next one, if after it k are left
 module _ (G : Searched) (p : G .Pos) (allowed : Allowance) where
@@ -227,9 +246,9 @@ module _ (m : Minimax) (g : Game) (c : Config) (words : List ℕ) where
   searched-holds : 1 ≤ c .«max_depth» → searching m g c words ≡ (18 when ltb (c .allowance) (depth-1-enters m g c words) else 0) → Searching m g c words (report y)
   searched-holds d e = record {
     number = number-18 chosen ∙ ap (λ (t : Bool). 18 when t else 0) (none-whole-is G g (c .allowance) (c .«max_depth») s (omega arith) d) ∙ sym e;
-    refused = λ h. silent (some-18 chosen (λ q. h (number-18 chosen ∙ q)));
-    at-entry = λ h k. absurd (k (number-18 chosen ∙ ap (λ (t : Bool). 18 when t else 0) (T-true chosen (some-18 chosen (λ q. h (number-18 chosen ∙ q))))));
-    in-depth-1 = λ h. spent (some-18 chosen (λ q. omega (arith, sym h ∙ number-18 chosen ∙ q)));
+    refused = λ h. silent (some-when 18 chosen (λ q. h (number-18 chosen ∙ q)));
+    at-entry = λ h k. absurd (k (number-18 chosen ∙ ap (λ (t : Bool). 18 when t else 0) (T-true chosen (some-when 18 chosen (λ q. h (number-18 chosen ∙ q))))));
+    in-depth-1 = λ h. spent (some-when 18 chosen (λ q. omega (arith, sym h ∙ number-18 chosen ∙ q)));
   }
     where
       T-true : (t : Bool) → T t → t ≡ true
@@ -274,3 +293,161 @@ module _ (m : Minimax) (g : Game) (c : Config) (words : List ℕ) where
 
   pub searching-holds : (r : Report) (words' : List ℕ) → report-of r words' ≡ reported-of m g c words → Searching m g c words (report-of r words')
   searching-holds r words' h = subst (Searching m g c words) (sym h) reported-holds
+
+-- ---- the endgame analysis
+-- two sides' tests, and their failures
+both-fail : (a b : Bool) → (not a && (not b && true)) ≡ not (a || b)
+both-fail true b = refl
+both-fail false true = refl
+both-fail false false = refl
+
+none-fails : (f g : ℕ → Bool) → ((n : ℕ) → f n ≡ not (g n)) → (ns : List ℕ) → all f ns ≡ not (any g ns)
+unfolding all any
+none-fails f g e [] = refl
+none-fails f g e (n ∷ ns) = (λ i. e n i && none-fails f g e ns i) ∙ neither (g n) (any g ns)
+
+board-fails : (o e x : Bool) → (not o || (e && not x)) ≡ not (o && (not e || x))
+board-fails true true x = refl
+board-fails true false x = refl
+board-fails false e x = refl
+
+or-or : (a b d : Bool) → not ((a || b) || d) ≡ not (a || (b || d))
+or-or true b d = refl
+or-or false b d = refl
+
+module _ (g : Game) where
+  abbrev at-game : Position
+  at-game = position-of g
+
+  broken-is : (b : ℕ) → (not (open-board at-game b) || (any (free-cell at-game b) nine && all (λ w. not (has-line (has at-game w b))) sides)) ≡ not (broken-board g b)
+  unfolding all
+  broken-is b = (λ i. not (open-board at-game b) || (any (free-cell at-game b) nine && both-fail (has-line (has at-game X b)) (has-line (has at-game O b)) i))
+      ∙ board-fails (open-board at-game b) (any (free-cell at-game b) nine) (has-line (has at-game X b) || has-line (has at-game O b))
+
+  sound-is : sound at-game ≡ not (unsound g)
+  unfolding sound all
+  sound-is = (λ i. both-fail (line-of-boards g X) (line-of-boards g O) i && none-fails _ (broken-board g) broken-is nine i)
+      ∙ neither (line-of-boards g X || line-of-boards g O) (any (broken-board g) nine) ∙ or-or (line-of-boards g X) (line-of-boards g O) (any (broken-board g) nine)
+
+-- what is claimed of the analysis, of an unfinished game by the first test and an unsound one by the second
+record Analysed (s u : Bool) (x : Meant) : Type 0 where
+  number : x .refusal ≡ (14 when s && u else 0)
+  full : (x .refusal ≡ 0 → ⊥) → x .status ≡ unproven
+  none-counted : (x .refusal ≡ 0 → ⊥) → x .stats ≡ no-counts
+  full-over : T (not s) → x .status ≡ unproven
+  none-over : T (not s) → x .stats ≡ no-counts
+
+analysed-by : (s u : Bool) (st : Set) (k : Counts) → Analysed s u
+    (if not s then (λ _. record { refusal = 0; status = unproven; stats = no-counts }) else
+    λ _. if not u then (λ _. record { refusal = 0; status = st; stats = k }) else
+    λ _. record { refusal = 14; status = unproven; stats = no-counts })
+unfolding if_then_else_
+analysed-by true true st k = record { number = refl; full = λ _. refl; none-counted = λ _. refl; full-over = λ _. refl; none-over = λ _. refl }
+analysed-by true false st k = record { number = refl; full = λ h. absurd (h refl); none-counted = λ h. absurd (h refl); full-over = λ t. absurd t; none-over = λ t. absurd t }
+analysed-by false u st k = record { number = refl; full = λ _. refl; none-counted = λ _. refl; full-over = λ _. refl; none-over = λ _. refl }
+
+analysis-is : (g : Game) → Analysed (going (position-of g)) (unsound g) (analysis (position-of g))
+unfolding analysis
+analysis-is g = subst (λ (t : Bool). Analysed (going p) (unsound g)
+    (if not (going p) then (λ _. record { refusal = 0; status = unproven; stats = no-counts }) else
+    λ _. if t then (λ _. record { refusal = 0; status = or-unproven (merged p); stats = stats p }) else
+    λ _. record { refusal = 14; status = unproven; stats = no-counts })) (sym (sound-is g)) (analysed-by (going p) (unsound g) (or-unproven (merged p)) (stats p))
+  where
+    p : Position
+    p = position-of g
+
+pub analysing-holds : (g : Game) (a : Analysis) → Analyses g a → Analysing g a
+analysing-holds g a h = record {
+  number = h .refusal ∙ x .number;
+  refused = λ e. record { full = h .status ∙ ap status-of (x .full (λ q. e (h .refusal ∙ q))); none-counted = h .stats ∙ x .none-counted (λ q. e (h .refusal ∙ q)) };
+  finished-number = λ t. h .refusal ∙ x .number ∙ no-14 (going (position-of g)) (unsound g) t;
+  finished = λ t. record { full = h .status ∙ ap status-of (x .full-over t); none-counted = h .stats ∙ x .none-over t };
+}
+  where
+    x : Analysed (going (position-of g)) (unsound g) (analysis (position-of g))
+    x = analysis-is g
+
+    no-14 : (s u : Bool) → T (not s) → (14 when s && u else 0) ≡ 0
+    no-14 true u t = absurd t
+    no-14 false u t = refl
+
+-- a move's status
+record Judges-so (n : ℕ) (x : Judged) : Type 0 where
+  number : x .refusal ≡ n
+  full : (x .refusal ≡ 0 → ⊥) → x .status ≡ unproven
+
+judged-tried : (p : Position) (m : ℕ) (t : Tried) → Judges-so (refusal t) (judge-tried p m t)
+unfolding judge-tried refusal
+judged-tried p m (played q) = record { number = refl; full = λ h. absurd (h refl) }
+judged-tried p m (refused n) = record { number = refl; full = λ _. refl }
+
+judged-by : (t : Bool) (n : ℕ) (x : Judged) → Judges-so n x → Judges-so (14 when t else n) (if t then (λ _. record { refusal = 14; status = unproven }) else λ _. x)
+unfolding if_then_else_
+judged-by true n x h = record { number = refl; full = λ _. refl }
+judged-by false n x h = h
+
+judged-is : (g : Game) (m : ℕ) → Judges-so (14 when in-play (g .«game_state») && unsound g else playing g (board-of m) (cell-of m)) (evaluate-move (position-of g) m)
+unfolding evaluate-move
+judged-is g m = subst (λ (t : Bool). Judges-so (14 when in-play (g .«game_state») && unsound g else playing g (board-of m) (cell-of m)) (if going (position-of g) && t then (λ _. record { refusal = 14; status = unproven }) else λ _. judge-tried (position-of g) m (play (position-of g) m)))
+    (sym (ap not (sound-is g) ∙ twice (unsound g)))
+    (judged-by (in-play (g .«game_state») && unsound g) (playing g (board-of m) (cell-of m)) (judge-tried (position-of g) m (play (position-of g) m))
+    (subst (λ (n : ℕ). Judges-so n (judge-tried (position-of g) m (play (position-of g) m))) (sym (first-is-refusal (position-of g) m) ∙ checks-are g (board-of m) (cell-of m)) (judged-tried (position-of g) m (play (position-of g) m))))
+
+pub judging-holds : (g : Game) (m : Move) (r : MoveStatus) → Judges g m r → Judging g m r
+judging-holds g m r h = record {
+  number = h .number ∙ judged-is g (m .bits) .number;
+  refused = λ e. h .status ∙ ap status-of (judged-is g (m .bits) .full (λ q. e (h .number ∙ q)));
+}
+
+-- ---- looking at a cell or a board, and building a move
+range-is : (t : Bool) → range-refusal (not t) ≡ (9 when t else 0)
+unfolding range-refusal if_then_else_
+range-is true = refl
+range-is false = refl
+
+module _ (b c : ℕ) where
+  range-number : range-refusal (ltb b 9 && ltb c 9) ≡ (9 when over-8 b c else 0)
+  range-number = ap range-refusal (in-range-is b c) ∙ range-is (over-8 b c)
+
+  cell-over : (l : LocalBoards) → T (over-8 b c) → cell-at l b c ≡ Empty
+  unfolding cell-at
+  cell-over l t = if-ind (λ (x : CellState). x ≡ Empty) (ltb b 9 && ltb c 9) _ _ (λ u. absurd (deny (over-8 b c) (subst T (in-range-is b c) u) t)) (λ _. refl)
+
+  pub looking-cell-holds : (g : Game) (r : CellAnswer) → Looks-cell (position-of g) b c r → LookingCell b c r
+  looking-cell-holds g r h = record {
+    number = h .number ∙ range-number;
+    refused = λ e. h .cell-is ∙ cell-over (g .«local_boards») (some-when 9 (over-8 b c) (λ q. e (h .number ∙ range-number ∙ q)));
+  }
+
+  build-is : (t : Bool) → T t → (if not t then (λ _. move-of b c) else λ _. no-move) ≡ no-move
+  unfolding if_then_else_
+  build-is true u = refl
+  build-is false u = absurd u
+
+  build-accepted : (t : Bool) → (9 when t else 0) ≡ 0 → (if not t then (λ _. move-of b c) else λ _. no-move) ≡ move-of b c
+  unfolding if_then_else_
+  build-accepted true e = absurd (omega (arith, e))
+  build-accepted false e = refl
+
+  pub building-holds : (r : Built) → Builds b c r → Building b c r
+  building-holds r h = record {
+    number = h .number ∙ range-number;
+    refused = λ e. built ∙ build-is (over-8 b c) (some-when 9 (over-8 b c) (λ q. e (h .number ∙ range-number ∙ q)));
+    accepted = λ e. built ∙ build-accepted (over-8 b c) (sym (h .number ∙ range-number) ∙ e);
+  }
+    where
+      built : r .m .bits ≡ (if not (over-8 b c) then (λ _. move-of b c) else λ _. no-move)
+      built = h .built ∙ (λ i. if in-range-is b c i then (λ _. move-of b c) else λ _. no-move)
+
+state-over : (s : GlobalStates) (b : ℕ) → T (ltb 8 b) → state-at s b ≡ InPlay
+unfolding state-at
+state-over s b t = if-ind (λ (x : GameState). x ≡ InPlay) (ltb b 9) _ _ (λ u. absurd (deny (ltb 8 b) (subst T (over-is b) u) t)) (λ _. refl)
+
+pub looking-board-holds : (g : Game) (b : ℕ) (r : StateAnswer) → Looks-state (position-of g) b r → LookingBoard b r
+looking-board-holds g b r h = record {
+  number = number;
+  refused = λ e. h .state-is ∙ state-over (g .«global_states») b (some-when 9 (ltb 8 b) (λ q. e (number ∙ q)));
+}
+  where
+    number : answer-number (r .answer) ≡ (9 when ltb 8 b else 0)
+    number = h .number ∙ ap range-refusal (over-is b) ∙ range-is (ltb 8 b)

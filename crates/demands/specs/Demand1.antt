@@ -6,21 +6,35 @@ use Prim.Native.Nat.{ℕ, _%_}
 use lib.Dec.{T, eqb, ltb}
 use lib.IntN.{pos}
 use lib.ListN.{length, replicate}
-use Rattle.rules.specs.Board.{blank, in-play}
-use Rattle.rules.specs.Play.{no-move, board-of, cell-of, after}
+use Rattle.base.specs.Lists.{any}
+use Rattle.rules.specs.declared.Player.{Player}
+use Rattle.rules.specs.declared.Player.the-variants.{X, O}
+use Rattle.rules.specs.declared.CellState.the-variants.{Empty}
+use Rattle.rules.specs.declared.GameState.the-variants.{InPlay}
+use Rattle.rules.specs.Board.{blank, mine, in-play, won-by, nine, has-line}
+use Rattle.rules.specs.Play.{no-move, move-of, board-of, cell-of, after}
+use Rattle.rules.specs.Status.{unproven}
+use Rattle.rules.specs.Endgame.{no-stats as no-counts}
 use Rattle.theory.specs.Memory.{fresh-memory}
 use Rattle.theory.specs.OrderedSearch.{unlimited}
 use Rattle.theory.specs.Deepening.{analyze}
 use Rattle.theory.specs.Reported.{Reported, no-stats}
 use Rattle.boards.specs.declared.moves.Move.{Move}
+use Rattle.boards.specs.declared.moves.Built.{Built}
 use Rattle.boards.specs.Packed.{cell-at, state-at}
 use Rattle.boards.specs.Answers.{answer-number}
 use Rattle.game.specs.declared.NextBoard.{NextBoard}
 use Rattle.game.specs.declared.NextBoard.the-variants.{Any, Only}
 use Rattle.game.specs.declared.Game.{Game}
 use Rattle.game.specs.declared.Made.{Made}
+use Rattle.game.specs.declared.CellAnswer.{CellAnswer}
+use Rattle.game.specs.declared.StateAnswer.{StateAnswer}
 use Rattle.game.specs.Meaning.{position-of}
 use Rattle.game.specs.After.{after-move}
+use Rattle.status.specs.Sets.{status-of}
+use Rattle.endgame.specs.declared.Analysis.{Analysis}
+use Rattle.endgame.specs.declared.MoveStatus.{MoveStatus}
+use Rattle.endgame.specs.Means.{made-number, judging-number, stats-of}
 use Rattle.minimax.specs.declared.Minimax.{Minimax}
 use Rattle.minimax.specs.declared.Config.{Config}
 use Rattle.minimax.specs.Structs.{structs}
@@ -104,3 +118,52 @@ module _ (m : Minimax) (g : Game) (c : Config) (words : List ℕ) where
       -- 15 to 17
       pub at-entry : (x .number ≡ 0 → ⊥) → (x .number ≡ 18 → ⊥) → Unchanged
       pub in-depth-1 : x .number ≡ 18 → Spent
+
+-- ---- the endgame analysis
+-- a side has a line of boards
+abbrev pub line-of-boards : Game → Player → Bool
+line-of-boards g w = has-line (λ b. won-by w (state-at (g .«global_states») b))
+
+-- board b is in play, without an empty cell or with a side's line
+abbrev pub broken-board : Game → ℕ → Bool
+broken-board g b =
+    let cell = cell-at (g .«local_boards») b in
+    in-play (state-at (g .«global_states») b) && (not (any (λ c. blank (cell c)) nine) || (has-line (λ c. mine X (cell c)) || has-line (λ c. mine O (cell c))))
+
+abbrev pub unsound : Game → Bool
+unsound g = line-of-boards g X || (line-of-boards g O || any (broken-board g) nine)
+
+abbrev pub analysing : Game → ℕ
+analysing g =
+    14 when in-play (g .«game_state») && unsound g else
+    0
+
+-- the full set and no counts
+pub record Unanswered (a : Analysis) : Type 0 where
+  pub full : a .proven ≡ status-of unproven
+  pub none-counted : stats-of (a .stats) ≡ no-counts
+
+pub record Analysing (g : Game) (a : Analysis) : Type 0 where
+  pub number : made-number (a .made) ≡ analysing g
+  pub refused : (made-number (a .made) ≡ 0 → ⊥) → Unanswered a
+  pub finished-number : T (not (in-play (g .«game_state»))) → made-number (a .made) ≡ 0
+  pub finished : T (not (in-play (g .«game_state»))) → Unanswered a
+
+-- a move's status: 14 first, then what playing refuses
+pub record Judging (g : Game) (m : Move) (r : MoveStatus) : Type 0 where
+  pub number : judging-number (r .answer) ≡ (14 when in-play (g .«game_state») && unsound g else playing g (board-of (m .bits)) (cell-of (m .bits)))
+  pub refused : (judging-number (r .answer) ≡ 0 → ⊥) → r .status ≡ status-of unproven
+
+-- ---- looking at a cell or a board, and building a move
+pub record LookingCell (b c : ℕ) (r : CellAnswer) : Type 0 where
+  pub number : answer-number (r .answer) ≡ (9 when over-8 b c else 0)
+  pub refused : (answer-number (r .answer) ≡ 0 → ⊥) → r .cell ≡ Empty
+
+pub record LookingBoard (b : ℕ) (r : StateAnswer) : Type 0 where
+  pub number : answer-number (r .answer) ≡ (9 when ltb 8 b else 0)
+  pub refused : (answer-number (r .answer) ≡ 0 → ⊥) → r .state ≡ InPlay
+
+pub record Building (b c : ℕ) (r : Built) : Type 0 where
+  pub number : answer-number (r .answer) ≡ (9 when over-8 b c else 0)
+  pub refused : (answer-number (r .answer) ≡ 0 → ⊥) → r .m .bits ≡ no-move
+  pub accepted : answer-number (r .answer) ≡ 0 → r .m .bits ≡ move-of b c
