@@ -3,20 +3,22 @@ use mathlib.Core.Path.{_≡_, refl, sym, ap, _∙_, subst}
 use mathlib.Core.Bool.{Bool, true, false, not, _||_, _&&_, and-false}
 use mathlib.Core.List.{List, [], _∷_, _++_}
 use mathlib.Core.Logic.{_⊎_, inl, inr}
-use Prim.Native.Nat.{ℕ, zero, suc, _%_, _≤_, _<_}
+use mathlib.Core.Option.{Option, none, some}
+use Prim.Native.Nat.{ℕ, zero, suc, _-_, _%_, _≤_, _<_}
 use native.Mathlib.Omega.{arith}
 use lib.Dec.{T, eqb, leb, ltb, eqb→eq, ltb→lt, lt→ltb, nltb→le}
-use lib.ListN.{length}
+use lib.ListN.{length, getD}
 use borrow.Author.Tests.{lt-ltb, le-ltb, le-leb, lt-leb, eq-eqb, ne-eqb}
 use Rattle.base.specs.Branch.{if_then_else_}
-use Rattle.base.specs.Lists.{any, all}
+use Rattle.base.specs.Lists.{any, all, from}
 use Rattle.base.proofs.Bool.{and→, deny, is}
 use Rattle.base.proofs.Branch.{if-ind, if-both}
+use Rattle.rules.specs.declared.Player.{Player}
 use Rattle.rules.specs.declared.Player.the-variants.{X, O}
 use Rattle.rules.specs.declared.CellState.{CellState}
 use Rattle.rules.specs.declared.CellState.the-variants.{Empty}
 use Rattle.rules.specs.declared.GameState.{GameState}
-use Rattle.rules.specs.declared.GameState.the-variants.{InPlay}
+use Rattle.rules.specs.declared.GameState.the-variants.{InPlay, Drawn}
 use Rattle.rules.specs.Board.{in-play, nine, sides, has-line}
 use Rattle.rules.specs.Position.{Due, free, at, Position, going, open-board, free-cell, has}
 use Rattle.rules.specs.Play.{no-move, move-of, board-of, cell-of, may, checks, first-failed, accepts, Tried, played, refused, play}
@@ -24,6 +26,8 @@ use Rattle.rules.specs.Sound.{sound}
 use Rattle.rules.specs.Status.{Status as Set, unproven}
 use Rattle.rules.specs.Endgame.{Analysis as Meant, Stats as Counts, no-stats as no-counts, stats, merged, or-unproven, analysis, Judged, judge-tried, evaluate-move}
 use Rattle.rules.proofs.Play.{play-accepted, play-refused, tried-accepted, refusal-is-first}
+use Rattle.text.specs.Reading.{Reading, reads, refuses, side-of, won-mark, overall-mark, played-mark, cell-mark, known, sections, one-on, first-bad, fault-at, first-fault, read-cells, read-marks, read-overall, lone-side, read-side, read-sections, read}
+use Rattle.text.specs.MoveText.{MoveReading, reads-move, bad-length, bad-character, move-refusal, coordinate, read-letters, read-move}
 use Rattle.theory.specs.Game.{Game as Searched}
 use Rattle.theory.specs.PlainMinimax.{lowest, highest}
 use Rattle.theory.specs.Memory.{Memory, begin, fresh-memory}
@@ -44,10 +48,18 @@ use Rattle.game.specs.declared.Made.{Made}
 use Rattle.game.specs.declared.CellAnswer.{CellAnswer}
 use Rattle.game.specs.declared.StateAnswer.{StateAnswer}
 use Rattle.game.specs.Meaning.{due-of, position-of}
+use Rattle.game.specs.Built.{new-game}
 use Rattle.game.specs.After.{refusal, Plays}
 use Rattle.game.specs.Look.{Looks-cell, Looks-state}
 use Rattle.game.proofs.Meaning.{game-accepted, game-refused}
 use Rattle.game.proofs.Answers.{first-is-refusal}
+use Rattle.notation.specs.declared.ParseAnswer.{ParseAnswer}
+use Rattle.notation.specs.declared.ParseAnswer.the-variants.{Accepted, Refused}
+use Rattle.notation.specs.declared.Parsed.{Parsed}
+use Rattle.notation.specs.declared.MoveTextAnswer.{MoveTextAnswer}
+use Rattle.notation.specs.declared.MoveTextAnswer.the-variants.{Read, BadLength, BadCharacter}
+use Rattle.notation.specs.declared.ParsedMove.{ParsedMove}
+use Rattle.notation.specs.Parsed.{reading-of, game-for, Parses, move-reading-of, move-for, move-number, Parses-move}
 use Rattle.status.specs.Sets.{status-of}
 use Rattle.endgame.specs.declared.Analysis.{Analysis}
 use Rattle.endgame.specs.declared.MoveStatus.{MoveStatus}
@@ -59,7 +71,7 @@ use Rattle.minimax.specs.Structs.{structs}
 use Rattle.minimax.specs.State.{bytes-of}
 use Rattle.minimax.specs.Report.{settings-of, report-of, answer-of, reported-of}
 use Rattle.minimax.proofs.Refusals.{some-depth, accepted-reported, turned-reported}
-use Rattle.demands.specs.Demand1.{_when_else_, over-8, other-due, playing, Playing, depth-1-enters, searching, Silent, Unchanged, Spent, Searching, line-of-boards, broken-board, unsound, analysing, Analysing, Judging, LookingCell, LookingBoard, Building}
+use Rattle.demands.specs.Demand1.{_when_else_, over-8, other-due, playing, Playing, depth-1-enters, searching, Silent, Unchanged, Spent, Searching, line-of-boards, broken-board, unsound, analysing, Analysing, Judging, LookingCell, LookingBoard, Building, no-letter, reading-move, ReadingMove, side-letter, bad-mark, bad-cell, cells-fault, first-of, reading-position, parse-number, ReadingPosition, Demand1}
 
 -- ---- tests said the other way round
 over-is : (n : ℕ) → ltb n 9 ≡ not (ltb 8 n)
@@ -451,3 +463,217 @@ looking-board-holds g b r h = record {
   where
     number : answer-number (r .answer) ≡ (9 when ltb 8 b else 0)
     number = h .number ∙ ap range-refusal (over-is b) ∙ range-is (ltb 8 b)
+
+-- ---- reading a move
+letter-is : (c : ℕ) → coordinate c ≡ not (no-letter c)
+letter-is c = sym ((λ i. not (sym (most-is 0x61 c) i || sym (most-is c 0x69) i)) ∙ neither-not (leb 0x61 c) (leb c 0x69))
+  where
+    neither-not : (a b : Bool) → not (not a || not b) ≡ (a && b)
+    neither-not true b = twice b
+    neither-not false b = refl
+
+-- what is claimed of a reading: its number, its byte, and its move
+record Reads-so (n byte m : ℕ) (x : MoveReading) : Type 0 where
+  number : move-refusal x ≡ n
+  byte-is : move-refusal x ≡ 8 → x ≡ bad-character byte
+  none-read : (move-refusal x ≡ 0 → ⊥) → move-for x ≡ no-move
+  read-is : move-refusal x ≡ 0 → move-for x ≡ m
+
+reads-length : (n byte m : ℕ) → 7 ≡ n → Reads-so n byte m bad-length
+reads-length n byte m e = record { number = e; byte-is = λ q. absurd (omega (arith, q)); none-read = λ _. refl; read-is = λ q. absurd (omega (arith, q)) }
+
+reads-letters : (t u : Bool) (b c m : ℕ) → Reads-so (8 when t || u else 0) (b when t else c) m (if not t then (λ _. if not u then (λ _. reads-move m) else λ _. bad-character c) else λ _. bad-character b)
+unfolding if_then_else_
+reads-letters true u b c m = record { number = refl; byte-is = λ _. refl; none-read = λ _. refl; read-is = λ q. absurd (omega (arith, q)) }
+reads-letters false true b c m = record { number = refl; byte-is = λ _. refl; none-read = λ _. refl; read-is = λ q. absurd (omega (arith, q)) }
+reads-letters false false b c m = record { number = refl; byte-is = λ q. absurd (omega (arith, q)); none-read = λ h. absurd (h refl); read-is = λ _. refl }
+
+reads-so : (text : List ℕ) → Reads-so (reading-move text) (getD text 0 0 when no-letter (getD text 0 0) else getD text 1 0) (move-of (getD text 0 0 - 0x61) (getD text 1 0 - 0x61)) (read-move text)
+unfolding read-letters
+reads-so [] = reads-length _ _ _ refl
+reads-so (b ∷ []) = reads-length _ _ _ refl
+reads-so (b ∷ c ∷ []) = let m = move-of (b - 0x61) (c - 0x61) in
+    subst (Reads-so _ _ m) (λ i. if sym (letter-is b) i then (λ _. if sym (letter-is c) i then (λ _. reads-move m) else λ _. bad-character c) else λ _. bad-character b) (reads-letters (no-letter b) (no-letter c) b c m)
+reads-so (b ∷ c ∷ d ∷ cs) = reads-length _ _ _ (sym (ap (λ (t : Bool). 7 when not t else 8 when no-letter b || no-letter c else 0) (ne-eqb (length (b ∷ c ∷ d ∷ cs)) 2 (λ e. omega (arith, e)))))
+
+byte-said : MoveReading → ℕ
+byte-said (reads-move m) = 0
+byte-said bad-length = 0
+byte-said (bad-character c) = c
+
+answers-byte : (a : MoveTextAnswer) (m byte : ℕ) → move-number a ≡ 8 → move-reading-of a m ≡ bad-character byte → a ≡ BadCharacter byte
+unfolding byte-said
+answers-byte Read m byte e q = absurd (omega (arith, e))
+answers-byte BadLength m byte e q = absurd (omega (arith, e))
+answers-byte (BadCharacter c) m byte e q = ap BadCharacter (ap byte-said q)
+
+pub reading-move-holds : (text : List ℕ) (r : ParsedMove) → Parses-move text r → ReadingMove text r
+reading-move-holds text r h = let x = reads-so text in record {
+  number = h .number ∙ x .number;
+  byte = λ e. answers-byte (r .answer) (r .m .bits) _ e (h .says ∙ x .byte-is (sym (h .number) ∙ e));
+  refused = λ e. h .move-is ∙ x .none-read (λ q. e (h .number ∙ q));
+  accepted = λ e. h .move-is ∙ x .read-is (sym (h .number) ∙ e);
+}
+
+-- ---- reading a position
+reading-number : Reading → ℕ
+reading-number (reads p) = 0
+reading-number (refuses n o l) = n
+
+choice-1 : (t : Bool) (x : Reading) (n : ℕ) → reading-number x ≡ n → reading-number (if t then (λ _. refuses 1 0 0) else λ _. x) ≡ (1 when t else n)
+unfolding reading-number if_then_else_
+choice-1 true x n e = refl
+choice-1 false x n e = e
+
+-- the side
+side-found : (a b : Bool) (s os cs : List ℕ) (n : ℕ) → ((w : Player) → reading-number (read-overall w os cs) ≡ n) →
+    reading-number (read-side (if a then (λ _. some X) else λ _. if b then (λ _. some O) else λ _. none) s os cs) ≡ (3 when not (a || b) else n)
+unfolding reading-number if_then_else_
+side-found true b s os cs n f = f X
+side-found false true s os cs n f = f O
+side-found false false s os cs n f = refl
+
+side-number : (s os cs : List ℕ) (n : ℕ) → ((w : Player) → reading-number (read-overall w os cs) ≡ n) → reading-number (read-side (lone-side s) s os cs) ≡ (3 when not (eqb (length s) 1 && side-letter (getD s 0 0)) else n)
+unfolding reading-number side-of
+side-number [] os cs n f = refl
+side-number (c ∷ []) os cs n f = side-found (eqb c 0x58) (eqb c 0x4f) (c ∷ []) os cs n f
+side-number (c ∷ d ∷ ds) os cs n f = sym (ap (λ (t : Bool). 3 when not (t && side-letter c) else n) (ne-eqb (length (c ∷ d ∷ ds)) 1 (λ e. omega (arith, e))))
+
+-- the overall marks
+known-mark : (a b d x o : Bool) → known (if a || b then (λ _. some InPlay) else λ _. if d then (λ _. some Drawn) else λ _. won-mark (if x then (λ _. some X) else λ _. if o then (λ _. some O) else λ _. none)) ≡ not (not (a || (b || (d || (x || o)))))
+unfolding if_then_else_
+known-mark true b d x o = refl
+known-mark false true d x o = refl
+known-mark false false true x o = refl
+known-mark false false false true o = refl
+known-mark false false false false true = refl
+known-mark false false false false false = refl
+
+mark-is : (c : ℕ) → known (overall-mark c) ≡ not (bad-mark c)
+unfolding overall-mark side-of
+mark-is c = known-mark (eqb c 0x2e) (eqb c 0x40) (eqb c 0x23) (eqb c 0x58) (eqb c 0x4f)
+
+known-one-on : (o : Option ℕ) → known (one-on o) ≡ known o
+known-one-on none = refl
+known-one-on (some i) = refl
+
+known-or : (t u : Bool) (o : Option ℕ) → known o ≡ u → known (if not t then (λ _. one-on o) else λ _. some 0) ≡ (t || u)
+unfolding if_then_else_
+known-or true u o e = refl
+known-or false u o e = known-one-on o ∙ e
+
+marks-are : (os : List ℕ) → known (first-bad os) ≡ any bad-mark os
+unfolding first-bad any
+marks-are [] = refl
+marks-are (c ∷ os) = (λ i. known (if mark-is c i then (λ _. one-on (first-bad os)) else λ _. some 0)) ∙ known-or (bad-mark c) (any bad-mark os) (first-bad os) (marks-are os)
+
+marks-number : (o : Option ℕ) (w : Player) (os cs : List ℕ) (n : ℕ) → reading-number (read-cells w os cs) ≡ n → reading-number (read-marks o w os cs) ≡ (5 when known o else n)
+unfolding reading-number
+marks-number none w os cs n e = e
+marks-number (some i) w os cs n e = refl
+
+choice-4 : (t : Bool) (x : Reading) (l n : ℕ) → reading-number x ≡ n → reading-number (if t then (λ _. x) else λ _. refuses 4 2 l) ≡ (4 when not t else n)
+unfolding reading-number if_then_else_
+choice-4 true x l n e = e
+choice-4 false x l n e = refl
+
+-- the cells
+known-cell : (a x o : Bool) → known (if a then (λ _. some Empty) else λ _. played-mark (if x then (λ _. some X) else λ _. if o then (λ _. some O) else λ _. none)) ≡ not (not (a || (x || o)))
+unfolding if_then_else_
+known-cell true x o = refl
+known-cell false true o = refl
+known-cell false false true = refl
+known-cell false false false = refl
+
+cell-is : (c : ℕ) → known (cell-mark c) ≡ not (bad-cell c)
+unfolding cell-mark side-of
+cell-is c = known-cell (eqb c 0x2e) (eqb c 0x58) (eqb c 0x4f)
+
+faults : (joint there slash bad : Bool) → _≡_ {A = ℕ}
+    (if joint then (λ _. if there && slash then (λ _. 0) else λ _. 5) else λ _. if not there then (λ _. 6) else λ _. if not bad then (λ _. 0) else λ _. 3)
+    (5 when joint && (not there || not slash) else 6 when not joint && not there else 3 when not joint && bad else 0)
+unfolding if_then_else_
+faults true true true bad = refl
+faults true true false bad = refl
+faults true false slash bad = refl
+faults false true slash true = refl
+faults false true slash false = refl
+faults false false slash bad = refl
+
+fault-is : (cs : List ℕ) (i : ℕ) → fault-at cs i ≡ cells-fault cs i
+unfolding fault-at
+fault-is cs i =
+    (λ j. if eqb (i % 10) 9 then (λ _. if ltb i (length cs) && eqb (getD cs i 0) 0x2f then (λ _. 0) else λ _. 5) else λ _. if not (ltb i (length cs)) then (λ _. 6) else λ _. if cell-is (getD cs i 0) j then (λ _. 0) else λ _. 3)
+    ∙ faults (eqb (i % 10) 9) (ltb i (length cs)) (eqb (getD cs i 0) 0x2f) (bad-cell (getD cs i 0))
+
+or-later : (t : Bool) (f n : ℕ) → (if t then (λ _. n) else λ _. f) ≡ (f when not t else n)
+unfolding if_then_else_
+or-later true f n = refl
+or-later false f n = refl
+
+faults-are : (cs is : List ℕ) → first-fault cs is ≡ first-of (cells-fault cs) is
+unfolding first-fault
+faults-are cs [] = refl
+faults-are cs (i ∷ is) = (λ j. if eqb (fault-is cs i j) 0 then (λ _. faults-are cs is j) else λ _. fault-is cs i j) ∙ or-later (eqb (cells-fault cs i) 0) (cells-fault cs i) (first-of (cells-fault cs) is)
+
+cells-number : (w : Player) (os cs : List ℕ) → reading-number (read-cells w os cs) ≡ first-of (cells-fault cs) (from 0 89)
+unfolding reading-number read-cells
+cells-number w os cs = if-ind (λ (x : Reading). reading-number x ≡ first-fault cs (from 0 89)) (eqb (first-fault cs (from 0 89)) 0) _ _ (λ t. sym (eqb→eq (first-fault cs (from 0 89)) 0 t)) (λ _. refl) ∙ faults-are cs (from 0 89)
+
+-- the sections
+abbrev by-sections : List ℕ → List ℕ → List ℕ → ℕ
+by-sections s os cs =
+    3 when not (eqb (length s) 1 && side-letter (getD s 0 0)) else
+    4 when not (eqb (length os) 9) else
+    5 when any bad-mark os else
+    first-of (cells-fault cs) (from 0 89)
+
+three-number : (s os cs : List ℕ) → reading-number (read-side (lone-side s) s os cs) ≡ by-sections s os cs
+unfolding read-overall
+three-number s os cs = side-number s os cs _ (λ w. choice-4 (eqb (length os) 9) (read-marks (first-bad os) w os cs) (length os) _
+    (marks-number (first-bad os) w os cs _ (cells-number w os cs) ∙ ap (λ (t : Bool). 5 when t else first-of (cells-fault cs) (from 0 89)) (marks-are os)))
+
+sections-number : (ss : List (List ℕ)) (n : ℕ) → reading-number (read-sections ss n) ≡ (2 when not (eqb (length ss) 3) else by-sections (getD ss 0 []) (getD ss 1 []) (getD ss 2 []))
+unfolding reading-number
+sections-number [] n = refl
+sections-number (s ∷ []) n = refl
+sections-number (s ∷ os ∷ []) n = refl
+sections-number (s ∷ os ∷ cs ∷ []) n = three-number s os cs
+sections-number (s ∷ os ∷ cs ∷ t ∷ ts) n = sym (ap (λ (u : Bool). 2 when not u else by-sections s os cs) (ne-eqb (length (s ∷ os ∷ cs ∷ t ∷ ts)) 3 (λ e. omega (arith, e))))
+
+read-number : (text : List ℕ) → reading-number (read text) ≡ reading-position text
+unfolding read
+read-number text = choice-1 (ltb 256 (length text)) (read-sections (sections text) (length text)) _ (sections-number (sections text) (length text))
+
+answer-said : (a : ParseAnswer) (g : Game) → parse-number a ≡ reading-number (reading-of a g)
+unfolding reading-number
+answer-said Accepted g = refl
+answer-said (Refused e) g = refl
+
+refused-game : (x : Reading) → (reading-number x ≡ 0 → ⊥) → game-for x ≡ new-game
+unfolding reading-number
+refused-game (reads p) h = absurd (h refl)
+refused-game (refuses n o l) h = refl
+
+pub reading-position-holds : (text : List ℕ) (r : Parsed) → Parses text r → ReadingPosition text r
+reading-position-holds text r h = record {
+  number = said ∙ read-number text;
+  refused = λ e. h .game-is ∙ refused-game (read text) (λ q. e (said ∙ q));
+}
+  where
+    said : parse-number (r .answer) ≡ reading-number (read text)
+    said = answer-said (r .answer) (r .game) ∙ ap reading-number (h .says)
+
+-- ---- the demand
+pub demand-1 : Demand1
+demand-1 = record {
+  position-text = reading-position-holds;
+  move-text = reading-move-holds;
+  play = playing-holds;
+  cell = λ g b c. looking-cell-holds b c g;
+  board = looking-board-holds;
+  build = building-holds;
+  endgame = analysing-holds;
+  move-status = judging-holds;
+  search = searching-holds;
+}

@@ -1,12 +1,12 @@
 -- Demand 1: what each entry point refuses, by document 01's numbers in their order, and what it returns then. All else is accepted, with number 0.
 use mathlib.Core.Path.{_≡_}
 use mathlib.Core.Bool.{Bool, true, false, not, _||_, _&&_}
-use mathlib.Core.List.{List}
-use Prim.Native.Nat.{ℕ, _%_}
+use mathlib.Core.List.{List, [], _∷_}
+use Prim.Native.Nat.{ℕ, _-_, _%_}
 use lib.Dec.{T, eqb, ltb}
 use lib.IntN.{pos}
-use lib.ListN.{length, replicate}
-use Rattle.base.specs.Lists.{any}
+use lib.ListN.{length, getD, replicate}
+use Rattle.base.specs.Lists.{any, from}
 use Rattle.rules.specs.declared.Player.{Player}
 use Rattle.rules.specs.declared.Player.the-variants.{X, O}
 use Rattle.rules.specs.declared.CellState.the-variants.{Empty}
@@ -15,6 +15,7 @@ use Rattle.rules.specs.Board.{blank, mine, in-play, won-by, nine, has-line}
 use Rattle.rules.specs.Play.{no-move, move-of, board-of, cell-of, after}
 use Rattle.rules.specs.Status.{unproven}
 use Rattle.rules.specs.Endgame.{no-stats as no-counts}
+use Rattle.text.specs.Reading.{sections}
 use Rattle.theory.specs.Memory.{fresh-memory}
 use Rattle.theory.specs.OrderedSearch.{unlimited}
 use Rattle.theory.specs.Deepening.{analyze}
@@ -22,7 +23,7 @@ use Rattle.theory.specs.Reported.{Reported, no-stats}
 use Rattle.boards.specs.declared.moves.Move.{Move}
 use Rattle.boards.specs.declared.moves.Built.{Built}
 use Rattle.boards.specs.Packed.{cell-at, state-at}
-use Rattle.boards.specs.Answers.{answer-number}
+use Rattle.boards.specs.Answers.{answer-number, Builds}
 use Rattle.game.specs.declared.NextBoard.{NextBoard}
 use Rattle.game.specs.declared.NextBoard.the-variants.{Any, Only}
 use Rattle.game.specs.declared.Game.{Game}
@@ -30,16 +31,25 @@ use Rattle.game.specs.declared.Made.{Made}
 use Rattle.game.specs.declared.CellAnswer.{CellAnswer}
 use Rattle.game.specs.declared.StateAnswer.{StateAnswer}
 use Rattle.game.specs.Meaning.{position-of}
-use Rattle.game.specs.After.{after-move}
+use Rattle.game.specs.Built.{new-game}
+use Rattle.game.specs.After.{after-move, Plays}
+use Rattle.game.specs.Look.{Looks-cell, Looks-state}
+use Rattle.notation.specs.declared.ParseAnswer.{ParseAnswer}
+use Rattle.notation.specs.declared.ParseAnswer.the-variants.{Accepted, Refused}
+use Rattle.notation.specs.declared.Parsed.{Parsed}
+use Rattle.notation.specs.declared.MoveTextAnswer.the-variants.{BadCharacter}
+use Rattle.notation.specs.declared.ParsedMove.{ParsedMove}
+use Rattle.notation.specs.Parsed.{kind-number, move-number, Parses, Parses-move}
 use Rattle.status.specs.Sets.{status-of}
 use Rattle.endgame.specs.declared.Analysis.{Analysis}
 use Rattle.endgame.specs.declared.MoveStatus.{MoveStatus}
-use Rattle.endgame.specs.Means.{made-number, judging-number, stats-of}
+use Rattle.endgame.specs.Means.{made-number, judging-number, stats-of, Analyses, Judges}
 use Rattle.minimax.specs.declared.Minimax.{Minimax}
 use Rattle.minimax.specs.declared.Config.{Config}
+use Rattle.minimax.specs.declared.Report.{Report}
 use Rattle.minimax.specs.Structs.{structs}
 use Rattle.minimax.specs.State.{bytes-of}
-use Rattle.minimax.specs.Report.{answer-of}
+use Rattle.minimax.specs.Report.{report-of, answer-of, reported-of}
 
 -- the number n where the test passes, and else what the later tests say
 infixr 5 _when_else_
@@ -167,3 +177,81 @@ pub record Building (b c : ℕ) (r : Built) : Type 0 where
   pub number : answer-number (r .answer) ≡ (9 when over-8 b c else 0)
   pub refused : (answer-number (r .answer) ≡ 0 → ⊥) → r .m .bits ≡ no-move
   pub accepted : answer-number (r .answer) ≡ 0 → r .m .bits ≡ move-of b c
+
+-- ---- reading a move
+-- outside `a` to `i`
+abbrev pub no-letter : ℕ → Bool
+no-letter c = ltb c 0x61 || ltb 0x69 c
+
+abbrev pub reading-move : List ℕ → ℕ
+reading-move text =
+    7 when not (eqb (length text) 2) else
+    8 when no-letter (getD text 0 0) || no-letter (getD text 1 0) else
+    0
+
+pub record ReadingMove (text : List ℕ) (r : ParsedMove) : Type 0 where
+  pub number : move-number (r .answer) ≡ reading-move text
+  -- 8 gives the byte, the first one first
+  pub byte : move-number (r .answer) ≡ 8 → r .answer ≡ BadCharacter (getD text 0 0 when no-letter (getD text 0 0) else getD text 1 0)
+  pub refused : (move-number (r .answer) ≡ 0 → ⊥) → r .m .bits ≡ no-move
+  pub accepted : move-number (r .answer) ≡ 0 → r .m .bits ≡ move-of (getD text 0 0 - 0x61) (getD text 1 0 - 0x61)
+
+-- ---- reading a position
+-- `X` or `O`
+abbrev pub side-letter : ℕ → Bool
+side-letter c = eqb c 0x58 || eqb c 0x4f
+
+-- neither `.`, `@`, `#` nor a side's letter
+abbrev pub bad-mark : ℕ → Bool
+bad-mark c = not (eqb c 0x2e || (eqb c 0x40 || (eqb c 0x23 || side-letter c)))
+
+-- neither `.` nor a side's letter
+abbrev pub bad-cell : ℕ → Bool
+bad-cell c = not (eqb c 0x2e || side-letter c)
+
+-- byte i of the cells' section: each tenth is a `/`, the others are cells
+abbrev pub cells-fault : List ℕ → ℕ → ℕ
+cells-fault cs i =
+    5 when eqb (i % 10) 9 && (not (ltb i (length cs)) || not (eqb (getD cs i 0) 0x2f)) else
+    6 when not (eqb (i % 10) 9) && not (ltb i (length cs)) else
+    3 when not (eqb (i % 10) 9) && bad-cell (getD cs i 0) else
+    0
+
+-- the first number that is not 0
+abbrev pub first-of : (ℕ → ℕ) → List ℕ → ℕ
+first-of f [] = 0
+first-of f (i ∷ is) = f i when not (eqb (f i) 0) else first-of f is
+
+-- by the parts between the semicolons: side, overall marks, and cells, of which 89 bytes are looked at from left to right
+abbrev pub reading-position : List ℕ → ℕ
+reading-position text =
+    let side = getD (sections text) 0 [] in
+    let overall = getD (sections text) 1 [] in
+    let cells = getD (sections text) 2 [] in
+    1 when ltb 256 (length text) else
+    2 when not (eqb (length (sections text)) 3) else
+    3 when not (eqb (length side) 1 && side-letter (getD side 0 0)) else
+    4 when not (eqb (length overall) 9) else
+    5 when any bad-mark overall else
+    first-of (cells-fault cells) (from 0 89)
+
+abbrev pub parse-number : ParseAnswer → ℕ
+parse-number Accepted = 0
+parse-number (Refused e) = kind-number (e .why)
+
+pub record ReadingPosition (text : List ℕ) (r : Parsed) : Type 0 where
+  pub number : parse-number (r .answer) ≡ reading-position text
+  pub refused : (parse-number (r .answer) ≡ 0 → ⊥) → r .game ≡ new-game
+
+-- ---- the demand: of every value that a promise allows
+pub record Demand1 : Type 0 where
+  pub position-text : (text : List ℕ) (r : Parsed) → Parses text r → ReadingPosition text r
+  pub move-text : (text : List ℕ) (r : ParsedMove) → Parses-move text r → ReadingMove text r
+  pub play : (g : Game) (m : Move) (r : Made) → Plays g m r → Playing g m r
+  pub cell : (g : Game) (b c : ℕ) (r : CellAnswer) → Looks-cell (position-of g) b c r → LookingCell b c r
+  pub board : (g : Game) (b : ℕ) (r : StateAnswer) → Looks-state (position-of g) b r → LookingBoard b r
+  pub build : (b c : ℕ) (r : Built) → Builds b c r → Building b c r
+  pub endgame : (g : Game) (a : Analysis) → Analyses g a → Analysing g a
+  pub move-status : (g : Game) (m : Move) (r : MoveStatus) → Judges g m r → Judging g m r
+  -- words and words' are the table's before and after
+  pub search : (m : Minimax) (g : Game) (c : Config) (words : List ℕ) (r : Report) (words' : List ℕ) → report-of r words' ≡ reported-of m g c words → Searching m g c words (report-of r words')
