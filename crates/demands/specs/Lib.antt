@@ -1,3 +1,4 @@
 pub mod Claims
 pub mod AfterMoves
 pub mod Demand2
+pub mod Demand1

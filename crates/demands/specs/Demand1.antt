@@ -1,0 +1,257 @@
+-- Demand 1: what each entry point refuses, by document 01's numbers in their order, and what it returns then. All else is accepted, with number 0.
+use mathlib.Core.Path.{_≡_}
+use mathlib.Core.Bool.{Bool, true, false, not, _||_, _&&_}
+use mathlib.Core.List.{List, [], _∷_}
+use Prim.Native.Nat.{ℕ, _-_, _%_}
+use lib.Dec.{T, eqb, ltb}
+use lib.IntN.{pos}
+use lib.ListN.{length, getD, replicate}
+use Rattle.base.specs.Lists.{any, from}
+use Rattle.rules.specs.declared.Player.{Player}
+use Rattle.rules.specs.declared.Player.the-variants.{X, O}
+use Rattle.rules.specs.declared.CellState.the-variants.{Empty}
+use Rattle.rules.specs.declared.GameState.the-variants.{InPlay}
+use Rattle.rules.specs.Board.{blank, mine, in-play, won-by, nine, has-line}
+use Rattle.rules.specs.Play.{no-move, move-of, board-of, cell-of, after}
+use Rattle.rules.specs.Status.{unproven}
+use Rattle.rules.specs.Endgame.{no-stats as no-counts}
+use Rattle.text.specs.Reading.{sections}
+use Rattle.theory.specs.Memory.{fresh-memory}
+use Rattle.theory.specs.OrderedSearch.{unlimited}
+use Rattle.theory.specs.Deepening.{analyze}
+use Rattle.theory.specs.Reported.{Reported, no-stats}
+use Rattle.boards.specs.declared.moves.Move.{Move}
+use Rattle.boards.specs.declared.moves.Built.{Built}
+use Rattle.boards.specs.Packed.{cell-at, state-at}
+use Rattle.boards.specs.Answers.{answer-number, Builds}
+use Rattle.game.specs.declared.NextBoard.{NextBoard}
+use Rattle.game.specs.declared.NextBoard.the-variants.{Any, Only}
+use Rattle.game.specs.declared.Game.{Game}
+use Rattle.game.specs.declared.Made.{Made}
+use Rattle.game.specs.declared.CellAnswer.{CellAnswer}
+use Rattle.game.specs.declared.StateAnswer.{StateAnswer}
+use Rattle.game.specs.Meaning.{position-of}
+use Rattle.game.specs.Built.{new-game}
+use Rattle.game.specs.After.{after-move, Plays}
+use Rattle.game.specs.Look.{Looks-cell, Looks-state}
+use Rattle.notation.specs.declared.ParseAnswer.{ParseAnswer}
+use Rattle.notation.specs.declared.ParseAnswer.the-variants.{Accepted, Refused}
+use Rattle.notation.specs.declared.Parsed.{Parsed}
+use Rattle.notation.specs.declared.MoveTextAnswer.the-variants.{BadCharacter}
+use Rattle.notation.specs.declared.ParsedMove.{ParsedMove}
+use Rattle.notation.specs.Parsed.{kind-number, move-number, Parses, Parses-move}
+use Rattle.status.specs.Sets.{status-of}
+use Rattle.endgame.specs.declared.Analysis.{Analysis}
+use Rattle.endgame.specs.declared.MoveStatus.{MoveStatus}
+use Rattle.endgame.specs.Means.{made-number, judging-number, stats-of, Analyses, Judges}
+use Rattle.minimax.specs.declared.Minimax.{Minimax}
+use Rattle.minimax.specs.declared.Config.{Config}
+use Rattle.minimax.specs.declared.Report.{Report}
+use Rattle.minimax.specs.Structs.{structs}
+use Rattle.minimax.specs.State.{bytes-of}
+use Rattle.minimax.specs.Report.{report-of, answer-of, reported-of}
+
+-- the number n where the test passes, and else what the later tests say
+infixr 5 _when_else_
+abbrev pub _when_else_ : ℕ → Bool → ℕ → ℕ
+_when_else_ n true later = n
+_when_else_ n false later = later
+
+-- no cell: the board or the cell is over 8
+abbrev pub over-8 : ℕ → ℕ → Bool
+over-8 b c = ltb 8 b || ltb 8 c
+
+-- ---- playing
+abbrev pub other-due : NextBoard → ℕ → Bool
+other-due Any b = false
+other-due (Only d) b = not (eqb d b)
+
+-- cell c of board b
+abbrev pub playing : Game → ℕ → ℕ → ℕ
+playing g b c =
+    9 when over-8 b c else
+    10 when not (in-play (g .«game_state»)) else
+    11 when not (in-play (state-at (g .«global_states») b)) else
+    12 when other-due (g .«next_board») b else
+    13 when not (blank (cell-at (g .«local_boards») b c)) else
+    0
+
+-- refused play returns the old game
+pub record Playing (g : Game) (m : Move) (r : Made) : Type 0 where
+  pub number : answer-number (r .answer) ≡ playing g (board-of (m .bits)) (cell-of (m .bits))
+  pub refused : (answer-number (r .answer) ≡ 0 → ⊥) → r .game ≡ g
+  pub accepted : answer-number (r .answer) ≡ 0 → r .game ≡ after-move g (board-of (m .bits)) (cell-of (m .bits))
+  pub accepted-means : answer-number (r .answer) ≡ 0 → position-of (r .game) ≡ after (position-of g) (board-of (m .bits)) (cell-of (m .bits))
+
+-- ---- searching
+module _ (m : Minimax) (g : Game) (c : Config) (words : List ℕ) where
+  -- what the ordered search enters at depth 1 alone, if nothing limits it
+  abbrev pub depth-1-enters : ℕ
+  depth-1-enters = analyze (structs (c .«draw_winner»)) unlimited 1 g (fresh-memory (bytes-of (m .«answers_x»)) (bytes-of (m .«answers_o»)) words) .memory .count
+
+  abbrev pub searching : ℕ
+  searching =
+      15 when eqb (c .«max_depth») 0 || ltb 81 (c .«max_depth») else
+      16 when eqb (c .allowance) 0 || ltb 1000000000 (c .allowance) else
+      17 when not (eqb (length words % 3) 0) || ltb 196608 (length words) else
+      18 when ltb (c .allowance) depth-1-enters else
+      0
+
+  -- x is what is reported
+  module _ (x : Reported) where
+    -- score 0 and no move, of no depth
+    pub record Silent : Type 0 where
+      pub depth : x .depth ≡ 0
+      pub score : x .score ≡ pos 0
+      pub line : x .line ≡ replicate 81 no-move
+      pub stats : x .stats ≡ replicate 81 no-stats
+
+    -- nothing is changed, and no position was entered
+    pub record Unchanged : Type 0 where
+      pub count : x .count ≡ 0
+      pub unmarked : T (not (x .is-stopped))
+      pub answers-x : x .answers-x ≡ bytes-of (m .«answers_x»)
+      pub answers-o : x .answers-o ≡ bytes-of (m .«answers_o»)
+      pub table : x .table ≡ words
+
+    -- all that is allowed was entered; answers and table are as the ordered search has left them where it stopped
+    pub record Spent : Type 0 where
+      pub count : x .count ≡ c .allowance
+      pub marked : T (x .is-stopped)
+      pub answers-x : x .answers-x ≡ answer-of m g c words .memory .answers-x
+      pub answers-o : x .answers-o ≡ answer-of m g c words .memory .answers-o
+      pub table : x .table ≡ answer-of m g c words .memory .table
+
+    pub record Searching : Type 0 where
+      pub number : x .number ≡ searching
+      pub refused : (x .number ≡ 0 → ⊥) → Silent
+      -- 15 to 17
+      pub at-entry : (x .number ≡ 0 → ⊥) → (x .number ≡ 18 → ⊥) → Unchanged
+      pub in-depth-1 : x .number ≡ 18 → Spent
+
+-- ---- the endgame analysis
+-- a side has a line of boards
+abbrev pub line-of-boards : Game → Player → Bool
+line-of-boards g w = has-line (λ b. won-by w (state-at (g .«global_states») b))
+
+-- board b is in play, without an empty cell or with a side's line
+abbrev pub broken-board : Game → ℕ → Bool
+broken-board g b =
+    let cell = cell-at (g .«local_boards») b in
+    in-play (state-at (g .«global_states») b) && (not (any (λ c. blank (cell c)) nine) || (has-line (λ c. mine X (cell c)) || has-line (λ c. mine O (cell c))))
+
+abbrev pub unsound : Game → Bool
+unsound g = line-of-boards g X || (line-of-boards g O || any (broken-board g) nine)
+
+abbrev pub analysing : Game → ℕ
+analysing g =
+    14 when in-play (g .«game_state») && unsound g else
+    0
+
+-- the full set and no counts
+pub record Unanswered (a : Analysis) : Type 0 where
+  pub full : a .proven ≡ status-of unproven
+  pub none-counted : stats-of (a .stats) ≡ no-counts
+
+pub record Analysing (g : Game) (a : Analysis) : Type 0 where
+  pub number : made-number (a .made) ≡ analysing g
+  pub refused : (made-number (a .made) ≡ 0 → ⊥) → Unanswered a
+  pub finished-number : T (not (in-play (g .«game_state»))) → made-number (a .made) ≡ 0
+  pub finished : T (not (in-play (g .«game_state»))) → Unanswered a
+
+-- a move's status: 14 first, then what playing refuses
+pub record Judging (g : Game) (m : Move) (r : MoveStatus) : Type 0 where
+  pub number : judging-number (r .answer) ≡ (14 when in-play (g .«game_state») && unsound g else playing g (board-of (m .bits)) (cell-of (m .bits)))
+  pub refused : (judging-number (r .answer) ≡ 0 → ⊥) → r .status ≡ status-of unproven
+
+-- ---- looking at a cell or a board, and building a move
+pub record LookingCell (b c : ℕ) (r : CellAnswer) : Type 0 where
+  pub number : answer-number (r .answer) ≡ (9 when over-8 b c else 0)
+  pub refused : (answer-number (r .answer) ≡ 0 → ⊥) → r .cell ≡ Empty
+
+pub record LookingBoard (b : ℕ) (r : StateAnswer) : Type 0 where
+  pub number : answer-number (r .answer) ≡ (9 when ltb 8 b else 0)
+  pub refused : (answer-number (r .answer) ≡ 0 → ⊥) → r .state ≡ InPlay
+
+pub record Building (b c : ℕ) (r : Built) : Type 0 where
+  pub number : answer-number (r .answer) ≡ (9 when over-8 b c else 0)
+  pub refused : (answer-number (r .answer) ≡ 0 → ⊥) → r .m .bits ≡ no-move
+  pub accepted : answer-number (r .answer) ≡ 0 → r .m .bits ≡ move-of b c
+
+-- ---- reading a move
+-- outside `a` to `i`
+abbrev pub no-letter : ℕ → Bool
+no-letter c = ltb c 0x61 || ltb 0x69 c
+
+abbrev pub reading-move : List ℕ → ℕ
+reading-move text =
+    7 when not (eqb (length text) 2) else
+    8 when no-letter (getD text 0 0) || no-letter (getD text 1 0) else
+    0
+
+pub record ReadingMove (text : List ℕ) (r : ParsedMove) : Type 0 where
+  pub number : move-number (r .answer) ≡ reading-move text
+  -- 8 gives the byte, the first one first
+  pub byte : move-number (r .answer) ≡ 8 → r .answer ≡ BadCharacter (getD text 0 0 when no-letter (getD text 0 0) else getD text 1 0)
+  pub refused : (move-number (r .answer) ≡ 0 → ⊥) → r .m .bits ≡ no-move
+  pub accepted : move-number (r .answer) ≡ 0 → r .m .bits ≡ move-of (getD text 0 0 - 0x61) (getD text 1 0 - 0x61)
+
+-- ---- reading a position
+-- `X` or `O`
+abbrev pub side-letter : ℕ → Bool
+side-letter c = eqb c 0x58 || eqb c 0x4f
+
+-- neither `.`, `@`, `#` nor a side's letter
+abbrev pub bad-mark : ℕ → Bool
+bad-mark c = not (eqb c 0x2e || (eqb c 0x40 || (eqb c 0x23 || side-letter c)))
+
+-- neither `.` nor a side's letter
+abbrev pub bad-cell : ℕ → Bool
+bad-cell c = not (eqb c 0x2e || side-letter c)
+
+-- byte i of the cells' section: each tenth is a `/`, the others are cells
+abbrev pub cells-fault : List ℕ → ℕ → ℕ
+cells-fault cs i =
+    5 when eqb (i % 10) 9 && (not (ltb i (length cs)) || not (eqb (getD cs i 0) 0x2f)) else
+    6 when not (eqb (i % 10) 9) && not (ltb i (length cs)) else
+    3 when not (eqb (i % 10) 9) && bad-cell (getD cs i 0) else
+    0
+
+-- the first number that is not 0
+abbrev pub first-of : (ℕ → ℕ) → List ℕ → ℕ
+first-of f [] = 0
+first-of f (i ∷ is) = f i when not (eqb (f i) 0) else first-of f is
+
+-- by the parts between the semicolons: side, overall marks, and cells, of which 89 bytes are looked at from left to right
+abbrev pub reading-position : List ℕ → ℕ
+reading-position text =
+    let side = getD (sections text) 0 [] in
+    let overall = getD (sections text) 1 [] in
+    let cells = getD (sections text) 2 [] in
+    1 when ltb 256 (length text) else
+    2 when not (eqb (length (sections text)) 3) else
+    3 when not (eqb (length side) 1 && side-letter (getD side 0 0)) else
+    4 when not (eqb (length overall) 9) else
+    5 when any bad-mark overall else
+    first-of (cells-fault cells) (from 0 89)
+
+abbrev pub parse-number : ParseAnswer → ℕ
+parse-number Accepted = 0
+parse-number (Refused e) = kind-number (e .why)
+
+pub record ReadingPosition (text : List ℕ) (r : Parsed) : Type 0 where
+  pub number : parse-number (r .answer) ≡ reading-position text
+  pub refused : (parse-number (r .answer) ≡ 0 → ⊥) → r .game ≡ new-game
+
+-- ---- the demand: of every value that a promise allows
+pub record Demand1 : Type 0 where
+  pub position-text : (text : List ℕ) (r : Parsed) → Parses text r → ReadingPosition text r
+  pub move-text : (text : List ℕ) (r : ParsedMove) → Parses-move text r → ReadingMove text r
+  pub play : (g : Game) (m : Move) (r : Made) → Plays g m r → Playing g m r
+  pub cell : (g : Game) (b c : ℕ) (r : CellAnswer) → Looks-cell (position-of g) b c r → LookingCell b c r
+  pub board : (g : Game) (b : ℕ) (r : StateAnswer) → Looks-state (position-of g) b r → LookingBoard b r
+  pub build : (b c : ℕ) (r : Built) → Builds b c r → Building b c r
+  pub endgame : (g : Game) (a : Analysis) → Analyses g a → Analysing g a
+  pub move-status : (g : Game) (m : Move) (r : MoveStatus) → Judges g m r → Judging g m r
+  -- words and words' are the table's before and after
+  pub search : (m : Minimax) (g : Game) (c : Config) (words : List ℕ) (r : Report) (words' : List ℕ) → report-of r words' ≡ reported-of m g c words → Searching m g c words (report-of r words')
