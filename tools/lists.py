@@ -4,6 +4,8 @@
 usage: lists.py game ANSWERS.. > crates/replay_game/stdin
        lists.py notation ANSWERS.. > crates/replay_notation/stdin
        lists.py eval ANSWERS.. > crates/replay_eval/stdin
+       lists.py program ANSWERS.. > crates/ultimattt/stdin
+       lists.py answers ANSWERS.. > crates/ultimattt/stdout
 
 ANSWERS is a folder of files KIND.req and KIND.ans, a request and an answer to a line, as the driver around the Rust
 engine gives them (docs/ORACLE.md). A list has a record to a line. Of game and notation it is decimal numbers parted by
@@ -27,6 +29,10 @@ has none), which is then the one expected; in 4 a text of over 256 bytes, or one
 
 Of eval it is three fields parted by tabs: a position's text; the draw winner, X, O or - for none; the evaluation, a
 decimal number with a minus before it if it is below 0.
+
+Of program it is lines for the program itself, and of answers what it must write: document 01's four examples and edges
+of a line, with the answers that its words give (DOCUMENT), then the stored requests of kind program with the stored answers. The
+last line of program has no line feed.
 """
 import re, sys
 
@@ -150,9 +156,59 @@ def evaluations(folder):
         yield [text.decode(), draw.decode(), answer]
 
 
+EMPTY = "X;.........;" + "/".join(["." * 9] * 9)
+WINS = "X;XX@......;XXX....../XXX....../XX......." + "/........." * 6
+WON = "O;XXX......;" + "/".join(["." * 9] * 9)
+UNSOUND = "X;XXX......;" + "/".join(["." * 9] * 9)
+FIRST = "XOD 81 1 16 82 ee"
+DOCUMENT = [
+    (EMPTY + " 1", FIRST),
+    (WINS + " 3", "X 7 1 1152921504606846976 8 cc"),
+    (WON + " 5", "XOD 0 1 -1152921504606846976 1 -"),
+    ("X 3", "E 2"),
+    ("", "E 19"),                              # an empty line is a line
+    (EMPTY, "E 19"),                           # no blank
+    (EMPTY + " ", "E 19"),
+    (EMPTY + " 1 ", "E 19"),
+    (EMPTY + " 100", "E 19"),
+    (EMPTY + " 001", "E 19"),
+    (EMPTY + " 1\r", "E 19"),
+    (EMPTY + "\t1", "E 19"),                   # a tab is no blank
+    ("X 100", "E 19"),                         # 19 before 2
+    (EMPTY + " 0", "E 15"),
+    (EMPTY + " 82", "E 15"),
+    (EMPTY + " 01", FIRST),
+    (EMPTY + "   1", FIRST),                   # the last blank parts; what follows the ninth board is ignored
+    (WINS + " 81", "X 7 1 1152921504606846976 8 cc"),
+    (" 1", "E 2"),
+    ("X 0", "E 2"),                            # 2 before 15
+    (UNSOUND + " 1", "E 14"),
+    (UNSOUND + " 0", "E 14"),                  # 14 before 15
+    (EMPTY + "." * 155 + " 1", FIRST),         # 256 bytes of position
+    (EMPTY + "." * 156 + " 1", "E 1"),
+    (EMPTY + "." * 156 + " 0", "E 1"),         # 1 before 15
+    (EMPTY + "." * 4897 + " 1", "E 1"),        # 5,000 bytes
+    ("X" * 5000, "E 19"),
+    (EMPTY + " " * 4898 + "x", "E 19"),
+]
+
+
+def program(folders):
+    lines = [(line.encode(), answer) for line, answer in DOCUMENT]
+    for folder in folders:
+        lines += [(b"\t".join(request[1:]), answer) for request, answer in pairs(folder, "program") if request[0] == b"program"]
+    return lines
+
+
 LISTS = {"game": (game, " "), "notation": (notation, " "), "eval": (evaluations, "\t")}
 
 if __name__ == "__main__":
+    if len(sys.argv) > 2 and sys.argv[1] == "program":
+        sys.stdout.buffer.write(b"\n".join(line for line, _ in program(sys.argv[2:])))
+        sys.exit()
+    if len(sys.argv) > 2 and sys.argv[1] == "answers":
+        print(*(answer for _, answer in program(sys.argv[2:])), sep="\n")
+        sys.exit()
     if len(sys.argv) < 3 or sys.argv[1] not in LISTS:
         sys.exit(__doc__)
     records, part = LISTS[sys.argv[1]]
