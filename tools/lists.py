@@ -6,6 +6,8 @@ usage: lists.py game ANSWERS.. > crates/replay_game/stdin
        lists.py eval ANSWERS.. > crates/replay_eval/stdin
        lists.py program ANSWERS.. > crates/ultimattt/stdin
        lists.py answers ANSWERS.. > crates/ultimattt/stdout
+       lists.py endgame ANSWERS.. > crates/replay_endgame/stdin
+       lists.py search ANSWERS.. > crates/replay_search/stdin
 
 ANSWERS is a folder of files KIND.req and KIND.ans, a request and an answer to a line, as the driver around the Rust
 engine gives them (docs/ORACLE.md). A list has a record to a line. Of game and notation it is decimal numbers parted by
@@ -33,8 +35,28 @@ decimal number with a minus before it if it is below 0.
 Of program it is lines for the program itself, and of answers what it must write: document 01's four examples and edges
 of a line, with the answers that its words give (DOCUMENT), then the stored requests of kind program with the stored answers. The
 last line of program has no line feed.
+
+Of endgame it is two fields parted by tabs: a position's text; numbers parted by blanks:
+
+  made status attacker_critical defender_critical both_critical unwinnable prove_attacker prove_defender
+    then of each listed move: move answer status
+
+made is 0 for an analysis, 14 for a refusal; answer is 0 for a move that is judged, 10 or 14 for a refusal. A refusal has
+the full set, and 14 no counts. Of a position that the Rust panics on no move is listed.
+
+Of search a record is one memory and the searches that use it, one after the other; fields parted by tabs: the table's entries;
+the draw winner; the allowance; the answers remembered at the start, three numbers each (side that made the previous
+move, X 0 and O 1; previous move; answer), or nothing; then of each search the position's text, the depth, and numbers:
+
+  ending count depth SCORE answers remembered table used m*depth, then of each depth
+    depth SCORE visited terminal cuts tt_hit tt_suffice
+
+ending is 0 for whole, 1 for stopped, 15 to 18 for a refusal. SCORE is 1 if it is below 0, else 0, and the size.
+answers and table are the digests of the memory after the search (FNV-1a, 64 bits: the 256 answers to X's moves and those to
+O's, a byte each; the table's words, the lowest byte first), remembered and used say how many there are. The count of a
+search that the driver does not count is the sum of its depths' visited.
 """
-import re, sys
+import os, re, sys
 
 ERRORS = {"ok": 0, "OutOfBounds": 9, "GameOver": 10, "WonBoard": 11, "WrongBoard": 12, "NotEmpty": 13}
 STATES = {"InPlay": 0, "Drawn": 1, "WonX": 2, "WonO": 3}
@@ -200,7 +222,95 @@ def program(folders):
     return lines
 
 
-LISTS = {"game": (game, " "), "notation": (notation, " "), "eval": (evaluations, "\t")}
+def endgames(folder):
+    for request, answer in pairs(folder, "endgame"):
+        f = fields(answer)
+        moves = re.findall(r"([a-p]{2}):(\d+)", f.get("moves", ""))
+        if f["over"] == "1":
+            made, status, counts = 0, int(f["status"]), f["stats"].split(",")
+            judged = [(letters(m)[0], 10, 7) for m, _ in moves]
+        elif f["sound"] == "0":
+            made, status, counts = 14, 7, [0] * 6
+            judged = [(letters(m)[0], 14, 7) for m, _ in moves]
+        else:
+            made, status, counts = 0, int(f["status"]), f["stats"].split(",")
+            judged = [(letters(m)[0], 0, int(b)) for m, b in moves]
+        numbers = [made, status, *counts, *(n for move in judged for n in move)]
+        yield [request[1].decode(), " ".join(map(str, numbers))]
+
+
+def digest(data):
+    h = 0xCBF29CE484222325
+    for byte in data:
+        h = (h ^ byte) * 0x100000001B3 % 2**64
+    return h
+
+
+def score(text):
+    return [int(text.startswith("-")), text.lstrip("-")]
+
+
+def remembered(text):
+    """The numbers of the answers that a search begins with."""
+    return [n for a in text.split(",") if a for n in ("XO".index(a[0]), *letters(a[1:]))]
+
+
+def refusal(depth, allowance, entries):
+    if not 1 <= depth <= 81:
+        return 15
+    if not 1 <= allowance <= 1000000000:
+        return 16
+    return 17 if entries > 65536 else 0
+
+
+def refused(number, entries, answers):
+    """Document 01's answer: nothing entered, the memory as it was."""
+    memory = bytearray([255] * 512)
+    for k in range(0, len(answers), 3):
+        memory[256 * answers[k] + answers[k + 1]] = answers[k + 2]
+    return [number, 0, 0, 0, 0, digest(memory), 512 - memory.count(255), digest(bytes(24 * entries)), 0]
+
+
+def found(answer):
+    """The numbers of a search from the driver's answer."""
+    f = fields(answer)
+    stats = [w for w in answer.split() if "=" not in w][0]
+    stats = [] if stats == "-" else [d.split(",") for d in stats.split(";")]
+    ending = 0 if f.get("stopped", "0") == "0" else 1 if stats else 18
+    moves = [255 if m == "--" else letters(m)[0] for m in re.findall("..", f["pv"])] if stats else []
+    assert len(moves) == len(stats)
+    count = f.get("count", sum(int(d[2]) for d in stats))
+    last = score(stats[-1][1] if stats else "0")
+    memory = [int(f["resp"], 16), f["nresp"], int(f["table"], 16), f["used"]]
+    return [ending, count, len(stats), *last, *memory, *moves, *(n for d in stats for n in (d[0], *score(d[1]), *d[2:]))]
+
+
+def chain(entries, draw, allowance, answers, searches):
+    record = [entries, draw, allowance, " ".join(map(str, answers))]
+    for position, depth, answer in searches:
+        number = refusal(int(depth), int(allowance), int(entries))
+        numbers = refused(number, int(entries), answers) if number else found(answer)
+        record += [position, depth, " ".join(map(str, numbers))]
+    return record
+
+
+def chains(folder):
+    for kind in ("search", "searches", "stop", "long", "refused"):
+        for request, answer in pairs(folder, kind) if os.path.exists(f"{folder}/{kind}.req") else []:
+            what, *given = [field.decode() for field in request]
+            if what == "searches":
+                entries, draw, *asked = given
+                yield chain(entries, draw, 10**9, [], zip(asked[::2], asked[1::2], answer.split(" | "), strict=True))
+            elif what == "stop":
+                position, depth, entries, draw, allowance, *more = given
+                yield chain(entries, draw, allowance, remembered("".join(more)), [(position, depth, answer)])
+            else:
+                position, depth, entries, draw, *more = given
+                yield chain(entries, draw, 10**9, remembered("".join(more)), [(position, depth, answer)])
+
+
+LISTS = {"game": (game, " "), "notation": (notation, " "), "eval": (evaluations, "\t"), "endgame": (endgames, "\t"),
+         "search": (chains, "\t")}
 
 if __name__ == "__main__":
     if len(sys.argv) > 2 and sys.argv[1] == "program":

@@ -1,5 +1,6 @@
 // Decimal numbers.
 ghost use mathlib.Core.Path.{_≡_};
+ghost use mathlib.Core.Bool.{cond};
 ghost use Rattle.records.specs.Numbers.{within, with-digit, read-number, read-signed, plus, minus};
 
 pub enum Number {
@@ -85,6 +86,17 @@ fn minus(n: Number) -> Signed
             }
         }
         Number::Bad => Signed::Bad,
+    }
+}
+
+// A size below 2^63 with its sign.
+pub fn with_sign(negative: bool, size: u64) -> Signed
+    ensures { λ r. ⌜ r ≡ cond negative (minus (Number.Is size)) (plus (Number.Is size)) ⌝ }
+{
+    if negative {
+        minus(Number::Is(size))
+    } else {
+        plus(Number::Is(size))
     }
 }
 

@@ -2,28 +2,10 @@
 // A record is a position's text, the draw winner (X, O or - for none) and the evaluation, parted by tabs (tools/lists.py).
 use input::Input;
 use notation::ParseAnswer;
+use records::Draw;
 use records::Outcome;
 use records::Signed;
 use records::Totals;
-use rules::DrawWinner;
-use rules::Player;
-
-pub enum Draw {
-    To(DrawWinner),
-    Bad,
-}
-
-fn draw_of(text: &[u8]) -> Draw {
-    if text.len() != 1 {
-        return Draw::Bad;
-    }
-    match text[0] {
-        b'-' => Draw::To(DrawWinner::Nobody),
-        b'X' => Draw::To(DrawWinner::Side(Player::X)),
-        b'O' => Draw::To(DrawWinner::Side(Player::O)),
-        _ => Draw::Bad,
-    }
-}
 
 fn is_score(text: &[u8], score: i64) -> bool {
     match records::read_signed(text) {
@@ -38,7 +20,7 @@ fn agrees(position: &[u8], draw: &[u8], score: &[u8]) -> bool {
     let ParseAnswer::Accepted = answer else {
         return false;
     };
-    let Draw::To(winner) = draw_of(draw) else {
+    let Draw::To(winner) = records::draw_of(draw) else {
         return false;
     };
     is_score(score, evaluation::evaluate(parsed.game, winner))

@@ -1,0 +1,225 @@
+// A record's searches, run one after the other.
+ghost use Prim.Native.Nat.{_<_};
+use crate::expected;
+use boards::Move;
+use minimax::Config;
+use minimax::Minimax;
+use notation::ParseAnswer;
+use records::Count;
+use records::Draw;
+use records::Number;
+use records::Outcome;
+use rules::DrawWinner;
+
+// The most numbers of a field.
+const MOST: usize = 1024;
+
+// What is found of a search, and the answers remembered after it.
+pub struct Step {
+    pub outcome: Outcome,
+    pub state: Minimax,
+}
+
+// The answers that the first search begins with.
+pub struct Begun {
+    pub good: bool,
+    pub state: Minimax,
+}
+
+fn differs(state: Minimax) -> Step {
+    Step {
+        outcome: Outcome::Differs,
+        state,
+    }
+}
+
+fn with_answer(state: Minimax, side: u64, prev: u64, answer: u64) -> Minimax {
+    let mut x = state.answers_x;
+    let mut o = state.answers_o;
+    let at = (prev % 256) as usize;
+    let m = Move {
+        bits: (answer % 256) as u8,
+    };
+    if side == 0 {
+        x[at] = m;
+    } else {
+        o[at] = m;
+    }
+    Minimax {
+        answers_x: x,
+        answers_o: o,
+    }
+}
+
+fn answered(numbers: &[u64], count: usize) -> Minimax
+    requires { ⌜ count < 1000 ⌝ }
+{
+    let mut state = Minimax::new();
+    let mut k: usize = 0;
+    while k < count {
+        state = with_answer(
+            state,
+            records::at(numbers, k * 3),
+            records::at(numbers, k * 3 + 1),
+            records::at(numbers, k * 3 + 2),
+        );
+        k += 1;
+    }
+    state
+}
+
+fn begin(text: &[u8]) -> Begun {
+    if text.len() == 0 {
+        return Begun {
+            good: true,
+            state: Minimax::new(),
+        };
+    }
+    let mut numbers = [0u64; MOST];
+    match records::numbers(text, &mut numbers) {
+        Count::Of(n) => Begun {
+            good: n % 3 == 0,
+            state: answered(&numbers, (n % 1024) / 3),
+        },
+        Count::Bad => Begun {
+            good: false,
+            state: Minimax::new(),
+        },
+    }
+}
+
+// One search, held against what is expected of it.
+fn searched(
+    position: &[u8],
+    config: Config,
+    expected: &[u8],
+    state: Minimax,
+    table: &mut [u64],
+) -> Step {
+    let parsed = notation::parse(position);
+    let answer = parsed.answer;
+    let ParseAnswer::Accepted = answer else {
+        return differs(state);
+    };
+    let mut numbers = [0u64; MOST];
+    let Count::Of(n) = records::numbers(expected, &mut numbers) else {
+        return differs(state);
+    };
+    if n > MOST {
+        return differs(state);
+    }
+    let report = state.analyze(parsed.game, config, table);
+    if !expected::is_met(&numbers[..n], report, table) {
+        return differs(state);
+    }
+    let after = report.state;
+    if expected::is_refusal(&numbers) {
+        return Step {
+            outcome: Outcome::Apart,
+            state: after,
+        };
+    }
+    Step {
+        outcome: Outcome::Agrees,
+        state: after,
+    }
+}
+
+// The searches of a line, of which there are `count`, each with the memory that the one before left.
+fn replayed(line: &[u8], count: usize, config: Config, begun: Minimax, table: &mut [u64]) -> Outcome
+    requires { ⌜ count < 100000 ⌝ }
+{
+    let draw_winner = config.draw_winner;
+    let mut state = begun;
+    let mut apart = false;
+    let mut k: usize = 0;
+    while k < count {
+        let Number::Is(max_depth) = records::read_number(records::field(line, 3 * k + 5)) else {
+            return Outcome::Differs;
+        };
+        let step = searched(
+            records::field(line, 3 * k + 4),
+            Config {
+                max_depth,
+                allowance: config.allowance,
+                draw_winner,
+            },
+            records::field(line, 3 * k + 6),
+            state,
+            table,
+        );
+        let outcome = step.outcome;
+        match outcome {
+            Outcome::Agrees => {}
+            Outcome::Apart => {
+                apart = true;
+            }
+            Outcome::Differs => {
+                return Outcome::Differs;
+            }
+        }
+        state = step.state;
+        k += 1;
+    }
+    if apart {
+        Outcome::Apart
+    } else {
+        Outcome::Agrees
+    }
+}
+
+fn clear(words: &mut [u64]) {
+    let mut i: usize = 0;
+    while i < words.len() {
+        words[i] = 0;
+        i += 1;
+    }
+}
+
+fn run(line: &[u8], count: usize, draw_winner: DrawWinner, table: &mut [u64]) -> Outcome
+    requires { ⌜ count < 100000 ⌝ }
+{
+    let Number::Is(allowance) = records::read_number(records::field(line, 2)) else {
+        return Outcome::Differs;
+    };
+    let begun = begin(records::field(line, 3));
+    if !begun.good {
+        return Outcome::Differs;
+    }
+    clear(table);
+    let config = Config {
+        max_depth: 0,
+        allowance,
+        draw_winner,
+    };
+    replayed(line, count, config, begun.state, table)
+}
+
+// What is found of a line. One that can't be read differs.
+pub fn outcome(line: &[u8], words: &mut [u64]) -> Outcome {
+    let tabs = records::tabs(line);
+    if tabs % 3 != 0 {
+        return Outcome::Differs;
+    }
+    let thirds = tabs / 3;
+    if thirds < 2 {
+        return Outcome::Differs;
+    }
+    if thirds > 1000 {
+        return Outcome::Differs;
+    }
+    let Number::Is(entries) = records::read_number(records::field(line, 0)) else {
+        return Outcome::Differs;
+    };
+    if entries > 65537 {
+        return Outcome::Differs;
+    }
+    let Draw::To(draw_winner) = records::draw_of(records::field(line, 1)) else {
+        return Outcome::Differs;
+    };
+    let n = (entries as usize) * 3;
+    if n > words.len() {
+        return Outcome::Differs;
+    }
+    run(line, thirds - 1, draw_winner, &mut words[..n])
+}

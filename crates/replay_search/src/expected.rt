@@ -1,0 +1,156 @@
+// What a record expects of a search. The numbers are, from 0 on: ending, count, depth, the score's sign and size, the digest and the number of
+// the remembered answers and of the table's entries, the line, and eight numbers of each depth (tools/lists.py).
+ghost use Prim.Native.Nat.{_<_, _≤_};
+use crate::digest;
+use boards::Move;
+use minimax::Ending;
+use minimax::Report;
+use minimax::SearchError;
+use minimax::Stats;
+use records::Signed;
+
+// The numbers before the line.
+const HEAD: usize = 9;
+
+fn refusal_number(e: SearchError) -> u64 {
+    match e {
+        SearchError::Depth => 15,
+        SearchError::Allowance => 16,
+        SearchError::Words => 17,
+        SearchError::Spent => 18,
+    }
+}
+
+fn ending_number(e: Ending) -> u64 {
+    match e {
+        Ending::Whole => 0,
+        Ending::Stopped => 1,
+        Ending::Refused(why) => refusal_number(why),
+    }
+}
+
+// Whether the numbers expect a refusal.
+pub fn is_refusal(numbers: &[u64]) -> bool {
+    records::at(numbers, 0) > 1
+}
+
+// Whether the sign and the size at a place are a score's.
+fn same_score(numbers: &[u64], at: usize, score: i64) -> bool
+    requires { ⌜ at < 100000 ⌝ }
+{
+    let sign = records::at(numbers, at);
+    if sign > 1 {
+        return false;
+    }
+    match records::with_sign(sign == 1, records::at(numbers, at + 1)) {
+        Signed::Is(expected) => expected == score,
+        Signed::Bad => false,
+    }
+}
+
+// Whether the eight numbers at a place are a depth's.
+fn same_depth(numbers: &[u64], at: usize, stats: Stats) -> bool
+    requires { ⌜ at < 10000 ⌝ }
+{
+    if stats.depth != records::at(numbers, at) {
+        return false;
+    }
+    if !same_score(numbers, at + 1, stats.score) {
+        return false;
+    }
+    if stats.visited != records::at(numbers, at + 3) {
+        return false;
+    }
+    if stats.terminal != records::at(numbers, at + 4) {
+        return false;
+    }
+    if stats.cuts != records::at(numbers, at + 5) {
+        return false;
+    }
+    if stats.tt_hit != records::at(numbers, at + 6) {
+        return false;
+    }
+    stats.tt_suffice == records::at(numbers, at + 7)
+}
+
+fn same_depths(numbers: &[u64], depth: usize, stats: [Stats; 81]) -> bool
+    requires { ⌜ depth ≤ 81 ⌝ }
+{
+    let mut i: usize = 0;
+    while i < depth {
+        if !same_depth(numbers, HEAD + depth + 8 * i, stats[i]) {
+            return false;
+        }
+        i += 1;
+    }
+    true
+}
+
+fn same_line(numbers: &[u64], depth: usize, line: [Move; 81]) -> bool
+    requires { ⌜ depth ≤ 81 ⌝ }
+{
+    let mut i: usize = 0;
+    while i < depth {
+        let m = line[i];
+        if m.bits as u64 != records::at(numbers, HEAD + i) {
+            return false;
+        }
+        i += 1;
+    }
+    true
+}
+
+fn same_result(numbers: &[u64], r: Report) -> bool {
+    let ending = r.ending;
+    if ending_number(ending) != records::at(numbers, 0) {
+        return false;
+    }
+    if r.count != records::at(numbers, 1) {
+        return false;
+    }
+    if r.depth != records::at(numbers, 2) {
+        return false;
+    }
+    same_score(numbers, 3, r.score)
+}
+
+fn same_memory(numbers: &[u64], r: Report, table: &[u64]) -> bool {
+    let state = r.state;
+    if digest::of_answers(state) != records::at(numbers, 5) {
+        return false;
+    }
+    if digest::remembered(state) != records::at(numbers, 6) {
+        return false;
+    }
+    if digest::of_table(table) != records::at(numbers, 7) {
+        return false;
+    }
+    digest::used(table) == records::at(numbers, 8)
+}
+
+fn same_walk(numbers: &[u64], r: Report) -> bool {
+    let depth = records::at(numbers, 2) as usize;
+    if depth > 81 {
+        return false;
+    }
+    if numbers.len() != HEAD + 9 * depth {
+        return false;
+    }
+    let line = r.line;
+    if !same_line(numbers, depth, line) {
+        return false;
+    }
+    let stats = r.stats;
+    same_depths(numbers, depth, stats)
+}
+
+// Whether a report and the table after the search are what the numbers say.
+pub fn is_met(numbers: &[u64], r: Report, table: &[u64]) -> bool {
+    if !same_result(numbers, r) {
+        return false;
+    }
+    if !same_walk(numbers, r) {
+        return false;
+    }
+    same_memory(numbers, r, table)
+}
