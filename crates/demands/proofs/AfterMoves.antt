@@ -10,7 +10,9 @@ use Rattle.rules.specs.declared.DrawWinner.the-variants.{Nobody}
 use Rattle.rules.specs.Position.{Position, start, going}
 use Rattle.rules.specs.Play.{reached}
 use Rattle.rules.specs.Hash.{with-turn, zobrist}
-use Rattle.rules.specs.Endgame.{analysis}
+use Rattle.rules.specs.Endgame.{Analysis as Found, analysis}
+use Rattle.rules.proofs.Sound.{good-is-sound, start-is-good, reached-good}
+use Rattle.rules.proofs.Endgame.{analysis-sound}
 use Rattle.theory.specs.Reported.{Settings, Reported, reported}
 use Rattle.reference.specs.Reference.{game}
 use Rattle.game.specs.declared.Game.{Game}
@@ -70,6 +72,7 @@ module _ (ms : List ℕ) (m : Minimax) (c : Config) (g : Game) (a : Analysis) (r
     status-is = a-is .status ∙ ap (λ (q : Position). status-of (analysis q .status)) means;
     counts-are = a-is .stats ∙ ap (λ (q : Position). analysis q .stats) means;
     report-is = report-is;
+    answered = λ t. a-is .refusal ∙ ap (λ (q : Position). analysis q .refusal) means ∙ ap (λ (y : Found). y .refusal) (analysis-sound p t (good-is-sound p (reached-good start start-is-good ms) t) .2);
     mark-says = λ t. subst (MarkSays (c .«draw_winner») (settings-of c) xs os p) (sym report-is) (reported-marks ms t (c .«draw_winner») (settings-of c) xs os);
     right = λ t n. subst (Right (c .«draw_winner») (settings-of c) xs os p) (sym report-is) (reported-right ms t (c .«draw_winner») (settings-of c) xs os n);
     status-holds = λ t e. subst (λ (x : Reported). StatusHolds (settings-of c) xs os p x (analysis p .status)) (sym (report-is ∙ ap (λ (w : DrawWinner). reported (game w) (settings-of c) p xs os []) e)) (reported-holds ms t (settings-of c) xs os);

@@ -42,7 +42,8 @@ module _ (ms : List ℕ) (m : Minimax) (c : Config) (r : After) where
     pub status-is : r .analysis .proven ≡ status-of (analysis p .status)
     pub counts-are : stats-of (r .analysis .stats) ≡ analysis p .stats
     pub report-is : report-of (r .report) [] ≡ reported (game (c .«draw_winner»)) (settings-of c) p xs os []
-    -- and, where the game is unfinished, the claims
+    -- and, where the game is unfinished, the claims: the endgame question is answered
+    pub answered : T (going p) → made-number (r .analysis .made) ≡ 0
     pub mark-says : T (going p) → MarkSays (c .«draw_winner») (settings-of c) xs os p (report-of (r .report) [])
     pub right : T (going p) → NotStopped (c .«draw_winner») (settings-of c) xs os p → Right (c .«draw_winner») (settings-of c) xs os p (report-of (r .report) [])
     pub status-holds : T (going p) → c .«draw_winner» ≡ Nobody → StatusHolds (settings-of c) xs os p (report-of (r .report) []) (analysis p .status)
