@@ -3,3 +3,4 @@ pub mod Lists
 pub mod AfterMoves
 pub mod Demand2
 pub mod Demand1
+pub mod Twelve

@@ -2,3 +2,4 @@ pub mod Claims
 pub mod AfterMoves
 pub mod Demand2
 pub mod Demand1
+pub mod Twelve
