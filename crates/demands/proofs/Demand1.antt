@@ -4,7 +4,7 @@ use mathlib.Core.Bool.{Bool, true, false, not, _||_, _&&_, and-false}
 use mathlib.Core.List.{List, [], _∷_, _++_}
 use mathlib.Core.Logic.{_⊎_, inl, inr}
 use mathlib.Core.Option.{Option, none, some}
-use Prim.Native.Nat.{ℕ, zero, suc, _-_, _%_, _≤_, _<_}
+use Prim.Native.Nat.{ℕ, zero, suc, _+_, _-_, _%_, _≤_}
 use native.Mathlib.Omega.{arith}
 use lib.Dec.{T, eqb, leb, ltb, eqb→eq, ltb→lt, lt→ltb, nltb→le}
 use lib.ListN.{length, getD}
@@ -20,7 +20,7 @@ use Rattle.rules.specs.declared.CellState.the-variants.{Empty}
 use Rattle.rules.specs.declared.GameState.{GameState}
 use Rattle.rules.specs.declared.GameState.the-variants.{InPlay, Drawn}
 use Rattle.rules.specs.Board.{in-play, nine, sides, has-line}
-use Rattle.rules.specs.Position.{Due, free, at, Position, going, open-board, free-cell, has}
+use Rattle.rules.specs.Position.{Position, going, open-board, free-cell, has}
 use Rattle.rules.specs.Play.{no-move, move-of, board-of, cell-of, may, checks, first-failed, accepts, Tried, played, refused, play}
 use Rattle.rules.specs.Sound.{sound}
 use Rattle.rules.specs.Status.{Status as Set, unproven}
@@ -53,6 +53,7 @@ use Rattle.game.specs.After.{refusal, Plays}
 use Rattle.game.specs.Look.{Looks-cell, Looks-state}
 use Rattle.game.proofs.Meaning.{game-accepted, game-refused}
 use Rattle.game.proofs.Answers.{first-is-refusal}
+use Rattle.notation.specs.declared.ParseError.{ParseError}
 use Rattle.notation.specs.declared.ParseAnswer.{ParseAnswer}
 use Rattle.notation.specs.declared.ParseAnswer.the-variants.{Accepted, Refused}
 use Rattle.notation.specs.declared.Parsed.{Parsed}
@@ -71,7 +72,7 @@ use Rattle.minimax.specs.Structs.{structs}
 use Rattle.minimax.specs.State.{bytes-of}
 use Rattle.minimax.specs.Report.{settings-of, report-of, answer-of, reported-of}
 use Rattle.minimax.proofs.Refusals.{some-depth, accepted-reported, turned-reported}
-use Rattle.demands.specs.Demand1.{_when_else_, over-8, other-due, playing, Playing, depth-1-enters, searching, Silent, Unchanged, Spent, Searching, line-of-boards, broken-board, unsound, analysing, Analysing, Judging, LookingCell, LookingBoard, Building, no-letter, reading-move, ReadingMove, side-letter, bad-mark, bad-cell, cells-fault, first-of, reading-position, parse-number, ReadingPosition, Demand1}
+use Rattle.demands.specs.Demand1.{_when_else_, over-8, other-due, playing, Playing, depth-1-enters, searching, Silent, Spent, Searching, line-of-boards, broken-board, unsound, Analysing, Judging, LookingCell, LookingBoard, Building, no-letter, reading-move, ReadingMove, side-letter, bad-mark, bad-cell, cells-fault, first-of, reading-position, before-first, fault-offset, fault-length, parse-number, ReadingPosition, Demand1}
 
 -- ---- tests said the other way round
 over-is : (n : ℕ) → ltb n 9 ≡ not (ltb 8 n)
@@ -645,6 +646,101 @@ read-number : (text : List ℕ) → reading-number (read text) ≡ reading-posit
 unfolding read
 read-number text = choice-1 (ltb 256 (length text)) (read-sections (sections text) (length text)) _ (sections-number (sections text) (length text))
 
+-- the part at fault: where a reading refuses, its place is o and l
+Placed : Reading → ℕ → ℕ → Type 0
+Placed (reads p) o l = Unit {0}
+Placed (refuses n o' l') o l = (o' ≡ o) × (l' ≡ l)
+
+placed-1 : (t : Bool) (x : Reading) (o l : ℕ) → Placed x o l → Placed (if t then (λ _. refuses 1 0 0) else λ _. x) (0 when t else o) (0 when t else l)
+unfolding Placed if_then_else_
+placed-1 true x o l h = (refl, refl)
+placed-1 false x o l h = h
+
+placed-found : (a b : Bool) (s os cs : List ℕ) (o l : ℕ) → ((w : Player) → Placed (read-overall w os cs) o l) →
+    Placed (read-side (if a then (λ _. some X) else λ _. if b then (λ _. some O) else λ _. none) s os cs) (0 when not (a || b) else o) (length s when not (a || b) else l)
+unfolding Placed if_then_else_
+placed-found true b s os cs o l f = f X
+placed-found false true s os cs o l f = f O
+placed-found false false s os cs o l f = (refl, refl)
+
+placed-side : (s os cs : List ℕ) (o l : ℕ) → ((w : Player) → Placed (read-overall w os cs) o l) → let bad = not (eqb (length s) 1 && side-letter (getD s 0 0)) in Placed (read-side (lone-side s) s os cs) (0 when bad else o) (length s when bad else l)
+unfolding Placed side-of
+placed-side [] os cs o l f = (refl, refl)
+placed-side (c ∷ []) os cs o l f = placed-found (eqb c 0x58) (eqb c 0x4f) (c ∷ []) os cs o l f
+placed-side (c ∷ d ∷ ds) os cs o l f = let e = sym (ne-eqb (length (c ∷ d ∷ ds)) 1 (λ q. omega (arith, q))) in
+    (ap (λ (t : Bool). 0 when not (t && side-letter c) else o) e, ap (λ (t : Bool). length (c ∷ d ∷ ds) when not (t && side-letter c) else l) e)
+
+placed-4 : (t : Bool) (x : Reading) (k o l : ℕ) → Placed x o l → Placed (if t then (λ _. x) else λ _. refuses 4 2 k) (2 when not t else o) (k when not t else l)
+unfolding Placed if_then_else_
+placed-4 true x k o l h = h
+placed-4 false x k o l h = (refl, refl)
+
+-- the first bad mark, if there is one, is at n
+Index : Option ℕ → ℕ → Type 0
+Index none n = Unit {0}
+Index (some i) n = i ≡ n
+
+index-on : (o : Option ℕ) (n : ℕ) → Index o n → Index (one-on o) (suc n)
+unfolding Index
+index-on none n h = tt
+index-on (some i) n h = ap suc h
+
+index-or : (t : Bool) (o : Option ℕ) (n : ℕ) → Index o n → Index (if not t then (λ _. one-on o) else λ _. some 0) (0 when t else suc n)
+unfolding Index if_then_else_
+index-or true o n h = refl
+index-or false o n h = index-on o n h
+
+index-is : (os : List ℕ) → Index (first-bad os) (before-first bad-mark os)
+unfolding Index first-bad
+index-is [] = tt
+index-is (c ∷ os) = subst (λ (t : Bool). Index (if t then (λ _. one-on (first-bad os)) else λ _. some 0) (0 when bad-mark c else suc (before-first bad-mark os))) (sym (mark-is c)) (index-or (bad-mark c) (first-bad os) (before-first bad-mark os) (index-is os))
+
+placed-marks : (i : Option ℕ) (n : ℕ) (w : Player) (os cs : List ℕ) (o l : ℕ) → Index i n → Placed (read-cells w os cs) o l → Placed (read-marks i w os cs) ((2 + n) when known i else o) (1 when known i else l)
+unfolding Placed Index
+placed-marks none n w os cs o l h k = k
+placed-marks (some i) n w os cs o l h k = (ap (λ (j : ℕ). 2 + j) h, refl)
+
+placed-cells : (w : Player) (os cs : List ℕ) → Placed (read-cells w os cs) 12 (length cs)
+unfolding Placed read-cells
+placed-cells w os cs = if-ind (λ (x : Reading). Placed x 12 (length cs)) (eqb (first-fault cs (from 0 89)) 0) _ _ (λ _. tt) (λ _. (refl, refl))
+
+abbrev offset-by : List ℕ → List ℕ → ℕ
+offset-by s os =
+    0 when not (eqb (length s) 1 && side-letter (getD s 0 0)) else
+    2 when not (eqb (length os) 9) else
+    (2 + before-first bad-mark os) when any bad-mark os else
+    12
+
+abbrev length-by : List ℕ → List ℕ → List ℕ → ℕ
+length-by s os cs =
+    length s when not (eqb (length s) 1 && side-letter (getD s 0 0)) else
+    length os when not (eqb (length os) 9) else
+    1 when any bad-mark os else
+    length cs
+
+placed-three : (s os cs : List ℕ) → Placed (read-side (lone-side s) s os cs) (offset-by s os) (length-by s os cs)
+unfolding read-overall
+placed-three s os cs = placed-side s os cs _ _ (λ w. placed-4 (eqb (length os) 9) (read-marks (first-bad os) w os cs) (length os) _ _
+    (subst (λ (t : Bool). Placed (read-marks (first-bad os) w os cs) ((2 + before-first bad-mark os) when t else 12) (1 when t else length cs)) (marks-are os)
+    (placed-marks (first-bad os) (before-first bad-mark os) w os cs 12 (length cs) (index-is os) (placed-cells w os cs))))
+
+placed-sections : (ss : List (List ℕ)) (n : ℕ) → let bad = not (eqb (length ss) 3) in Placed (read-sections ss n) (0 when bad else offset-by (getD ss 0 []) (getD ss 1 [])) (n when bad else length-by (getD ss 0 []) (getD ss 1 []) (getD ss 2 []))
+unfolding Placed
+placed-sections [] n = (refl, refl)
+placed-sections (s ∷ []) n = (refl, refl)
+placed-sections (s ∷ os ∷ []) n = (refl, refl)
+placed-sections (s ∷ os ∷ cs ∷ []) n = placed-three s os cs
+placed-sections (s ∷ os ∷ cs ∷ t ∷ ts) n = let e = sym (ne-eqb (length (s ∷ os ∷ cs ∷ t ∷ ts)) 3 (λ q. omega (arith, q))) in
+    (ap (λ (u : Bool). 0 when not u else offset-by s os) e, ap (λ (u : Bool). n when not u else length-by s os cs) e)
+
+read-placed : (text : List ℕ) → Placed (read text) (fault-offset text) (fault-length text)
+unfolding read
+read-placed text = placed-1 (ltb 256 (length text)) (read-sections (sections text) (length text)) _ _ (placed-sections (sections text) (length text))
+
+error-placed : (text : List ℕ) (r : Parsed) → Parses text r → (e : ParseError) → r .answer ≡ Refused e → (e .offset ≡ fault-offset text) × (e .length ≡ fault-length text)
+unfolding Placed
+error-placed text r h e q = subst (λ (a : ParseAnswer). Placed (reading-of a (r .game)) (fault-offset text) (fault-length text)) q (subst (λ (x : Reading). Placed x (fault-offset text) (fault-length text)) (sym (h .says)) (read-placed text))
+
 answer-said : (a : ParseAnswer) (g : Game) → parse-number a ≡ reading-number (reading-of a g)
 unfolding reading-number
 answer-said Accepted g = refl
@@ -658,6 +754,8 @@ refused-game (refuses n o l) h = refl
 pub reading-position-holds : (text : List ℕ) (r : Parsed) → Parses text r → ReadingPosition text r
 reading-position-holds text r h = record {
   number = said ∙ read-number text;
+  offset-is = λ e q. error-placed text r h e q .0;
+  length-is = λ e q. error-placed text r h e q .1;
   refused = λ e. h .game-is ∙ refused-game (read text) (λ q. e (said ∙ q));
 }
   where

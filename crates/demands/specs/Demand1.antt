@@ -2,7 +2,7 @@
 use mathlib.Core.Path.{_≡_}
 use mathlib.Core.Bool.{Bool, true, false, not, _||_, _&&_}
 use mathlib.Core.List.{List, [], _∷_}
-use Prim.Native.Nat.{ℕ, _-_, _%_}
+use Prim.Native.Nat.{ℕ, suc, _+_, _-_, _%_}
 use lib.Dec.{T, eqb, ltb}
 use lib.IntN.{pos}
 use lib.ListN.{length, getD, replicate}
@@ -34,6 +34,7 @@ use Rattle.game.specs.Meaning.{position-of}
 use Rattle.game.specs.Built.{new-game}
 use Rattle.game.specs.After.{after-move, Plays}
 use Rattle.game.specs.Look.{Looks-cell, Looks-state}
+use Rattle.notation.specs.declared.ParseError.{ParseError}
 use Rattle.notation.specs.declared.ParseAnswer.{ParseAnswer}
 use Rattle.notation.specs.declared.ParseAnswer.the-variants.{Accepted, Refused}
 use Rattle.notation.specs.declared.Parsed.{Parsed}
@@ -235,12 +236,42 @@ reading-position text =
     5 when any bad-mark overall else
     first-of (cells-fault cells) (from 0 89)
 
+-- how many bytes stand before the first that passes the test
+abbrev pub before-first : (ℕ → Bool) → List ℕ → ℕ
+before-first f [] = 0
+before-first f (c ∷ cs) = 0 when f c else suc (before-first f cs)
+
+-- the part at fault, by the same tests: the text, the side, the overall marks, one of these, or the cells; 1 has none
+abbrev pub fault-offset : List ℕ → ℕ
+fault-offset text =
+    let side = getD (sections text) 0 [] in
+    let overall = getD (sections text) 1 [] in
+    0 when ltb 256 (length text) else
+    0 when not (eqb (length (sections text)) 3) else
+    0 when not (eqb (length side) 1 && side-letter (getD side 0 0)) else
+    2 when not (eqb (length overall) 9) else
+    (2 + before-first bad-mark overall) when any bad-mark overall else
+    12
+
+abbrev pub fault-length : List ℕ → ℕ
+fault-length text =
+    let side = getD (sections text) 0 [] in
+    let overall = getD (sections text) 1 [] in
+    0 when ltb 256 (length text) else
+    length text when not (eqb (length (sections text)) 3) else
+    length side when not (eqb (length side) 1 && side-letter (getD side 0 0)) else
+    length overall when not (eqb (length overall) 9) else
+    1 when any bad-mark overall else
+    length (getD (sections text) 2 [])
+
 abbrev pub parse-number : ParseAnswer → ℕ
 parse-number Accepted = 0
 parse-number (Refused e) = kind-number (e .why)
 
 pub record ReadingPosition (text : List ℕ) (r : Parsed) : Type 0 where
   pub number : parse-number (r .answer) ≡ reading-position text
+  pub offset-is : (e : ParseError) → r .answer ≡ Refused e → e .offset ≡ fault-offset text
+  pub length-is : (e : ParseError) → r .answer ≡ Refused e → e .length ≡ fault-length text
   pub refused : (parse-number (r .answer) ≡ 0 → ⊥) → r .game ≡ new-game
 
 -- ---- the demand: of every value that a promise allows
