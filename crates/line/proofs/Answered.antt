@@ -2,8 +2,8 @@
 use mathlib.Core.Path.{_≡_, refl, sym, ap, _∙_, subst}
 use mathlib.Core.Bool.{Bool, true, false}
 use mathlib.Core.List.{List, [], _∷_}
-use mathlib.Core.Option.{Option, none, some}
-use Prim.Native.Nat.{ℕ, _^_, _≤_, _<_}
+use mathlib.Core.Option.{Option}
+use Prim.Native.Nat.{ℕ, _≤_}
 use native.Mathlib.Omega.{arith}
 use lib.Dec.{T, eqb}
 use lib.IntN.{ℤ}
@@ -14,7 +14,6 @@ use Rattle.base.specs.Branch.{if_then_else_}
 use Rattle.base.proofs.Branch.{if-ind}
 use Rattle.rules.specs.declared.DrawWinner.the-variants.{Nobody}
 use Rattle.rules.specs.Position.{Position}
-use Rattle.rules.specs.Play.{no-move}
 use Rattle.rules.specs.Moves.{moves}
 use Rattle.rules.specs.Hash.{hash}
 use Rattle.rules.specs.Status.{Status as Set}
@@ -44,7 +43,6 @@ use Rattle.minimax.proofs.Reports.{bytes-empty}
 use Rattle.minimax.proofs.Rules.{reported-rules}
 use Rattle.line.specs.declared.held.Depth.{Depth}
 use Rattle.line.specs.declared.held.Depth.the-variants.{Of, Lacking}
-use Rattle.line.specs.declared.held.Held.{Held}
 use Rattle.line.specs.declared.out.Out.{Out}
 use Rattle.line.specs.HeldLine.{DepthIs, new-held, pushed-all, held-asks, Same-question}
 use Rattle.line.specs.OutBytes.{out-of, out-text}

@@ -2,11 +2,11 @@
 use mathlib.Core.Path.{_≡_, sym}
 use mathlib.Core.Bool.{Bool}
 use mathlib.Core.List.{List, [], _∷_, _++_}
-use Prim.Native.Nat.{ℕ, zero, suc, _+_, _^_, _≤_, _<_}
+use Prim.Native.Nat.{ℕ, zero, suc, _+_, _^_, _≤_}
 use native.Mathlib.Omega.{arith}
-use lib.Dec.{T, eqb, eqb→eq}
+use lib.Dec.{eqb→eq}
 use lib.IntN.{ℤ, natAbs}
-use lib.ListN.{length, replicate, length-append, length-replicate}
+use lib.ListN.{length, length-append, length-replicate}
 use lib.Signed.{_≤ℤ_}
 use Rattle.base.specs.Lists.{keep, each}
 use Rattle.base.proofs.Branch.{if-ind}
@@ -21,7 +21,7 @@ use Rattle.theory.specs.PlainMinimax.{lowest, highest}
 use Rattle.theory.specs.Memory.{Memory, begin, fresh-memory}
 use Rattle.theory.specs.OrderedSearch.{at-most, Outcome, stopped, found}
 use Rattle.theory.specs.Deepening.{Whole, nothing-yet, one-deeper, Answer, decided, on-outcome, deepen, analyze}
-use Rattle.theory.specs.Reported.{Settings, entry-refusal, Reported, filled, report, refused-entry, reported}
+use Rattle.theory.specs.Reported.{Settings, entry-refusal, Reported, report, refused-entry, reported}
 use Rattle.theory.proofs.Search.{Gives}
 use Rattle.theory.proofs.Range.{search-range}
 use Rattle.theory.proofs.Growth.{Ends, search-allowed}
@@ -101,6 +101,6 @@ searched-small depth p =
     if-ind Small _ _ _
     (λ t. let l = limits (settings depth) 0 (sym (eqb→eq _ 0 t)) in
     let s = fresh-memory no-answers no-answers [] in
-    let a = analyze-bounded (game Nobody) (value-within Nobody) 1000000 p depth s (omega arith) in
-    report-small (analyze (game Nobody) (at-most 1000000) depth p s) (record { deep = omega arith; low = a .low; high = a .high; counted = a .counted }) (analyze-places (game Nobody) (at-most 1000000) depth p s))
+    let a = analyze-bounded (game Nobody) (value-within Nobody) 1000000 p (settings depth .max-depth) s (omega arith) in
+    report-small (analyze (game Nobody) (at-most 1000000) (settings depth .max-depth) p s) (record { deep = omega arith; low = a .low; high = a .high; counted = a .counted }) (analyze-places (game Nobody) (at-most 1000000) (settings depth .max-depth) p s))
     (λ _. refused-small _ no-answers no-answers [] (entry-small (settings depth) 0))

@@ -1,5 +1,5 @@
 -- 14 comes first; else the status is the analysis's, and the report the search's.
-use mathlib.Core.Path.{_≡_, sym, ap, _∙_}
+use mathlib.Core.Path.{sym, ap, _∙_}
 use Rattle.endgame.specs.Means.{made-number}
 use Rattle.line.specs.OutBytes.{out-of}
 use Rattle.line.proofs.Answered.{position-refused, position-searched}
