@@ -42,7 +42,8 @@ Of endgame it is two fields parted by tabs: a position's text; numbers parted by
     then of each listed move: move answer status
 
 made is 0 for an analysis, 14 for a refusal; answer is 0 for a move that is judged, 10 or 14 for a refusal. A refusal has
-the full set, and 14 no counts. Of a position that the Rust panics on no move is listed.
+the full set, and 14 no counts. Where the Rust lists no move, as where it panics, the first cell of the first
+board is judged.
 
 Of search a record is one memory and the searches that use it, one after the other; fields parted by tabs: the table's entries;
 the draw winner; the allowance; the answers remembered at the start, three numbers each (side that made the previous
@@ -225,17 +226,14 @@ def program(folders):
 def endgames(folder):
     for request, answer in pairs(folder, "endgame"):
         f = fields(answer)
-        moves = re.findall(r"([a-p]{2}):(\d+)", f.get("moves", ""))
-        if f["over"] == "1":
-            made, status, counts = 0, int(f["status"]), f["stats"].split(",")
-            judged = [(letters(m)[0], 10, 7) for m, _ in moves]
-        elif f["sound"] == "0":
-            made, status, counts = 14, 7, [0] * 6
-            judged = [(letters(m)[0], 14, 7) for m, _ in moves]
+        moves = re.findall(r"([a-p]{2}):(\d+)", f.get("moves", "")) or [("aa", None)]
+        refusal = 10 if f["over"] == "1" else 14 if f["sound"] == "0" else 0
+        if refusal == 14:
+            numbers = [14, 7] + [0] * 6
         else:
-            made, status, counts = 0, int(f["status"]), f["stats"].split(",")
-            judged = [(letters(m)[0], 0, int(b)) for m, b in moves]
-        numbers = [made, status, *counts, *(n for move in judged for n in move)]
+            numbers = [0, int(f["status"])] + [int(n) for n in f["stats"].split(",")]
+        for move, status in moves:
+            numbers += [letters(move)[0], refusal, 7 if refusal else int(status)]
         yield [request[1].decode(), " ".join(map(str, numbers))]
 
 
