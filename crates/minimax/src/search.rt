@@ -380,19 +380,19 @@ impl Ask {
     }
 
     // Stores what the search over the moves found, unless it was stopped.
-    fn leave(self, r: Found, words: &mut [u64])
+    fn leave(self, found: Found, words: &mut [u64])
         requires { ⌜ (0 < self .depth) × (self .depth ≤ 81) ⌝ }
-        ensures { λ _. ⌜ outcome-of self r (now (words .exit)) ≡ then-told self (outcome-of self r (now (words .entry))) ⌝ }
+        ensures { λ _. ⌜ outcome-of self found (now (words .exit)) ≡ then-told self (outcome-of self found (now (words .entry))) ⌝ }
     {
-        if r.stopped {
+        if found.stopped {
             return;
         }
         let game = self.game;
-        let line = r.line;
-        let bound = self.bound_of(r);
+        let line = found.line;
+        let bound = self.bound_of(found);
         let pv = line.first();
         let entry = Entry {
-            value: r.score,
+            value: found.score,
             depth: self.depth,
             bound,
             pv,

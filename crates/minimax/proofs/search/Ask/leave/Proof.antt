@@ -8,7 +8,7 @@ use Rattle.minimax.proofs.search.Ask.leave.Statement.{statement}
 use Rattle.minimax.proofs.search.Ask.leave.Tie as tie
 
 returns : tie.Need-returns
-returns c = told-nothing (c .before .before .args .self) (c .before .before .args .r) _ (c .if1 .taken)
+returns c = told-nothing (c .before .before .args .self) (c .before .before .args .found) _ (c .if1 .taken)
 
 bound-of-requires : tie.Need-bound-of-requires
 bound-of-requires c κs = search needs
@@ -28,8 +28,8 @@ same-length c = search needs
 returns-2 : tie.Need-returns-2
 returns-2 c =
     let s = c .before .before .before .before .before .before .before .before .before .before .before .before in
-    told-found (s .args .self) (s .args .r) _ _ _ (record { value = reads (s .args .r .score); depth = s .args .self .depth; bound = c .before .before .before .before .before .before .before .bound-of .result; pv = c .before .before .before .before .before .before .first .result }) (c .before .before .before .before .before .before .before .before .before .before .if1 .left) (c .before .before .before .zobrist .ensures) (c .before .before .store .ensures)
-    (told (s .args .r .score) (c .before .before .before .before .before .struct-told .given .1 .1 .0 .1)) refl (c .before .before .before .before .before .before .before .bound-of .ensures) (c .before .before .before .before .before .before .first .ensures _ (s .pre .0))
+    told-found (s .args .self) (s .args .found) _ _ _ (record { value = reads (s .args .found .score); depth = s .args .self .depth; bound = c .before .before .before .before .before .before .before .bound-of .result; pv = c .before .before .before .before .before .before .first .result }) (c .before .before .before .before .before .before .before .before .before .before .if1 .left) (c .before .before .before .zobrist .ensures) (c .before .before .store .ensures)
+    (told (s .args .found .score) (c .before .before .before .before .before .struct-told .given .1 .1 .0 .1)) refl (c .before .before .before .before .before .before .before .bound-of .ensures) (c .before .before .before .before .before .before .first .ensures _ (s .pre .0))
 
 pub leave-spec : {M : Type 1} → statement M
 leave-spec =
