@@ -1,4 +1,5 @@
 -- Each promise says the refusals of demand 1.
+use Rattle.demands.proofs.AskingLines.{asking-line-holds}
 use mathlib.Core.Path.{_≡_, refl, sym, ap, _∙_, subst}
 use mathlib.Core.Bool.{Bool, true, false, not, _||_, _&&_, and-false}
 use mathlib.Core.List.{List, [], _∷_, _++_}
@@ -774,4 +775,5 @@ demand-1 = record {
   endgame = analysing-holds;
   move-status = judging-holds;
   search = searching-holds;
+  program-line = asking-line-holds;
 }

@@ -2,5 +2,6 @@ pub mod Claims
 pub mod Lists
 pub mod AfterMoves
 pub mod Demand2
+pub mod AskingLines
 pub mod Demand1
 pub mod Twelve

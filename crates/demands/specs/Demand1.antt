@@ -1,12 +1,12 @@
 -- Demand 1: what each entry point refuses, by document 01's numbers in their order, and what it returns then. All else is accepted, with number 0.
 use mathlib.Core.Path.{_≡_}
 use mathlib.Core.Bool.{Bool, true, false, not, _||_, _&&_}
-use mathlib.Core.List.{List, [], _∷_}
+use mathlib.Core.List.{List, [], _∷_, _++_}
 use Prim.Native.Nat.{ℕ, suc, _+_, _-_, _%_}
 use lib.Dec.{T, eqb, ltb}
 use lib.IntN.{pos}
 use lib.ListN.{length, getD, replicate}
-use Rattle.base.specs.Lists.{any, from}
+use Rattle.base.specs.Lists.{any, elem, from}
 use Rattle.rules.specs.declared.Player.{Player}
 use Rattle.rules.specs.declared.Player.the-variants.{X, O}
 use Rattle.rules.specs.declared.CellState.the-variants.{Empty}
@@ -16,6 +16,7 @@ use Rattle.rules.specs.Play.{no-move, move-of, board-of, cell-of, after}
 use Rattle.rules.specs.Status.{unproven}
 use Rattle.rules.specs.Endgame.{no-stats as no-counts}
 use Rattle.text.specs.Reading.{sections}
+use Rattle.text.specs.ProgramLine.{asked, line-refusal, refusal-text}
 use Rattle.theory.specs.Memory.{fresh-memory}
 use Rattle.theory.specs.OrderedSearch.{unlimited}
 use Rattle.theory.specs.Deepening.{analyze}
@@ -51,6 +52,7 @@ use Rattle.minimax.specs.declared.Report.{Report}
 use Rattle.minimax.specs.Structs.{structs}
 use Rattle.minimax.specs.State.{bytes-of}
 use Rattle.minimax.specs.Report.{report-of, answer-of, reported-of}
+use Rattle.line.specs.Answered.{answer-line}
 
 -- the number n where the test passes, and else what the later tests say
 infixr 5 _when_else_
@@ -274,6 +276,22 @@ pub record ReadingPosition (text : List ℕ) (r : Parsed) : Type 0 where
   pub length-is : (e : ParseError) → r .answer ≡ Refused e → e .length ≡ fault-length text
   pub refused : (parse-number (r .answer) ≡ 0 → ⊥) → r .game ≡ new-game
 
+-- ---- a line of the program
+abbrev pub digit : ℕ → Bool
+digit c = not (ltb c 0x30) && not (ltb 0x39 c)
+
+abbrev pub one-or-two-digits : List ℕ → Bool
+one-or-two-digits [] = false
+one-or-two-digits (c ∷ []) = digit c
+one-or-two-digits (c ∷ d ∷ []) = digit c && digit d
+one-or-two-digits (c ∷ d ∷ e ∷ cs) = false
+
+-- 19 where there is no blank, or what follows the last one is not one or two digits; it comes before all other numbers
+pub record AskingLine (line : List ℕ) : Type 0 where
+  pub no-blank : T (not (elem 0x20 line)) → answer-line line ≡ refusal-text 19
+  pub no-depth : (text rest : List ℕ) → line ≡ text ++ (0x20 ∷ rest) → T (not (elem 0x20 rest)) → T (not (one-or-two-digits rest)) → answer-line line ≡ refusal-text 19
+  pub accepted : (text rest : List ℕ) → line ≡ text ++ (0x20 ∷ rest) → T (not (elem 0x20 rest)) → T (one-or-two-digits rest) → line-refusal (asked line) ≡ 0
+
 -- ---- the demand: of every value that a promise allows
 pub record Demand1 : Type 0 where
   pub position-text : (text : List ℕ) (r : Parsed) → Parses text r → ReadingPosition text r
@@ -286,3 +304,5 @@ pub record Demand1 : Type 0 where
   pub move-status : (g : Game) (m : Move) (r : MoveStatus) → Judges g m r → Judging g m r
   -- words and words' are the table's before and after
   pub search : (m : Minimax) (g : Game) (c : Config) (words : List ℕ) (r : Report) (words' : List ℕ) → report-of r words' ≡ reported-of m g c words → Searching m g c words (report-of r words')
+  -- of the bytes of a line, whose answer is `answer`'s by the law `line-is-answered`
+  pub program-line : (line : List ℕ) → AskingLine line
