@@ -1,26 +1,25 @@
 -- The value of a board: its score while it is in play and 20 for the side that has won it, at most 24 either way.
-use mathlib.Core.Path.{_≡_, refl, sym, ap, _∙_, subst}
+use mathlib.Core.Path.{_≡_, refl, sym, ap, _∙_}
 use mathlib.Core.Bool.{Bool, not, cond}
-use mathlib.Core.List.{List, [], _∷_, map}
-use Prim.Native.Nat.{ℕ, zero, suc, _+_, _*_, _≤_, _<_}
+use mathlib.Core.List.{map}
+use Prim.Native.Nat.{ℕ, zero, suc, _+_, _*_, _<_}
 use native.Mathlib.Omega.{arith}
-use lib.Dec.{T, leb, leb→le, le→leb}
-use lib.IntN.{ℤ, pos, negsuc, natAbs}
+use lib.Dec.{T}
+use lib.IntN.{ℤ, pos}
 use lib.ListN.{getD}
 use Rattle.base.specs.Branch.{if_then_else_}
 use Rattle.base.specs.Bits.{bit, digits}
 use Rattle.base.specs.Integers.{sum}
-use Rattle.base.specs.Lists.{all, from}
-use Rattle.base.proofs.Bool.{and→, →and}
+use Rattle.base.specs.Lists.{from}
 use Rattle.base.proofs.Integers.{hi, lo}
 use Rattle.rules.specs.declared.Player.the-variants.{X, O}
 use Rattle.rules.specs.declared.GameState.{GameState}
 use Rattle.rules.specs.declared.GameState.the-variants.{InPlay, Drawn, Won}
-use Rattle.rules.specs.Board.{in-play, won-by, nine, lines}
+use Rattle.rules.specs.Board.{in-play, won-by, lines}
 use Rattle.rules.specs.Position.{Position, has, won-boards}
 use Rattle.rules.specs.Evaluation.{board-line, board-score}
-use Rattle.rules.proofs.Evaluation.{Within, within-abs, within-pos, board-score-within}
-use Rattle.evaluation.specs.Values.{value-in, board-value, values-of, value-at, small-values}
+use Rattle.rules.proofs.Evaluation.{Within, within-pos, board-score-within}
+use Rattle.evaluation.specs.Values.{value-in, board-value, values-of, value-at}
 use Rattle.evaluation.proofs.Lines.{count-digits, sum-same}
 
 -- the lines of a board, by the nine digits of each side
@@ -55,7 +54,7 @@ module _ (p : Position) (b : ℕ) where
       go (Won X) e = rw (e tt)
       go (Won O) e = rw (e tt)
 
-  value-within : Within 24 (board-value p b)
+  pub value-within : Within 24 (board-value p b)
   unfolding board-value hi lo
   value-within = go (p .states b)
     where
@@ -66,29 +65,6 @@ module _ (p : Position) (b : ℕ) where
       go (Won O) = (omega arith, omega arith)
 
 -- ---- the nine values
-within-of : (k : ℕ) (z : ℤ) → natAbs z ≤ k → Within k z
-unfolding hi lo
-within-of k (pos n) h = (h, omega arith)
-within-of k (negsuc n) h = (omega arith, h)
-
-pub small-at : (values : List ℤ) (i : ℕ) → T (small-values values) → Within 24 (value-at values i)
-unfolding small-values all
-small-at [] i t = within-pos 24 0 (omega arith)
-small-at (z ∷ zs) zero t = within-of 24 z (leb→le (natAbs z) 24 (and→ (leb (natAbs z) 24) _ t .0))
-small-at (z ∷ zs) (suc i) t = small-at zs i (and→ (leb (natAbs z) 24) _ t .1)
-
-all-small : (p : Position) (bs : List ℕ) → T (small-values (map (board-value p) bs))
-unfolding small-values all
-all-small p [] = tt
-all-small p (b ∷ bs) = →and (leb (natAbs (board-value p b)) 24) _ (le→leb (natAbs (board-value p b)) 24 (within-abs 24 (board-value p b) (value-within p b))) (all-small p bs)
-
-values-small : (p : Position) → T (small-values (values-of p))
-unfolding values-of
-values-small p = all-small p nine
-
-pub small-of : (p : Position) (values : List ℤ) → values ≡ values-of p → T (small-values values)
-small-of p values e = subst (λ (zs : List ℤ). T (small-values zs)) (sym e) (values-small p)
-
 at-from : (f : ℕ → ℤ) (d : ℤ) (i n b : ℕ) → b < n → getD (map f (from i n)) b d ≡ f (i + b)
 at-from f d i zero b h = absurd (omega arith)
 at-from f d i (suc n) zero h = let e : i ≡ i + 0 = omega arith in ap f e

@@ -1,16 +1,21 @@
 -- The value of a finished game, and of one in play, for the side to move.
-use mathlib.Core.Path.{_≡_, refl, sym, ap, _∙_}
+use mathlib.Core.Path.{_≡_, refl, sym, ap}
+use mathlib.Core.Bool.{not}
+use mathlib.Core.List.{List}
 use Prim.Native.Nat.{ℕ}
-use lib.IntN.{pos, negℤ}
 use native.Mathlib.Omega.{arith}
+use lib.Dec.{T}
+use lib.IntN.{ℤ, pos}
+use Rattle.base.specs.Branch.{if_then_else_}
 use Rattle.rules.specs.declared.Player.{Player}
 use Rattle.rules.specs.declared.Player.the-variants.{X, O}
 use Rattle.rules.specs.declared.GameState.{GameState}
-use Rattle.rules.specs.declared.GameState.the-variants.{InPlay}
+use Rattle.rules.specs.declared.GameState.the-variants.{InPlay, Drawn, Won}
 use Rattle.rules.specs.declared.DrawWinner.{DrawWinner}
-use Rattle.rules.specs.Board.{side-number}
+use Rattle.rules.specs.Board.{side-number, in-play}
 use Rattle.rules.specs.Position.{Position}
-use Rattle.rules.specs.Evaluation.{won, lost, score, seen-by, draw-value, value-of, evaluate}
+use Rattle.rules.specs.Evaluation.{won, lost, seen-by, draw-value, value-of, evaluate}
+use Rattle.evaluation.specs.Values.{score-by, evaluate-by}
 
 -- by the numbers of the two sides
 pub won-same : (w t : Player) (m n : ℕ) → m ≡ side-number w → n ≡ side-number t → m ≡ n → won ≡ seen-by t (seen-by w won)
@@ -32,14 +37,15 @@ nothing O = refl
 pub drawn-as : (t : Player) (a b : DrawWinner) → a ≡ b → seen-by t (draw-value b) ≡ seen-by t (draw-value a)
 drawn-as t a b e = ap (λ (d : DrawWinner). seen-by t (draw-value d)) (sym e)
 
-module _ (d : DrawWinner) (p : Position) where
-  pub eval-in : (s : GameState) → p .state ≡ s → seen-by (p .turn) (value-of d p s) ≡ evaluate d p
-  unfolding evaluate
-  eval-in s e = ap (λ (s : GameState). seen-by (p .turn) (value-of d p s)) (sym e)
+module _ (d : DrawWinner) (p : Position) (values : List ℤ) where
+  -- a finished game
+  pub eval-ended : (s : GameState) → p .state ≡ s → T (not (in-play s)) → seen-by (p .turn) (value-of d p s) ≡ evaluate-by d p values
+  unfolding evaluate evaluate-by if_then_else_
+  eval-ended InPlay e t = absurd t
+  eval-ended Drawn e t = rw e
+  eval-ended (Won w) e t = rw e
 
-  -- in play, as X sees it and as O does
-  pub eval-x : p .state ≡ InPlay → p .turn ≡ X → score p ≡ evaluate d p
-  eval-x e f = ap (λ (t : Player). seen-by t (score p)) (sym f) ∙ eval-in InPlay e
-
-  pub eval-o : p .state ≡ InPlay → p .turn ≡ O → negℤ (score p) ≡ evaluate d p
-  eval-o e f = ap (λ (t : Player). seen-by t (score p)) (sym f) ∙ eval-in InPlay e
+  -- one in play, as the side to move sees it
+  pub eval-open : p .state ≡ InPlay → (t : Player) → p .turn ≡ t → seen-by t (score-by p values) ≡ evaluate-by d p values
+  unfolding evaluate-by if_then_else_
+  eval-open e t f = rw (e, f)

@@ -2,4 +2,5 @@ pub mod Signed
 pub mod Lines
 pub mod Boards
 pub mod Overall
+pub mod Carried
 pub mod Ends

@@ -1,6 +1,5 @@
 -- An overall line by the values of its three boards is the line of the definition, which counts won boards and adds scores.
 use mathlib.Core.Path.{_≡_, refl, ap, _∙_}
-use mathlib.Core.Bool.{Bool}
 use mathlib.Core.List.{List}
 use Prim.Native.Nat.{ℕ, _*_, _<_}
 use lib.Bits.{bitAnd}
@@ -8,27 +7,20 @@ use lib.Dec.{T}
 use lib.IntN.{ℤ, pos, negℤ, _+ℤ_, _-ℤ_, +ℤ-assoc}
 use Rattle.base.specs.Bits.{bit, digits}
 use Rattle.base.specs.Integers.{sum}
+use Rattle.base.proofs.Branch.{if-ind}
 use Rattle.base.proofs.Integers.{hi, lo, zarith, sm, ng}
 use Rattle.rules.specs.declared.Player.the-variants.{X, O}
-use Rattle.rules.specs.Board.{Line, lines}
-use Rattle.rules.specs.Position.{Position, won-boards}
-use Rattle.rules.specs.Evaluation.{count, board-score, overall-line, score}
-use Rattle.rules.proofs.Evaluation.{Within, within-+, within-unless}
-use Rattle.evaluation.specs.Values.{line-at, board-value, values-of, value-at, overall-value, small-values}
-use Rattle.evaluation.proofs.Signed.{Held, held}
+use Rattle.rules.specs.declared.GameState.{GameState}
+use Rattle.rules.specs.declared.GameState.the-variants.{InPlay, Drawn, Won}
+use Rattle.rules.specs.declared.DrawWinner.{DrawWinner}
+use Rattle.rules.specs.Board.{in-play, Line, lines}
+use Rattle.rules.specs.Position.{Position, going, won-boards}
+use Rattle.rules.specs.Evaluation.{count, board-score, overall-line, score, seen-by, value-of, evaluate}
+use Rattle.evaluation.specs.Values.{line-at, board-value, values-of, value-at, overall-value, score-by, evaluate-by}
 use Rattle.evaluation.proofs.Lines.{mask-at, place-at, places, low, count-digits, sum-same, none-there, some-there, both-sides, no-x, no-o}
-use Rattle.evaluation.proofs.Boards.{value-parts, small-at, nine-values}
-
--- at most three times 24
-pub overall-within : (xs os : ℕ → Bool) (values : List ℤ) → T (small-values values) → (l : Line) → Within 72 (overall-value xs os values l)
-unfolding overall-value
-overall-within xs os values t l = within-unless 72 (count xs l) (count os l) _
-    (within-+ 24 48 _ _ (small-at values (l .i) t) (within-+ 24 24 _ _ (small-at values (l .j) t) (small-at values (l .k) t)))
+use Rattle.evaluation.proofs.Boards.{value-parts, nine-values}
 
 -- ---- as the code finds it
-abbrev pub held-at : (values : List ℤ) (i j : ℕ) → T (small-values values) → Held 24
-held-at values i j t = held {r = value-at values (place-at i j)} refl (small-at values (place-at i j) t)
-
 module _ (i x o : ℕ) (values : List ℤ) (h : i < 8) where
   pub overall-both : (bitAnd x (mask-at i) ≡ 0 → ⊥) → (bitAnd o (mask-at i) ≡ 0 → ⊥) → pos 0 ≡ overall-value (bit x) (bit o) values (line-at i)
   unfolding overall-value
@@ -76,23 +68,33 @@ module _ (p : Position) where
         sm (s (l .j)) (s (l .k)),
       )
 
-  line-is : (x o : ℕ) → x ≡ digits (won-boards p X) 9 → o ≡ digits (won-boards p O) 9 → (i : ℕ) → i < 8
-      → overall-value (bit x) (bit o) (values-of p) (line-at i) ≡ overall-line (won-boards p X) (won-boards p O) s (line-at i)
+  line-is : (i : ℕ) → i < 8 → overall-value (won-boards p X) (won-boards p O) (values-of p) (line-at i) ≡ overall-line (won-boards p X) (won-boards p O) s (line-at i)
   unfolding overall-value overall-line
-  line-is x o e d i h =
+  line-is i h =
       let k = low i h in
       rw (
-        count-digits (won-boards p X) x i e h,
-        count-digits (won-boards p O) o i d h,
         nine-values p (line-at i .i) (k .0),
         nine-values p (line-at i .j) (k .1),
         nine-values p (line-at i .k) (k .2),
         three-boards (line-at i),
       )
 
-  pub score-is : (x o : ℕ) (values : List ℤ) → x ≡ digits (won-boards p X) 9 → o ≡ digits (won-boards p O) 9 → values ≡ values-of p
-      → sum (overall-value (bit x) (bit o) values) lines ≡ score p
-  unfolding score
-  score-is x o values e d f =
-      ap (λ (zs : List ℤ). sum (overall-value (bit x) (bit o) zs) lines) f
-      ∙ sum-same (overall-value (bit x) (bit o) (values-of p)) (overall-line (won-boards p X) (won-boards p O) s) (line-is x o e d)
+  score-is : score-by p (values-of p) ≡ score p
+  unfolding score-by score
+  score-is = sum-same (overall-value (won-boards p X) (won-boards p O) (values-of p)) (overall-line (won-boards p X) (won-boards p O) s) line-is
+
+  -- the lines, by the nine digits of each side's boards
+  pub score-bits : (x o : ℕ) (values : List ℤ) → x ≡ digits (won-boards p X) 9 → o ≡ digits (won-boards p O) 9 → sum (overall-value (bit x) (bit o) values) lines ≡ score-by p values
+  unfolding score-by overall-value
+  score-bits x o values e d = sum-same (overall-value (bit x) (bit o) values) (overall-value (won-boards p X) (won-boards p O) values)
+      (λ i h. rw (count-digits (won-boards p X) x i e h, count-digits (won-boards p O) o i d h))
+
+-- with its own values the evaluation is the definition's
+pub by-values : (d : DrawWinner) (p : Position) → evaluate-by d p (values-of p) ≡ evaluate d p
+unfolding evaluate-by evaluate
+by-values d p = if-ind (λ (z : ℤ). z ≡ evaluate d p) (going p) _ _ (λ t. ap (seen-by (p .turn)) (score-is p) ∙ in-play-score (p .state) t) (λ _. refl)
+  where
+    in-play-score : (s : GameState) → T (in-play s) → seen-by (p .turn) (score p) ≡ seen-by (p .turn) (value-of d p s)
+    in-play-score InPlay t = refl
+    in-play-score Drawn t = absurd t
+    in-play-score (Won w) t = absurd t

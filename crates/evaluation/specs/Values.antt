@@ -1,17 +1,18 @@
--- The values of the nine boards, and what an overall line gives by them.
+-- The values of the nine boards, and the evaluation by them.
 use mathlib.Core.Bool.{Bool}
 use mathlib.Core.List.{List, map}
 use Prim.Native.Nat.{ℕ}
-use lib.Dec.{leb}
-use lib.IntN.{ℤ, pos, negsuc, natAbs, _+ℤ_}
+use lib.IntN.{ℤ, pos, negsuc, _+ℤ_}
 use lib.ListN.{getD}
 use Rattle.rules.specs.declared.Player.the-variants.{X, O}
 use Rattle.rules.specs.declared.GameState.{GameState}
 use Rattle.rules.specs.declared.GameState.the-variants.{InPlay, Drawn, Won}
-use Rattle.base.specs.Lists.{all}
+use Rattle.rules.specs.declared.DrawWinner.{DrawWinner}
+use Rattle.base.specs.Branch.{if_then_else_}
+use Rattle.base.specs.Integers.{sum}
 use Rattle.rules.specs.Board.{nine, Line, line, lines}
-use Rattle.rules.specs.Position.{Position}
-use Rattle.rules.specs.Evaluation.{count, unless-both, board-score}
+use Rattle.rules.specs.Position.{Position, going, won-boards}
+use Rattle.rules.specs.Evaluation.{count, unless-both, board-score, seen-by, evaluate}
 
 -- line i of the eight
 abbrev pub line-at : ℕ → Line
@@ -38,6 +39,10 @@ unfoldable pub overall-value : (ℕ → Bool) → (ℕ → Bool) → List ℤ �
 overall-value xs os values l =
     unless-both (count xs l) (count os l) (value-at values (l .i) +ℤ (value-at values (l .j) +ℤ value-at values (l .k)))
 
--- no value is over 24 either way
-unfoldable pub small-values : List ℤ → Bool
-small-values values = all (λ z. leb (natAbs z) 24) values
+-- as X sees it
+unfoldable pub score-by : Position → List ℤ → ℤ
+score-by p values = sum (overall-value (won-boards p X) (won-boards p O) values) lines
+
+-- the evaluation, with boards that are said to have these values, which count in play alone
+unfoldable pub evaluate-by : DrawWinner → Position → List ℤ → ℤ
+evaluate-by draws p values = if going p then (λ _. seen-by (p .turn) (score-by p values)) else λ _. evaluate draws p

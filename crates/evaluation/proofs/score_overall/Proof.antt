@@ -1,10 +1,11 @@
--- The three values are within 24, and at most one side has a board of the line where they count.
+-- The three values are within 128, and at most one side has a board of the line where they count.
 use mathlib.Core.Path.{_∙_}
 use mathlib.Core.Logic.{⊎-elim}
 use native.Mathlib.Omega.{arith}
-use Rattle.evaluation.proofs.Signed.{Held, held-fits, held-reads, plus}
-use Rattle.evaluation.proofs.Lines.{place-low}
-use Rattle.evaluation.proofs.Overall.{held-at, overall-both, overall-x, overall-o}
+use Rattle.evaluation.specs.Values.{value-at}
+use Rattle.evaluation.proofs.Signed.{Held, held-wide, held-fits, held-reads, held-small, plus}
+use Rattle.evaluation.proofs.Lines.{place-at, place-low}
+use Rattle.evaluation.proofs.Overall.{overall-both, overall-x, overall-o}
 use borrow.Author.Needs.{needs}
 use Rattle.evaluation.proofs.score_overall.Statement.{statement}
 use Rattle.evaluation.proofs.score_overall.Tie as tie
@@ -15,72 +16,65 @@ mul-mask c = search needs
 array-read-mask : tie.Need-array-read-mask
 array-read-mask c = search needs
 
-mul-a : tie.Need-mul-a
-mul-a c = search needs
+mul-places : tie.Need-mul-places
+mul-places c = search needs
 
-index-1-a : tie.Need-index-1-a
-index-1-a c = search needs
+array-copy-out-places : tie.Need-array-copy-out-places
+array-copy-out-places c = search needs
 
-index-2-a : tie.Need-index-2-a
-index-2-a c = search needs
+array-read-a : tie.Need-array-read-a
+array-read-a c = search needs
 
-mul-b : tie.Need-mul-b
-mul-b c = search needs
+array-read-b : tie.Need-array-read-b
+array-read-b c = search needs
 
-index-1-b : tie.Need-index-1-b
-index-1-b c = search needs
-
-index-2-b : tie.Need-index-2-b
-index-2-b c = search needs
-
-mul-c : tie.Need-mul-c
-mul-c c = search needs
-
-index-1-c : tie.Need-index-1-c
-index-1-c c = search needs
-
-index-2-c : tie.Need-index-2-c
-index-2-c c = search needs
+array-read-c : tie.Need-array-read-c
+array-read-c c = search needs
 
 returns : tie.Need-returns
-returns c = overall-both _ _ _ _ (c .before .before .before .before .before .pre .0) (c .before .if1 .taken) (c .if2 .taken)
+returns c = (overall-both _ _ _ _ (c .before .before .before .pre) (c .before .if1 .taken) (c .if2 .taken), omega arith)
 
-mul-result : tie.Need-mul-result
-mul-result c = let s = c .before .before .before .before in record { fits = omega (arith, place-low (s .args .i) (s .pre .0)) }
+array-copy-out-wide : tie.Need-array-copy-out-wide
+array-copy-out-wide c = let s = c .before .before in place-low (s .args .i) (s .pre) .0
 
-array-copy-out-result : tie.Need-array-copy-out-result
-array-copy-out-result c = let s = c .before .before .before .before in place-low (s .args .i) (s .pre .0) .0
+wide-requires : tie.Need-wide-requires
+wide-requires c κs = search needs
 
-mul-result-2 : tie.Need-mul-result-2
-mul-result-2 c = let s = c .before .before .before .before .before in record { fits = omega (arith, place-low (s .args .i) (s .pre .0)) }
+array-copy-out-wide-2 : tie.Need-array-copy-out-wide-2
+array-copy-out-wide-2 c = let s = c .before .before .before .before in place-low (s .args .i) (s .pre) .1
 
-array-copy-out-result-2 : tie.Need-array-copy-out-result-2
-array-copy-out-result-2 c = let s = c .before .before .before .before .before in place-low (s .args .i) (s .pre .0) .1
+wide-requires-2 : tie.Need-wide-requires-2
+wide-requires-2 c κs = search needs
 
-abbrev to-2 : tie.After-result2 → Held 48
+abbrev to-2 : tie.After-wide2 → Held 256
 to-2 c =
-    let s = c .before .before .before .before .before .before in
-    plus (held-at (s .args .t4) (s .args .i) 0 (s .pre .1)) (held-at (s .args .t4) (s .args .i) 1 (s .pre .1)) tt tt
+    let d = c .before .before in
+    let a = d .before .before .before .before .args in
+    plus (held-wide (value-at (a .t4) (place-at (a .i) 0)) (d .wide .ensures) (d .before .wide-arg .given))
+    (held-wide (value-at (a .t4) (place-at (a .i) 1)) (c .wide2 .ensures) (c .before .wide-arg2 .given)) tt tt
 
 add-result : tie.Need-add-result
 add-result c = held-fits (to-2 c) tt
 
-mul-result-3 : tie.Need-mul-result-3
-mul-result-3 c = let s = c .before .before .before .before .before .before in record { fits = omega (arith, place-low (s .args .i) (s .pre .0)) }
+array-copy-out-wide-3 : tie.Need-array-copy-out-wide-3
+array-copy-out-wide-3 c = let s = c .before .before .before .before .before .before in place-low (s .args .i) (s .pre) .2
 
-array-copy-out-result-3 : tie.Need-array-copy-out-result-3
-array-copy-out-result-3 c = let s = c .before .before .before .before .before .before in place-low (s .args .i) (s .pre .0) .2
+wide-requires-3 : tie.Need-wide-requires-3
+wide-requires-3 c κs = search needs
 
-abbrev to-3 : tie.After-result3 → Held 72
-to-3 c = let s = c .before .before .before .before .before .before .before in plus (to-2 (c .before)) (held-at (s .args .t4) (s .args .i) 2 (s .pre .1)) tt tt
+abbrev to-3 : tie.After-wide3 → Held 384
+to-3 c =
+    let a = c .before .before .before .before .before .before .before .before .args in
+    plus (to-2 (c .before .before)) (held-wide (value-at (a .t4) (place-at (a .i) 2)) (c .wide3 .ensures) (c .before .wide-arg3 .given)) tt tt
 
 add-result-2 : tie.Need-add-result-2
 add-result-2 c = held-fits (to-3 c) tt
 
 returns-2 : tie.Need-returns-2
 returns-2 c =
-    let h = c .before .before .before .before .before .before .before .pre .0 in
-    held-reads (to-3 c) tt ∙ ⊎-elim (λ w. overall-x _ _ _ _ h (w .1 .left)) (λ w. overall-o _ _ _ _ h (w .left)) (c .before .before .before .if1 .came)
+    let j = c .before .before .before .before .before .before in
+    let h = j .before .before .pre in
+    (held-reads (to-3 c) tt ∙ ⊎-elim (λ w. overall-x _ _ _ _ h (w .1 .left)) (λ w. overall-o _ _ _ _ h (w .left)) (j .if1 .came), held-small (to-3 c) tt)
 
 pub score-overall-spec : {M : Type 1} → statement M
 score-overall-spec =
@@ -88,22 +82,18 @@ score-overall-spec =
     (tie.spec
     mul-mask
     array-read-mask
-    mul-a
-    index-1-a
-    index-2-a
-    mul-b
-    index-1-b
-    index-2-b
-    mul-c
-    index-1-c
-    index-2-c
+    mul-places
+    array-copy-out-places
+    array-read-a
+    array-read-b
+    array-read-c
     returns
-    mul-result
-    array-copy-out-result
-    mul-result-2
-    array-copy-out-result-2
+    array-copy-out-wide
+    wide-requires
+    array-copy-out-wide-2
+    wide-requires-2
     add-result
-    mul-result-3
-    array-copy-out-result-3
+    array-copy-out-wide-3
+    wide-requires-3
     add-result-2
     returns-2)

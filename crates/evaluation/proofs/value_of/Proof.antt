@@ -2,8 +2,8 @@
 use mathlib.Core.Path.{sym, ap, _∙_}
 use Rattle.rules.specs.declared.GameState.the-variants.{Won}
 use Rattle.game.specs.Meaning.{position-of}
-use Rattle.evaluation.proofs.Signed.{result}
-use Rattle.evaluation.proofs.Boards.{value-is, value-open}
+use Rattle.evaluation.proofs.Signed.{Held, held, held-narrows, held-narrowed}
+use Rattle.evaluation.proofs.Boards.{value-is, value-open, value-within}
 use borrow.Author.Needs.{needs}
 use Rattle.evaluation.proofs.value_of.Statement.{statement}
 use Rattle.evaluation.proofs.value_of.Tie as tie
@@ -16,6 +16,14 @@ enum-told c = search needs
 
 score-board-requires : tie.Need-score-board-requires
 score-board-requires c κs = search needs
+
+abbrev scored : tie.After-score-board → Held 24
+scored c =
+    let p = position-of (c .before .before .before .before .before .before .args .g) in
+    held (c .score-board .ensures ∙ value-open p _ (sym (c .before .before .before .at .ensures) ∙ c .before .enum-told .given .1)) (value-within p _)
+
+cast-result : tie.Need-cast-result
+cast-result c = held-narrows (scored c) tt tt
 
 enum-told-2 : tie.Need-enum-told-2
 enum-told-2 c = search needs
@@ -33,7 +41,7 @@ sub-result : tie.Need-sub-result
 sub-result c = search needs
 
 returns : tie.Need-returns
-returns c = result (c .score-board .ok) (c .score-board .ensures) ∙ value-open (position-of (c .before .before .before .before .before .before .args .g)) _ (sym (c .before .before .before .at .ensures) ∙ c .before .enum-told .given .1)
+returns c = held-narrowed (scored c) tt tt
 
 returns-2 : tie.Need-returns-2
 returns-2 c = value-is (position-of (c .before .before .before .before .before .args .g)) _ _ (sym (c .before .before .at .ensures) ∙ c .enum-told2 .given .1)
@@ -51,6 +59,7 @@ value-of-spec =
     at-requires
     enum-told
     score-board-requires
+    cast-result
     enum-told-2
     enum-known-state
     enum-told-3

@@ -2,10 +2,10 @@
 use mathlib.Core.Path.{refl, ap₂}
 use mathlib.Core.List.{_∷_}
 use Rattle.evaluation.specs.Values.{values-of}
-use Rattle.evaluation.proofs.Signed.{result}
+use Rattle.evaluation.proofs.Signed.{result8}
 use borrow.Author.Needs.{needs}
-use Rattle.evaluation.proofs.all_values.Statement.{statement}
-use Rattle.evaluation.proofs.all_values.Tie as tie
+use Rattle.evaluation.proofs.Values.new.Statement.{statement}
+use Rattle.evaluation.proofs.Values.new.Tie as tie
 
 value-of-requires : tie.Need-value-of-requires
 value-of-requires c κs = search needs
@@ -45,18 +45,18 @@ returns c =
     let c3 = c4 .before in
     let c2 = c3 .before in
     let c1 = c2 .before in
-    ap₂ _∷_ (result (c1 .value-of .ok) (c1 .value-of .ensures))
-    (ap₂ _∷_ (result (c2 .value-of2 .ok) (c2 .value-of2 .ensures))
-    (ap₂ _∷_ (result (c3 .value-of3 .ok) (c3 .value-of3 .ensures))
-    (ap₂ _∷_ (result (c4 .value-of4 .ok) (c4 .value-of4 .ensures))
-    (ap₂ _∷_ (result (c5 .value-of5 .ok) (c5 .value-of5 .ensures))
-    (ap₂ _∷_ (result (c6 .value-of6 .ok) (c6 .value-of6 .ensures))
-    (ap₂ _∷_ (result (c7 .value-of7 .ok) (c7 .value-of7 .ensures))
-    (ap₂ _∷_ (result (c8 .value-of8 .ok) (c8 .value-of8 .ensures))
-    (ap₂ _∷_ (result (c .value-of9 .ok) (c .value-of9 .ensures)) refl))))))))
+    ap₂ _∷_ (result8 (c1 .value-of .ok) (c1 .value-of .ensures))
+    (ap₂ _∷_ (result8 (c2 .value-of2 .ok) (c2 .value-of2 .ensures))
+    (ap₂ _∷_ (result8 (c3 .value-of3 .ok) (c3 .value-of3 .ensures))
+    (ap₂ _∷_ (result8 (c4 .value-of4 .ok) (c4 .value-of4 .ensures))
+    (ap₂ _∷_ (result8 (c5 .value-of5 .ok) (c5 .value-of5 .ensures))
+    (ap₂ _∷_ (result8 (c6 .value-of6 .ok) (c6 .value-of6 .ensures))
+    (ap₂ _∷_ (result8 (c7 .value-of7 .ok) (c7 .value-of7 .ensures))
+    (ap₂ _∷_ (result8 (c8 .value-of8 .ok) (c8 .value-of8 .ensures))
+    (ap₂ _∷_ (result8 (c .value-of9 .ok) (c .value-of9 .ensures)) refl))))))))
 
-pub all-values-spec : {M : Type 1} → statement M
-all-values-spec =
+pub new-spec : {M : Type 1} → statement M
+new-spec =
     tie.close
     (tie.spec
     value-of-requires
