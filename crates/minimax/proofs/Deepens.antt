@@ -22,6 +22,9 @@ use Rattle.minimax.specs.declared.Minimax.{Minimax}
 use Rattle.minimax.specs.declared.Depths.{Depths}
 use Rattle.minimax.specs.declared.search.Search.{Search}
 use Rattle.minimax.specs.declared.search.Line.{Line}
+use Rattle.game.specs.Meaning.{position-of}
+use Rattle.evaluation.specs.declared.Values.{Values}
+use Rattle.evaluation.specs.Values.{values-of}
 use Rattle.minimax.specs.declared.search.Ask.{Ask}
 use Rattle.minimax.specs.declared.search.Found.{Found}
 use Rattle.minimax.specs.Structs.{structs}
@@ -67,12 +70,12 @@ module _ (g : Game) (c : Config) (words₀ : List ℕ) (whole₀ : Depths) (s₀
       ap (λ (k : ℕ). deepen (structs (c .«draw_winner»)) (at-most (c .allowance)) k g (whole-of whole) (memory-of s words)) e ∙ going .same
 
   -- one depth more
-  module _ (most : c .«max_depth» ≤ 81) (allowance : c .allowance ≤ 1000000000) (more : whole .depth < c .«max_depth») (ask : Ask)
-      (ask-is : ask ≡ record { game = g; depth = whole .depth + 1; alpha = lowest; beta = highest; prev = record { bits = no-move }; «draw_winner» = c .«draw_winner»; allowance = c .allowance })
+  module _ (most : c .«max_depth» ≤ 81) (allowance : c .allowance ≤ 1000000000) (more : whole .depth < c .«max_depth») (values : Values) (valued : values .boards ≡ values-of (position-of g)) (ask : Ask)
+      (ask-is : ask ≡ record { game = g; depth = whole .depth + 1; alpha = lowest; beta = highest; prev = record { bits = no-move }; «draw_winner» = c .«draw_winner»; allowance = c .allowance; values = values })
       (t : Search) (begun : (ws : List ℕ) → memory-of t ws ≡ begin (memory-of s ws)) where
     pub ask-asked : Asked ask
     unfolding hi lo
-    ask-asked = subst Asked (sym ask-is) (record { deep = omega arith; alpha-within = record { low = omega zarith; high = omega zarith }; beta-within = record { low = omega zarith; high = omega zarith }; allowed = allowance })
+    ask-asked = subst Asked (sym ask-is) (record { valued = valued; deep = omega arith; alpha-within = record { low = omega zarith; high = omega zarith }; beta-within = record { low = omega zarith; high = omega zarith }; allowed = allowance })
 
     pub ask-counted : Counted ask t
     unfolding begin

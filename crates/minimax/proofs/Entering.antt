@@ -1,4 +1,4 @@
--- Entering a position: each of the five ways out of it is an arm of the definition, and each count is paid for by the position entered.
+-- Entering a position: each way on from there is an arm of the definition, and each count is paid for by the position entered.
 use mathlib.Core.Path.{_≡_, refl, sym, ap, ap₂, _∙_, subst}
 use mathlib.Core.Bool.{Bool, true, false, not, _||_, true≢false, false≢true}
 use mathlib.Core.List.{List, []}
@@ -27,8 +27,7 @@ use Rattle.minimax.specs.declared.search.Search.{Search}
 use Rattle.minimax.specs.declared.search.Line.{Line}
 use Rattle.minimax.specs.declared.search.Ask.{Ask}
 use Rattle.minimax.specs.declared.search.Found.{Found}
-use Rattle.minimax.specs.declared.search.Entered.{Entered}
-use Rattle.minimax.specs.State.{memory-of, line-of, asked-game, searched, over-left, over-all, then-told, Counted, Ready, Gives, Enters}
+use Rattle.minimax.specs.State.{memory-of, line-of, asked-game, searched, over-left, over-all, outcome-of, then-told, Asked, Counted, Ready, Gives}
 use Rattle.minimax.proofs.Outcomes.{outcome-stopped, outcome-found}
 use Rattle.order.proofs.Orders.{emptied}
 use Rattle.minimax.proofs.Lines.{set-first-place, set-first-drop, empty-places}
@@ -70,110 +69,169 @@ paid-ready a s t k few counted more deep h = record {
   room = omega (arith, h .count-is, h .cuts-is, counted .cuts-within);
 }
 
--- ---- the ways out
-module _ (a : Ask) (s : Search) (l : Line) (words : List ℕ) (e : Entered) where
-  answers : (f : Found) → (e .answered ≡ true) × (e .found ≡ f) → Gives a l f words (searched a s l words) → Enters a s l words e
-  answers f p g = record {
-    at-once = λ _. subst (λ (x : Found). Gives a l x words (searched a s l words)) (sym (p .1)) g;
-    goes-on = λ q. absurd (true≢false (sym (p .0) ∙ q));
-    line-kept = λ q. absurd (true≢false (sym (p .0) ∙ q));
-    ready = λ q. absurd (true≢false (sym (p .0) ∙ q));
-  }
+-- ---- what is given at once
+more-is : (a : Ask) (s : Search) → s .count < a .allowance → one-more (at-most (a .allowance)) (s .count) ≡ true
+more-is a s more = lt-ltb (s .count) (a .allowance) more
 
+module _ (a : Ask) (s : Search) (l : Line) (words : List ℕ) where
   -- no position more may be entered
-  pub enter-stopped : (f : Found) → a .allowance ≤ s .count → f ≡ record { state = s; line = l; score = pos 0; stopped = true } → (e .answered ≡ true) × (e .found ≡ f) → Enters a s l words e
+  pub stop-gives : (f : Found) → a .allowance ≤ s .count → f ≡ record { state = s; line = l; score = pos 0; stopped = true } → Gives a l f words (searched a s l words)
   unfolding searched
-  enter-stopped f h q p = answers f p (subst (λ (x : Found). Gives a l x words (searched a s l words)) (sym q) (record {
+  stop-gives f h q = subst (λ (x : Found). Gives a l x words (searched a s l words)) (sym q) (record {
     same = outcome-stopped a _ words refl ∙ sym (search-stopped _ _ _ _ _ _ _ _ _ (le-ltb (s .count) (a .allowance) h));
     places = λ z. absurd (true≢false z);
-  }))
+  })
 
-  module _ (more : s .count < a .allowance) (s₁ : Search) (entered : (ws : List ℕ) → memory-of s₁ ws ≡ enter (memory-of s ws)) where
-    one-more-is : one-more (at-most (a .allowance)) (memory-of s words .count) ≡ true
-    one-more-is = lt-ltb (s .count) (a .allowance) more
-
-    -- a leaf
+  module _ (more : s .count < a .allowance) where
     leaf-is : (z : (eqb (a .depth) 0 || not (going (position-of (a .game)))) ≡ true) → searched a s l words ≡ found (evaluate (a .«draw_winner») (position-of (a .game))) (line-of l (a .depth)) (leaf (enter (memory-of s words)))
     unfolding searched
     leaf-is = go (eqb (a .depth) 0) refl
       where
         go : (x : Bool) → eqb (a .depth) 0 ≡ x → (x || not (going (position-of (a .game)))) ≡ true → search (asked-game a) (at-most (a .allowance)) (a .depth) (a .game) (a .alpha) (a .beta) (line-of l (a .depth)) (a .prev .bits) (memory-of s words) ≡ found (evaluate (a .«draw_winner») (position-of (a .game))) (line-of l (a .depth)) (leaf (enter (memory-of s words)))
-        go true x z = search-leaf-zero _ _ _ _ _ _ _ _ _ one-more-is (eqb-true (a .depth) 0 x)
-        go false x z = search-leaf-over _ _ _ _ _ _ _ _ _ one-more-is z
+        go true x z = search-leaf-zero _ _ _ _ _ _ _ _ _ (more-is a s more) (eqb-true (a .depth) 0 x)
+        go false x z = search-leaf-over _ _ _ _ _ _ _ _ _ (more-is a s more) z
 
-    pub enter-leaf : (x : Bool) → x ≡ (eqb (a .depth) 0 || not (going (position-of (a .game)))) → x ≡ true → (s₂ : Search) → ((ws : List ℕ) → memory-of s₂ ws ≡ leaf (memory-of s₁ ws))
-        → (f : Found) → f ≡ record { state = s₂; line = l; score = evaluate (a .«draw_winner») (position-of (a .game)); stopped = false } → (e .answered ≡ true) × (e .found ≡ f) → Enters a s l words e
-    enter-leaf x t u s₂ w f q p = answers f p (subst (λ (y : Found). Gives a l y words (searched a s l words)) (sym q) (record {
+    -- a leaf
+    pub leaf-gives : (s₁ : Search) → ((ws : List ℕ) → memory-of s₁ ws ≡ enter (memory-of s ws)) → (s₂ : Search) → ((ws : List ℕ) → memory-of s₂ ws ≡ leaf (memory-of s₁ ws))
+        → (x : Bool) → x ≡ (eqb (a .depth) 0 || not (going (position-of (a .game)))) → x ≡ true
+        → (f : Found) → f ≡ record { state = s₂; line = l; score = evaluate (a .«draw_winner») (position-of (a .game)); stopped = false } → Gives a l f words (searched a s l words)
+    leaf-gives s₁ entered s₂ w x t u f q = subst (λ (y : Found). Gives a l y words (searched a s l words)) (sym q) (record {
       same = outcome-found a _ words refl
           ∙ ap (λ (m : Memory). found (evaluate (a .«draw_winner») (position-of (a .game))) (line-of l (a .depth)) m) (w words ∙ ap leaf (entered words))
           ∙ sym (leaf-is (sym t ∙ u));
       places = λ _. refl;
-    }))
+    })
 
-    -- ---- the table is asked
-    module _ (x : Bool) (xe : x ≡ (eqb (a .depth) 0 || not (going (position-of (a .game))))) (xf : x ≡ false) where
-      not-leaf : (eqb (a .depth) 0 ≡ false) × (not (going (position-of (a .game))) ≡ false)
-      not-leaf = neither (eqb (a .depth) 0) _ (sym xe ∙ xf)
-        where
-          neither : (b c : Bool) → (b || c) ≡ false → (b ≡ false) × (c ≡ false)
-          neither true c q = absurd (true≢false q)
-          neither false c q = (refl, q)
+-- ---- a position that may be entered, and the state after it is counted
+pub record Begun : Type 0 where
+  pub a : Ask
+  pub s : Search
+  pub l : Line
+  pub words : List ℕ
+  pub asked : Asked a
+  pub counted : Counted a s
+  pub more : s .count < a .allowance
+  pub s₁ : Search
+  pub entered : (ws : List ℕ) → memory-of s₁ ws ≡ enter (memory-of s ws)
 
-      pub deep-enough : 0 < a .depth
-      deep-enough = let n = eqb-false (a .depth) 0 (not-leaf .0) in omega arith
+-- it is no leaf, and the table is asked
+pub record Looked (c : Begun) : Type 0 where
+  pub x : Bool
+  pub told-leaf : x ≡ (eqb (c .a .depth) 0 || not (going (position-of (c .a .game))))
+  pub no-leaf : x ≡ false
+  pub held : Held
+  pub key : ℕ
+  pub key-is : key ≡ asked-game (c .a) .key (c .a .game)
+  pub looked : held-means held ≡ look-up (c .words) key
 
-      module _ (fits : a .depth ≤ 81) (held : Held) (key : ℕ) (key-is : key ≡ asked-game a .key (a .game)) (looked : held-means held ≡ look-up words key) where
-        look-up-is : (o : Option Meant) → held-means held ≡ o → look-up words (asked-game a .key (a .game)) ≡ o
-        look-up-is o q = ap (look-up words) (sym key-is) ∙ sym looked ∙ q
+-- the table has an entry
+pub record Knows {c : Begun} (k : Looked c) : Type 0 where
+  pub entry : Entry
+  pub is-held : k .held ≡ Holds entry
+  pub s₂ : Search
+  pub was-hit : (ws : List ℕ) → memory-of s₂ ws ≡ hit (memory-of (c .s₁) ws)
+  pub b : Bool
+  pub told-suffices : b ≡ suffices (entry-means entry) (c .a .depth) (c .a .alpha) (c .a .beta)
 
-        -- over all moves, from the memory m
-        abbrev from-memory : List ℕ → Memory → Outcome
-        from-memory ms m = unless-stopped
-            (over-moves (asked-game a) (search (asked-game a) (at-most (a .allowance)) (a .depth - 1)) (a .game) (a .beta) (a .prev .bits) ms (a .alpha) (line-of l (a .depth)) (replicate (a .depth - 1) no-move) m)
-            (λ r line m'. found r line (told m' (asked-game a .key (a .game)) (a .depth) (a .alpha) (a .beta) r line))
+-- what is left to search, with the table's move, from the state t
+pub record Goes (c : Begun) (first : Move) (t : Search) : Type 0 where
+  pub ready : Ready (c .a) t
+  pub same : then-told (c .a) (over-all (c .a) first t (c .l) (c .words)) ≡ searched (c .a) (c .s) (c .l) (c .words)
 
-        abbrev tried : List ℕ → Memory → List ℕ
-        tried first m = candidates (asked-game a) first m (a .game) (a .prev .bits) (line-of l (a .depth))
+-- ---- each count has room
+pub may-enter : (a : Ask) (s : Search) → Asked a → Counted a s → s .count < a .allowance → (s .count < 1000000000) × (s .visited < 1000000000)
+may-enter a s asked counted more = (omega (arith, asked .allowed), omega (arith, counted .visited-within, asked .allowed))
 
-        over-same : (first : Move) (s₂ : Search) (m : Memory) → memory-of s₂ words ≡ m → then-told a (over-all a first s₂ l words) ≡ from-memory (tried (some-move (first .bits)) m) m
-        unfolding then-told over-all over-left
-        over-same first s₂ m q = λ i. unless-stopped
-            (over-moves (asked-game a) (search (asked-game a) (at-most (a .allowance)) (a .depth - 1)) (a .game) (a .beta) (a .prev .bits) (tried (some-move (first .bits)) (q i)) (a .alpha) (line-of l (a .depth)) (sym (empty-places (a .depth - 1) 81 (omega arith)) i) (q i))
-            (λ r line m'. found r line (told m' (asked-game a .key (a .game)) (a .depth) (a .alpha) (a .beta) r line))
+module _ (c : Begun) where
+  paid : Paid 0 (c .s) (memory-of (c .s₁) [])
+  paid = entered-paid (c .s) (c .s₁) (c .entered [])
 
-        unanswered : (first : Move) (s₂ : Search) → Ready a s₂ → then-told a (over-all a first s₂ l words) ≡ searched a s l words → (e .answered ≡ false) × (e .first ≡ first) × (e .found .state ≡ s₂) × (e .found .line ≡ l) → Enters a s l words e
-        unanswered first s₂ r o p = record {
-          at-once = λ q. absurd (false≢true (sym (p .0) ∙ q));
-          goes-on = λ _. (λ i. then-told a (over-all a (p .1 i) (p .2 i) (p .3 i) words)) ∙ o;
-          line-kept = λ _. p .3;
-          ready = λ _. subst (Ready a) (sym (p .2)) r;
-        }
+  pub may-leaf : c .s₁ .terminal < 1000000000
+  may-leaf = omega (arith, paid .terminal-is, c .counted .terminal-within, c .more, c .asked .allowed)
 
-        -- it knows nothing
-        pub enter-none : Counted a s → held ≡ Absent → (first : Move) → first .bits ≡ no-move → (e .answered ≡ false) × (e .first ≡ first) × (e .found .state ≡ s₁) × (e .found .line ≡ l) → Enters a s l words e
-        unfolding searched
-        enter-none counted h first n p = unanswered first s₁ (paid-ready a s s₁ 0 (omega arith) counted more deep-enough (entered-paid s s₁ (entered [])))
-            (over-same first s₁ _ (entered words) ∙ ap (λ (ms : List ℕ). from-memory (tried ms (enter (memory-of s words))) (enter (memory-of s words))) (emptied (first .bits) n)
-            ∙ sym (search-none _ _ _ _ _ _ _ _ _ one-more-is deep-enough (not-leaf .1) (look-up-is none (ap held-means h))))
-            p
+  pub may-hit : c .s₁ .«tt_hit» < 1000000000
+  may-hit = omega (arith, paid .hits-is, c .counted .hits-within, c .more, c .asked .allowed)
 
-        module _ (entry : Entry) (h : held ≡ Holds entry) (s₂ : Search) (was-hit : (ws : List ℕ) → memory-of s₂ ws ≡ hit (memory-of s₁ ws)) (b : Bool) (be : b ≡ suffices (entry-means entry) (a .depth) (a .alpha) (a .beta)) where
-          -- what it knows suffices
-          pub enter-known : b ≡ true → (s₃ : Search) → ((ws : List ℕ) → memory-of s₃ ws ≡ answered (memory-of s₂ ws))
-              → (f : Found) → f ≡ record { state = s₃; line = record { moves = set (l .moves) 0 (entry .pv) }; score = entry .value; stopped = false } → (e .answered ≡ true) × (e .found ≡ f) → Enters a s l words e
-          unfolding searched
-          enter-known t s₃ w f q p = answers f p (subst (λ (y : Found). Gives a l y words (searched a s l words)) (sym q) (record {
-            same = outcome-found a _ words refl
-                ∙ ap₂ (λ (line : List ℕ) (m : Memory). found (entry .value) line m) (set-first-place (l .moves) (entry .pv) (a .depth)) (w words ∙ ap answered (was-hit words ∙ ap hit (entered words)))
-                ∙ sym (search-known _ _ _ _ _ _ _ _ _ one-more-is deep-enough (not-leaf .1) (entry-means entry) (look-up-is _ (ap held-means h)) (sym be ∙ t));
-            places = λ _. set-first-drop (l .moves) (entry .pv) (a .depth) deep-enough;
-          }))
+  pub may-suffice : (s₂ : Search) → memory-of s₂ [] ≡ hit (memory-of (c .s₁) []) → s₂ .«tt_suffice» < 1000000000
+  may-suffice s₂ e = omega (arith, hit-paid (c .s) (c .s₁) (c .entered []) s₂ e .suffice-is, c .counted .suffice-within, c .more, c .asked .allowed)
 
-          -- it does not
-          pub enter-some : Counted a s → b ≡ false → (first : Move) → first ≡ entry .pv → (e .answered ≡ false) × (e .first ≡ first) × (e .found .state ≡ s₂) × (e .found .line ≡ l) → Enters a s l words e
-          unfolding searched
-          enter-some counted t first n p = unanswered first s₂ (paid-ready a s s₂ 1 (omega arith) counted more deep-enough (hit-paid s s₁ (entered []) s₂ (was-hit [])))
-              (over-same first s₂ _ (was-hit words ∙ ap hit (entered words))
-              ∙ ap (λ (ms : List ℕ). from-memory ms (hit (enter (memory-of s words)))) (ap (λ (m : Move). tried (some-move (m .bits)) (hit (enter (memory-of s words)))) n ∙ sym (candidates-some (asked-game a) (hit (enter (memory-of s words))) (a .game) (a .prev .bits) (line-of l (a .depth)) (entry .pv .bits) (none-refused a)))
-              ∙ sym (search-some _ _ _ _ _ _ _ _ _ one-more-is deep-enough (not-leaf .1) (entry-means entry) (look-up-is _ (ap held-means h)) (sym be ∙ t)))
-              p
+-- ---- the table is asked
+module _ {c : Begun} (k : Looked c) where
+  abbrev a : Ask
+  a = c .a
+
+  not-leaf : (eqb (a .depth) 0 ≡ false) × (not (going (position-of (a .game))) ≡ false)
+  not-leaf = neither (eqb (a .depth) 0) _ (sym (k .told-leaf) ∙ k .no-leaf)
+    where
+      neither : (b c : Bool) → (b || c) ≡ false → (b ≡ false) × (c ≡ false)
+      neither true c q = absurd (true≢false q)
+      neither false c q = (refl, q)
+
+  pub deep-enough : 0 < a .depth
+  deep-enough = let n = eqb-false (a .depth) 0 (not-leaf .0) in omega arith
+
+  look-up-is : (o : Option Meant) → held-means (k .held) ≡ o → look-up (c .words) (asked-game a .key (a .game)) ≡ o
+  look-up-is o q = ap (look-up (c .words)) (sym (k .key-is)) ∙ sym (k .looked) ∙ q
+
+  -- over all moves, from the memory m
+  abbrev from-memory : List ℕ → Memory → Outcome
+  from-memory ms m = unless-stopped
+      (over-moves (asked-game a) (search (asked-game a) (at-most (a .allowance)) (a .depth - 1)) (a .game) (a .beta) (a .prev .bits) ms (a .alpha) (line-of (c .l) (a .depth)) (replicate (a .depth - 1) no-move) m)
+      (λ r line m'. found r line (told m' (asked-game a .key (a .game)) (a .depth) (a .alpha) (a .beta) r line))
+
+  abbrev tried : List ℕ → Memory → List ℕ
+  tried first m = candidates (asked-game a) first m (a .game) (a .prev .bits) (line-of (c .l) (a .depth))
+
+  over-same : (first : Move) (s₂ : Search) (m : Memory) → memory-of s₂ (c .words) ≡ m → then-told a (over-all a first s₂ (c .l) (c .words)) ≡ from-memory (tried (some-move (first .bits)) m) m
+  unfolding then-told over-all over-left
+  over-same first s₂ m q = λ i. unless-stopped
+      (over-moves (asked-game a) (search (asked-game a) (at-most (a .allowance)) (a .depth - 1)) (a .game) (a .beta) (a .prev .bits) (tried (some-move (first .bits)) (q i)) (a .alpha) (line-of (c .l) (a .depth)) (sym (empty-places (a .depth - 1) 81 (omega (arith, c .asked .deep))) i) (q i))
+      (λ r line m'. found r line (told m' (asked-game a .key (a .game)) (a .depth) (a .alpha) (a .beta) r line))
+
+  -- it knows nothing
+  pub none-goes : k .held ≡ Absent → (first : Move) → first .bits ≡ no-move → Goes c first (c .s₁)
+  unfolding searched
+  none-goes h first n = let entered = enter (memory-of (c .s) (c .words)) in record {
+    ready = paid-ready a (c .s) (c .s₁) 0 (omega arith) (c .counted) (c .more) deep-enough (paid c);
+    same = over-same first (c .s₁) _ (c .entered (c .words)) ∙ ap (λ (ms : List ℕ). from-memory (tried ms entered) entered) (emptied (first .bits) n)
+        ∙ sym (search-none _ _ _ _ _ _ _ _ _ (more-is a (c .s) (c .more)) deep-enough (not-leaf .1) (look-up-is none (ap held-means h)));
+  }
+
+module _ {c : Begun} {k : Looked c} (e : Knows k) where
+  abbrev met : List ℕ → Memory
+  met words = hit (enter (memory-of (c .s) words))
+
+  met-is : (words : List ℕ) → memory-of (e .s₂) words ≡ met words
+  met-is words = e .was-hit words ∙ ap hit (c .entered words)
+
+  -- what it knows suffices
+  pub known-gives : e .b ≡ true → (s₃ : Search) → ((ws : List ℕ) → memory-of s₃ ws ≡ answered (memory-of (e .s₂) ws))
+      → (f : Found) → f ≡ record { state = s₃; line = record { moves = set (c .l .moves) 0 (e .entry .pv) }; score = e .entry .value; stopped = false }
+      → Gives (c .a) (c .l) f (c .words) (searched (c .a) (c .s) (c .l) (c .words))
+  unfolding searched
+  known-gives t s₃ w f q = subst (λ (y : Found). Gives (c .a) (c .l) y (c .words) (searched (c .a) (c .s) (c .l) (c .words))) (sym q) (record {
+    same = outcome-found (c .a) _ (c .words) refl
+        ∙ ap₂ (λ (line : List ℕ) (m : Memory). found (e .entry .value) line m) (set-first-place (c .l .moves) (e .entry .pv) (c .a .depth)) (w (c .words) ∙ ap answered (met-is (c .words)))
+        ∙ sym (search-known _ _ _ _ _ _ _ _ _ (more-is (c .a) (c .s) (c .more)) (deep-enough k) (not-leaf k .1) (entry-means (e .entry)) (look-up-is k _ (ap held-means (e .is-held))) (sym (e .told-suffices) ∙ t));
+    places = λ _. set-first-drop (c .l .moves) (e .entry .pv) (c .a .depth) (deep-enough k);
+  })
+
+  -- it does not
+  pub some-goes : e .b ≡ false → (first : Move) → first ≡ e .entry .pv → Goes c first (e .s₂)
+  unfolding searched
+  some-goes t first n = record {
+    ready = paid-ready (c .a) (c .s) (e .s₂) 1 (omega arith) (c .counted) (c .more) (deep-enough k) (hit-paid (c .s) (c .s₁) (c .entered []) (e .s₂) (e .was-hit []));
+    same = over-same k first (e .s₂) _ (met-is (c .words))
+        ∙ ap (λ (ms : List ℕ). from-memory k ms (met (c .words))) (ap (λ (m : Move). tried k (some-move (m .bits)) (met (c .words))) n ∙ sym (candidates-some (asked-game (c .a)) (met (c .words)) (c .a .game) (c .a .prev .bits) (line-of (c .l) (c .a .depth)) (e .entry .pv .bits) (none-refused (c .a))))
+        ∙ sym (search-some _ _ _ _ _ _ _ _ _ (more-is (c .a) (c .s) (c .more)) (deep-enough k) (not-leaf k .1) (entry-means (e .entry)) (look-up-is k _ (ap held-means (e .is-held))) (sym (e .told-suffices) ∙ t));
+  }
+
+-- ---- searched over its moves, and the table told
+pub goes-gives : {c : Begun} {first : Move} {t : Search} → Goes c first t → {r : Found} {words₁ words₂ : List ℕ}
+    → Gives (c .a) (c .l) r words₁ (over-all (c .a) first t (c .l) (c .words)) → outcome-of (c .a) r words₂ ≡ then-told (c .a) (outcome-of (c .a) r words₁)
+    → Gives (c .a) (c .l) r words₂ (searched (c .a) (c .s) (c .l) (c .words))
+goes-gives {c} h g t = record { same = t ∙ ap (then-told (c .a)) (g .same) ∙ h .same; places = g .places }
+
+-- the same, of another name for the move and the state
+pub goes-on : {c : Begun} {first first' : Move} {t t' : Search} → first ≡ first' → t ≡ t' → Goes c first' t' → Goes c first t
+goes-on {c} {first} {first'} {t} {t'} p q g = subst (λ (x : Move). Goes c x t) (sym p) (subst (λ (y : Search). Goes c first' y) (sym q) g)

@@ -1,11 +1,11 @@
 -- One turn of the loop over a position's moves: what is left, searched from where it stands, is what there was to search at first.
 use mathlib.Core.Path.{_≡_, refl, sym, ap, ap₂, _∙_, subst}
-use mathlib.Core.Bool.{Bool, true, false, true≢false}
+use mathlib.Core.Bool.{Bool, true, false, not, _||_, true≢false}
 use mathlib.Core.List.{List, [], _∷_}
 use Prim.Native.Nat.{ℕ, _+_, _-_, _*_, _≤_, _<_}
 use native.Mathlib.Omega.{arith}
 use lib.Dec.{T, eqb}
-use lib.IntN.{negℤ}
+use lib.IntN.{ℤ, pos, negℤ}
 use lib.ListN.{length, drop}
 use lib.Signed.{leZ, ltZ, _≤ℤ_}
 use borrow.Author.Tests.{eqb-true, eq-eqb}
@@ -13,13 +13,13 @@ use Rattle.base.proofs.Bool.{deny, is}
 use Rattle.base.proofs.Integers.{hi, lo, zarith}
 use mathlib.Core.Logic.{inl, inr}
 use Rattle.rules.specs.Position.{going}
-use Rattle.rules.specs.Play.{accepts, no-move}
+use Rattle.rules.specs.Play.{board-of, accepts, no-move}
 use Rattle.rules.specs.Evaluation.{evaluate}
 use Rattle.rules.proofs.Evaluation.{value-inside, finished-within}
 use Rattle.rules.specs.declared.DrawWinner.{DrawWinner}
 use Rattle.rules.specs.Position.{Position}
 use Rattle.theory.specs.PlainMinimax.{lowest, highest}
-use Rattle.theory.specs.Memory.{Memory, cut, some-move}
+use Rattle.theory.specs.Memory.{Memory, enter, leaf, cut, some-move}
 use Rattle.theory.specs.OrderedSearch.{at-most, Outcome, stopped, found, candidates, over-moves, search}
 use Rattle.theory.proofs.Search.{Gives as Finds}
 use Rattle.theory.proofs.Arms.{over-stopped, over-not, over-better, over-cut, over-none}
@@ -29,6 +29,7 @@ use Rattle.boards.specs.declared.moves.Move.{Move}
 use Rattle.game.specs.declared.Game.{Game}
 use Rattle.game.specs.Meaning.{position-of}
 use Rattle.game.specs.After.{game-after}
+use Rattle.evaluation.proofs.Carried.{carried}
 use Rattle.order.specs.declared.Walk.{Walk}
 use Rattle.order.specs.declared.Child.{Child}
 use Rattle.minimax.specs.declared.search.Search.{Search}
@@ -36,12 +37,12 @@ use Rattle.minimax.specs.declared.search.Line.{Line}
 use Rattle.minimax.specs.declared.search.Ask.{Ask}
 use Rattle.minimax.specs.declared.search.Best.{Best}
 use Rattle.minimax.specs.declared.search.Found.{Found}
-use Rattle.minimax.specs.declared.search.Entered.{Entered}
 use Rattle.order.specs.Order.{walk-left, NextOf}
 use Rattle.order.proofs.Walks.{NextIs, next-left, left-accepted, none-refused}
-use Rattle.minimax.specs.State.{memory-of, line-of, empty-line, asked-game, outcome-of, searched, over-left, over-all, then-told, Within, Asked, Counted, Ready, Gives, Enters}
+use Rattle.minimax.specs.State.{memory-of, line-of, empty-line, asked-game, outcome-of, searched, over-left, over-all, values-below, Within, Asked, Counted, Ready, Gives}
 use Rattle.minimax.proofs.Scores.{neg-within}
 use Rattle.minimax.proofs.Outcomes.{outcome-stopped, outcome-found}
+use Rattle.minimax.proofs.Entering.{Begun as Entering, may-enter, may-leaf, stop-gives, leaf-gives}
 
 -- ---- the next move
 module _ {g : Game} {w : Walk} {child : Child} (n : NextOf g w child) where
@@ -68,6 +69,13 @@ value-within draws p = elim (is (going p)) [
   | inr t ↦ let h = finished-within draws p t in (omega (zarith, h .0), omega (zarith, h .1))
 ]
 
+-- ---- what is found, told by its parts
+pub by-parts : {a : Ask} {l : Line} {o : Outcome} (r : Found) (ws : List ℕ) → r .stopped ≡ false → Gives a l r ws o
+    → {s : Search} {k : Line} {z : ℤ} {vs : List ℕ} → s ≡ r .state → k ≡ r .line → z ≡ r .score → vs ≡ ws
+    → Gives a l (record { state = s; line = k; score = z; stopped = false }) vs o
+by-parts {a} {l} {o} r ws e g {s} {k} {z} {vs} es ek ez ew = subst (λ (v : List ℕ). Gives a l (record { state = s; line = k; score = z; stopped = false }) v o) (sym ew)
+    (subst (λ (f : Found). Gives a l f ws o) (λ i. record { state = sym es i; line = sym ek i; score = sym ez i; stopped = e i }) g)
+
 -- ---- where the loop stands
 pub record Stand : Type 0 where
   pub words : List ℕ
@@ -89,6 +97,7 @@ pub record Begun : Type 0 where
   pub first : Move
   pub line : Line
   pub from : Stand
+  pub three : length (a .game .«local_boards» .rows) ≡ 3
   pub asked : Asked a
   pub ready : Ready a (from .s)
   pub walk-is : walk-left (a .game) (from .walk) ≡ candidates (asked-game a) (some-move (first .bits)) (memory-of (from .s) (from .words)) (a .game) (a .prev .bits) (line-of line (a .depth))
@@ -123,6 +132,7 @@ pub record Met (h : Held) : Type 0 where
     prev = child .m;
     «draw_winner» = h .begun .a .«draw_winner»;
     allowance = h .begun .a .allowance;
+    values = values-below (h .begun .a) child;
   }
 
 -- and this is found below it, stopped or not
@@ -187,6 +197,7 @@ module _ (h : Held) where
 module _ {h : Held} (m : Met h) where
   pub under-asked : Asked (m .under)
   under-asked = subst Asked (sym (m .under-is)) (record {
+    valued = carried (a h .game) (m .child .game) (m .child .m .bits) (board-of (m .child .m .bits)) (a h .values .boards) (h .begun .three) (h .begun .asked .valued) (walk-goes (m .next) (m .is-some) .1) refl;
     deep = omega (arith, h .begun .asked .deep);
     alpha-within = neg-within (a h .beta) (h .begun .asked .beta-within);
     beta-within = neg-within (at h .best .score) (h .turn .score);
@@ -210,6 +221,36 @@ module _ {h : Held} (m : Met h) where
   -- the depth falls
   pub under-lower : 2 * m .under .depth + 1 < 2 * a h .depth
   under-lower = omega (arith, depth-is, h .begun .ready .deep)
+
+  -- ---- a leaf, which is counted where it is met
+  allowance-is : m .under .allowance ≡ a h .allowance
+  allowance-is = ap (λ (u : Ask). u .allowance) (m .under-is)
+
+  module _ (more : at h .s .count < a h .allowance) where
+    more-below : at h .s .count < m .under .allowance
+    more-below = omega (arith, allowance-is, more)
+
+    pub may-count : (at h .s .count < 1000000000) × (at h .s .visited < 1000000000)
+    may-count = may-enter (m .under) (at h .s) under-asked under-counted more-below
+
+    module _ (s₁ : Search) (entered : (ws : List ℕ) → memory-of s₁ ws ≡ enter (memory-of (at h .s) ws)) where
+      -- the leaf as a position that may be entered
+      abbrev entering : Entering
+      entering = record { a = m .under; s = at h .s; l = at h .local; words = at h .words; asked = under-asked; counted = under-counted; more = more-below; s₁ = s₁; entered = entered }
+
+      pub may-tell-leaf : s₁ .terminal < 1000000000
+      may-tell-leaf = may-leaf entering
+
+      pub leaf-below : (s₂ : Search) → ((ws : List ℕ) → memory-of s₂ ws ≡ leaf (memory-of s₁ ws))
+          → (x : Bool) → x ≡ (eqb (m .under .depth) 0 || not (going (position-of (m .under .game)))) → x ≡ true
+          → (z : ℤ) → z ≡ evaluate (m .under .«draw_winner») (position-of (m .under .game))
+          → Gives (m .under) (at h .local) (record { state = s₂; line = at h .local; score = z; stopped = false }) (at h .words) (searched (m .under) (at h .s) (at h .local) (at h .words))
+      leaf-below s₂ w x t u z e = leaf-gives (m .under) (at h .s) (at h .local) (at h .words) more-below s₁ entered s₂ w x t u _
+          (ap (λ (y : ℤ). record { state = s₂; line = at h .local; score = y; stopped = false }) e)
+
+  pub stop-below : a h .allowance ≤ at h .s .count → (f : Found) → f ≡ record { state = at h .s; line = at h .local; score = pos 0; stopped = true }
+      → Gives (m .under) (at h .local) f (at h .words) (searched (m .under) (at h .s) (at h .local) (at h .words))
+  stop-below q f e = stop-gives (m .under) (at h .s) (at h .local) (at h .words) f (omega (arith, allowance-is, q)) e
 
   abbrev rest : List ℕ
   rest = walk-left (a h .game) (m .child .walk)
@@ -318,11 +359,3 @@ module _ {h : Held} {m : Met h} {x : Brought m false} (y : Raised x) where
         ∙ sym (over-cut _ _ _ _ _ _ _ _ _ _ _ _ _ _ (found-is x) (y .better) (reaches true t)) ∙ left-is m;
     places = λ _. y .raises .2 ∙ h .turn .places;
   }))
-
--- ---- a position that is entered and searched over its moves, and the table told
-pub entered-moves : {a : Ask} {s : Search} {l : Line} {words : List ℕ} {e : Entered} → Enters a s l words e → e .answered ≡ false → {r : Found} {words₁ words₂ : List ℕ}
-    → Gives a (e .found .line) r words₁ (over-all a (e .first) (e .found .state) (e .found .line) words) → outcome-of a r words₂ ≡ then-told a (outcome-of a r words₁) → Gives a l r words₂ (searched a s l words)
-entered-moves {a} h z g t = record {
-  same = t ∙ ap (then-told a) (g .same) ∙ h .goes-on z;
-  places = λ x. g .places x ∙ ap (λ (y : Line). drop (a .depth) (y .moves)) (h .line-kept z);
-}

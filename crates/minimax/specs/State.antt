@@ -4,21 +4,24 @@ use mathlib.Core.Bool.{true, false}
 use mathlib.Core.List.{List, map}
 use Prim.Native.Nat.{ℕ, _-_, _≤_, _<_}
 use lib.IntN.{ℤ}
-use lib.ListN.{take, drop, replicate}
+use lib.ListN.{take, drop, replicate, set}
 use lib.Signed.{_≤ℤ_}
 use Rattle.base.specs.Branch.{if_then_else_}
-use Rattle.rules.specs.Play.{no-move}
+use Rattle.rules.specs.Play.{board-of, no-move}
 use Rattle.theory.specs.Game.{Game as Searched}
 use Rattle.theory.specs.PlainMinimax.{lowest, highest}
 use Rattle.theory.specs.Memory.{Memory, some-move}
 use Rattle.theory.specs.OrderedSearch.{at-most, Outcome, stopped, found, unless-stopped, told, candidates, over-moves, search}
 use Rattle.boards.specs.declared.moves.Move.{Move}
+use Rattle.game.specs.Meaning.{position-of}
+use Rattle.evaluation.specs.declared.Values.{Values}
+use Rattle.evaluation.specs.Values.{board-value, values-of}
+use Rattle.order.specs.declared.Child.{Child}
 use Rattle.minimax.specs.declared.search.Search.{Search}
 use Rattle.minimax.specs.declared.search.Line.{Line}
 use Rattle.minimax.specs.declared.search.Ask.{Ask}
 use Rattle.minimax.specs.declared.search.Best.{Best}
 use Rattle.minimax.specs.declared.search.Found.{Found}
-use Rattle.minimax.specs.declared.search.Entered.{Entered}
 use Rattle.minimax.specs.Structs.{structs}
 
 -- ---- the state
@@ -53,6 +56,10 @@ outcome-of a r words =
     if r .stopped then (λ _. stopped (memory-of (r .state) words)) else
     λ _. found (r .score) (line-of (r .line) (a .depth)) (memory-of (r .state) words)
 
+-- the values after a move: its own board's anew
+abbrev pub values-below : Ask → Child → Values
+values-below a child = let b = board-of (child .m .bits) in record { boards = set (a .values .boards) b (board-value (position-of (child .game)) b) }
+
 -- the definition's outcome
 unfoldable pub searched : Ask → Search → Line → List ℕ → Outcome
 searched a s l words =
@@ -81,8 +88,13 @@ pub record Within (z : ℤ) : Type 0 where
   pub low : lowest ≤ℤ z
   pub high : z ≤ℤ highest
 
+-- the values are those of the game's boards
+abbrev pub Valued : Ask → Type 0
+Valued a = a .values .boards ≡ values-of (position-of (a .game))
+
 -- a depth of at most 81, a window within the root's, and an allowance that a count of 64 bits holds with room
 pub record Asked (a : Ask) : Type 0 where
+  pub valued : Valued a
   pub deep : a .depth ≤ 81
   pub alpha-within : Within (a .alpha)
   pub beta-within : Within (a .beta)
@@ -108,10 +120,3 @@ pub record Ready (a : Ask) (s : Search) : Type 0 where
 pub record Gives (a : Ask) (l : Line) (r : Found) (words : List ℕ) (o : Outcome) : Type 0 where
   pub same : outcome-of a r words ≡ o
   pub places : r .stopped ≡ false → drop (a .depth) (r .line .moves) ≡ drop (a .depth) (l .moves)
-
--- what entering a position gives: the answer, or the moves to be searched
-pub record Enters (a : Ask) (s : Search) (l : Line) (words : List ℕ) (e : Entered) : Type 0 where
-  pub at-once : e .answered ≡ true → Gives a l (e .found) words (searched a s l words)
-  pub goes-on : e .answered ≡ false → then-told a (over-all a (e .first) (e .found .state) (e .found .line) words) ≡ searched a s l words
-  pub line-kept : e .answered ≡ false → e .found .line ≡ l
-  pub ready : e .answered ≡ false → Ready a (e .found .state)

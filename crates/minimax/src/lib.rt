@@ -20,6 +20,7 @@ ghost use Rattle.minimax.specs.Report.{tally-of, ending-number, ending-s
 use boards::Move;
 use evaluation::EVAL_LOST;
 use evaluation::EVAL_WON;
+use evaluation::Values;
 use game::Game;
 use rules::DrawWinner;
 use search::Ask;
@@ -148,9 +149,9 @@ impl Config {
     }
 
     // What is asked of the root, one depth after the last whole one.
-    fn ask(self, game: Game, whole: Depths) -> Ask
+    fn ask(self, game: Game, values: Values, whole: Depths) -> Ask
         requires { ⌜ whole .depth < 81 ⌝ }
-        ensures { λ r. ⌜ r ≡ record { game = game; depth = whole .depth + 1; alpha = lowest; beta = highest; prev = record { bits = no-move }; «draw_winner» = self .«draw_winner»; allowance = self .allowance } ⌝ }
+        ensures { λ r. ⌜ r ≡ record { game = game; depth = whole .depth + 1; alpha = lowest; beta = highest; prev = record { bits = no-move }; «draw_winner» = self .«draw_winner»; allowance = self .allowance; values = values } ⌝ }
     {
         let draw_winner = self.draw_winner;
         Ask {
@@ -161,6 +162,7 @@ impl Config {
             prev: Move::NONE,
             draw_winner,
             allowance: self.allowance,
+            values,
         }
     }
 }
@@ -288,10 +290,16 @@ impl Minimax {
         requires { ⌜ (config .«max_depth» ≤ 81) × (config .allowance ≤ 1000000000) ⌝ }
         ensures { λ r. ⌜ report-of r (now (words .exit)) ≡ report (answer-of self game config (now (words .entry))) ⌝ }
     {
+        let values = Values::new(game);
         let mut whole = Depths::none();
         let mut s = self.begin();
         while (whole.depth as u64) < config.max_depth {
-            let r = search::minimax(config.ask(game, whole), s.begin(), whole.line, words);
+            let r = search::minimax(
+                config.ask(game, values, whole),
+                s.begin(),
+                whole.line,
+                words,
+            );
             if r.stopped {
                 return whole.report(r.state, true);
             }

@@ -21,8 +21,9 @@ ghost use Rattle.theory.specs.OrderedSearch.{candidates};
 ghost use Rattle.table.specs.Entries.{bound-number, entry-means};
 ghost use Rattle.game.specs.Meaning.{position-of};
 ghost use Rattle.order.specs.Order.{walk-left};
-ghost use Rattle.minimax.specs.State.{memory-of, line-of, empty-line, asked-game, outcome-of, searched, over-all, then-told, Within, Asked, Counted, Ready, Gives, Enters};
+ghost use Rattle.minimax.specs.State.{memory-of, line-of, empty-line, asked-game, outcome-of, searched, over-all, then-told, values-below, Valued, Within, Asked, Counted, Ready, Gives};
 use boards::Move;
+use evaluation::Values;
 use game::Game;
 use order::Child;
 use order::Walk;
@@ -48,7 +49,7 @@ pub(crate) struct Line {
     pub moves: [Move; 81],
 }
 
-// What the search of a position is asked.
+// What the search of a position is asked; the values are those of its nine boards.
 pub(crate) struct Ask {
     pub game: Game,
     pub depth: u8,
@@ -57,6 +58,7 @@ pub(crate) struct Ask {
     pub prev: Move,
     pub draw_winner: DrawWinner,
     pub allowance: u64,
+    pub values: Values,
 }
 
 // What a search found; the line and score of a stopped one say nothing.
@@ -65,13 +67,6 @@ pub(crate) struct Found {
     pub line: Line,
     pub score: i64,
     pub stopped: bool,
-}
-
-// What entering a position gives: an answer at once, or the table's move for the search over its moves.
-pub(crate) struct Entered {
-    pub found: Found,
-    pub answered: bool,
-    pub first: Move,
 }
 
 // Where the search over a position's moves stands: the lower edge by now, and its line.
@@ -244,28 +239,6 @@ impl Found {
     }
 }
 
-impl Entered {
-    fn at_once(found: Found) -> Entered
-        ensures { λ r. ⌜ (r .answered ≡ true) × (r .found ≡ found) ⌝ }
-    {
-        Entered {
-            found,
-            answered: true,
-            first: Move::none(),
-        }
-    }
-
-    fn unanswered(state: Search, line: Line, first: Move) -> Entered
-        ensures { λ r. ⌜ (r .answered ≡ false) × (r .first ≡ first) × (r .found .state ≡ state) × (r .found .line ≡ line) ⌝ }
-    {
-        Entered {
-            found: Found::stop(state, line),
-            answered: false,
-            first,
-        }
-    }
-}
-
 // The remembered answer, or lacking one the line's move.
 fn hint(answer: Move, line: Move) -> Move
     ensures { λ r. ⌜ r ≡ (if eqb (answer .bits) no-move then (λ _. line) else λ _. answer) ⌝ }
@@ -275,24 +248,23 @@ fn hint(answer: Move, line: Move) -> Move
 
 impl Best {
     // Whether a move's score is above the lower edge.
-    fn is_below(self, r: Found) -> bool
-        requires { ⌜ Within (r .score) ⌝ }
-        ensures { λ b. ⌜ b ≡ ltZ (self .score) (negℤ (r .score)) ⌝ }
+    fn is_below(self, score: i64) -> bool
+        requires { ⌜ Within score ⌝ }
+        ensures { λ b. ⌜ b ≡ ltZ (self .score) (negℤ score) ⌝ }
     {
-        -r.score > self.score
+        -score > self.score
     }
 
     // It becomes that edge, and the line is its move and the line below.
-    fn raise(self, m: Move, r: Found, depth: u8) -> Best
-        requires { ⌜ Within (r .score) × (0 < depth) × (depth ≤ 81) ⌝ }
-        ensures { λ b. ⌜ (b .score ≡ negℤ (r .score)) × (line-of (b .line) depth ≡ m .bits ∷ line-of (r .line) (depth - 1)) × (drop depth (b .line .moves) ≡ drop depth (self .line .moves)) ⌝ }
+    fn raise(self, m: Move, score: i64, below: Line, depth: u8) -> Best
+        requires { ⌜ Within score × (0 < depth) × (depth ≤ 81) ⌝ }
+        ensures { λ b. ⌜ (b .score ≡ negℤ score) × (line-of (b .line) depth ≡ m .bits ∷ line-of below (depth - 1)) × (drop depth (b .line .moves) ≡ drop depth (self .line .moves)) ⌝ }
     {
-        let below = r.line;
         let old = self.line;
         let line = old.with_line(m, below, depth);
         Best {
             line,
-            score: -r.score,
+            score: -score,
         }
     }
 }
@@ -310,16 +282,24 @@ impl Ask {
     }
 
     // The evaluation, at a position that is not searched further.
-    fn evaluated(self, state: Search, line: Line) -> Found
-        ensures { λ r. ⌜ r ≡ record { state = state; line = line; score = evaluate (self .«draw_winner») (position-of (self .game)); stopped = false } ⌝ }
+    fn evaluate(self) -> i64
+        requires { ⌜ Valued self ⌝ }
+        ensures { λ r. ⌜ r ≡ evaluate (self .«draw_winner») (position-of (self .game)) ⌝ }
     {
         let game = self.game;
+        let values = self.values;
         let draw_winner = self.draw_winner;
-        let score = evaluation::evaluate(game, draw_winner);
+        values.evaluate(game, draw_winner)
+    }
+
+    fn evaluated(self, state: Search, line: Line) -> Found
+        requires { ⌜ Valued self ⌝ }
+        ensures { λ r. ⌜ r ≡ record { state = state; line = line; score = evaluate (self .«draw_winner») (position-of (self .game)); stopped = false } ⌝ }
+    {
         Found {
             state,
             line,
-            score,
+            score: self.evaluate(),
             stopped: false,
         }
     }
@@ -336,33 +316,6 @@ impl Ask {
             Bound::Exact => true,
             Bound::AtLeast => e.value >= self.beta,
             Bound::AtMost => e.value <= self.alpha,
-        }
-    }
-
-    // Counts a position, and answers it if it is a leaf or the table suffices; or stops.
-    fn enter(self, state: Search, line: Line, words: &[u64]) -> Entered
-        requires { ⌜ Asked self × Counted self state ⌝ }
-        ensures { λ r. ⌜ Enters self state line (now (words .entry)) r ⌝ }
-    {
-        if state.count >= self.allowance {
-            return Entered::at_once(Found::stop(state, line));
-        }
-        let s = state.enter();
-        if self.is_leaf() {
-            return Entered::at_once(self.evaluated(s.leaf(), line));
-        }
-        let game = self.game;
-        let held = table::lookup(words, game.zobrist());
-        match held {
-            Held::Absent => Entered::unanswered(s, line, Move::none()),
-            Held::Entry(e) => {
-                let t = s.hit();
-                if self.suffices(e) {
-                    return Entered::at_once(Found::known(t.suffice(), line, e));
-                }
-                let pv = e.pv;
-                Entered::unanswered(t, line, pv)
-            }
         }
     }
 
@@ -424,10 +377,12 @@ impl Ask {
     // What is asked of the position after a move.
     fn below(self, child: Child, best: Best) -> Ask
         requires { ⌜ (0 < self .depth) × Within (self .beta) × Within (best .score) ⌝ }
-        ensures { λ r. ⌜ r ≡ record { game = child .game; depth = self .depth - 1; alpha = negℤ (self .beta); beta = negℤ (best .score); prev = child .m; «draw_winner» = self .«draw_winner»; allowance = self .allowance } ⌝ }
+        ensures { λ r. ⌜ r ≡ record { game = child .game; depth = self .depth - 1; alpha = negℤ (self .beta); beta = negℤ (best .score); prev = child .m; «draw_winner» = self .«draw_winner»; allowance = self .allowance; values = values-below self child } ⌝ }
     {
         let game = child.game;
         let prev = child.m;
+        let old = self.values;
+        let values = old.after(game, prev.global());
         let draw_winner = self.draw_winner;
         Ask {
             game,
@@ -437,6 +392,7 @@ impl Ask {
             prev,
             draw_winner,
             allowance: self.allowance,
+            values,
         }
     }
 
@@ -463,15 +419,27 @@ pub(crate) fn minimax(a: Ask, state: Search, line: Line, words: &mut [u64]) -> F
     requires { ⌜ Asked a × Counted a state ⌝ }
     ensures { λ r. ⌜ Gives a line r (now (words .exit)) (searched a state line (now (words .entry))) ⌝ }
 {
-    let e = a.enter(state, line, words);
-    let r = e.found;
-    if e.answered {
-        return r;
+    if state.count >= a.allowance {
+        return Found::stop(state, line);
     }
-    let first = e.first;
-    let s = r.state;
-    let l = r.line;
-    let f = moves(a, first, s, l, words);
+    let mut s = state.enter();
+    if a.is_leaf() {
+        return a.evaluated(s.leaf(), line);
+    }
+    let game = a.game;
+    let mut first = Move::none();
+    let held = table::lookup(words, game.zobrist());
+    match held {
+        Held::Absent => {}
+        Held::Entry(e) => {
+            s = s.hit();
+            if a.suffices(e) {
+                return Found::known(s.suffice(), line, e);
+            }
+            first = e.pv;
+        }
+    }
+    let f = moves(a, first, s, line, words);
     a.leave(f, words);
     f
 }
@@ -491,15 +459,26 @@ fn moves(a: Ask, first: Move, state: Search, line: Line, words: &mut [u64]) -> F
         if m.is_none() {
             return Found::of(s, best);
         }
-        let r = minimax(a.below(child, best), s, local, words);
-        if r.stopped {
-            return r;
-        }
         walk = child.walk;
-        s = r.state;
-        local = r.line;
-        if best.is_below(r) {
-            best = best.raise(m, r, a.depth);
+        let below = a.below(child, best);
+        let mut score: i64 = 0;
+        if below.is_leaf() {
+            if s.count >= a.allowance {
+                return Found::stop(s, local);
+            }
+            s = s.enter().leaf();
+            score = below.evaluate();
+        } else {
+            let r = minimax(below, s, local, words);
+            if r.stopped {
+                return r;
+            }
+            s = r.state;
+            local = r.line;
+            score = r.score;
+        }
+        if best.is_below(score) {
+            best = best.raise(m, score, local, a.depth);
             if a.is_cut(best) {
                 return Found::of(a.cut(s, m), best);
             }

@@ -3,8 +3,9 @@
 // `DedupIterator` are a cursor by value and a set of 256 marks.
 ghost use mathlib.Core.Path.{_≡_};
 ghost use mathlib.Core.Bool.{false, _||_};
-ghost use Prim.Native.Nat.{ℕ};
+ghost use Prim.Native.Nat.{ℕ, _<_};
 ghost use lib.Dec.{eqb};
+ghost use lib.ListN.{getD, set};
 ghost use mathlib.Core.List.{_++_};
 ghost use Rattle.rules.specs.Moves.{moves};
 ghost use Rattle.theory.specs.Memory.{some-move};
@@ -28,20 +29,53 @@ impl Seen {
         Seen { marks: [0; 4] }
     }
 
+    // Words by a constant index: a variable one would go through memory.
+    fn word(self, i: u8) -> u64
+        requires { ⌜ i < 4 ⌝ }
+        ensures { λ r. ⌜ r ≡ getD (self .marks) i 0 ⌝ }
+    {
+        match i {
+            0 => self.marks[0],
+            1 => self.marks[1],
+            2 => self.marks[2],
+            _ => self.marks[3],
+        }
+    }
+
+    fn with_word(self, i: u8, word: u64) -> Seen
+        requires { ⌜ i < 4 ⌝ }
+        ensures { λ r. ⌜ r ≡ record { marks = set (self .marks) i word } ⌝ }
+    {
+        let mut seen = self;
+        match i {
+            0 => {
+                seen.marks[0] = word;
+            }
+            1 => {
+                seen.marks[1] = word;
+            }
+            2 => {
+                seen.marks[2] = word;
+            }
+            _ => {
+                seen.marks[3] = word;
+            }
+        }
+        seen
+    }
+
     fn has(self, m: Move) -> bool
         ensures { λ r. ⌜ r ≡ marked self (m .bits) ⌝ }
     {
-        let i = (m.bits / 64) as usize;
-        (self.marks[i] >> (m.bits % 64)) & 1 == 1
+        (self.word(m.bits / 64) >> (m.bits % 64)) & 1 == 1
     }
 
     fn with(self, m: Move) -> Seen
         ensures { λ r. ⌜ ((k : ℕ) → marked r k ≡ (eqb k (m .bits) || marked self k)) ⌝ }
     {
-        let i = (m.bits / 64) as usize;
-        let mut seen = self;
-        seen.marks[i] |= 1u64 << (m.bits % 64);
-        seen
+        let i = m.bits / 64;
+        let bit = 1u64 << (m.bits % 64);
+        self.with_word(i, self.word(i) | bit)
     }
 }
 
@@ -92,9 +126,9 @@ pub struct Walk {
 
 // The next move that is no repeat and is accepted, the game after it, and the rest. The empty move says that there is none.
 pub struct Child {
-    pub m: Move,
     pub game: Game,
     pub walk: Walk,
+    pub m: Move,
 }
 
 impl Walk {

@@ -10,10 +10,13 @@ use Rattle.minimax.proofs.Minimax.deepen.Statement.{statement}
 use Rattle.minimax.proofs.Minimax.deepen.Tie as tie
 
 abbrev Inv-loop : tie.InvT-loop
-Inv-loop game config words₀ whole₀ s₀ words whole s = Going game config words₀ whole₀ s₀ words whole s
+Inv-loop game config words₀ values whole₀ s₀ words whole s = Going game config words₀ whole₀ s₀ words whole s
 
 abbrev μ-loop : tie.MeasureT-loop
-μ-loop game config words₀ whole₀ s₀ words whole s = config .«max_depth» - whole .depth
+μ-loop game config words₀ values whole₀ s₀ words whole s = config .«max_depth» - whole .depth
+
+new-requires : tie.Need-new-requires Inv-loop μ-loop
+new-requires c κs = tt
 
 none-requires : tie.Need-none-requires Inv-loop μ-loop
 none-requires c κs = tt
@@ -22,19 +25,19 @@ begin-requires : tie.Need-begin-requires Inv-loop μ-loop
 begin-requires c κs = tt
 
 loop-holds : tie.Need-loop-holds Inv-loop μ-loop
-loop-holds c = going-first (c .before .before .before .args .self) (c .before .before .before .args .game) (c .before .before .before .args .config) (now (c .before .before .before .args .words)) (c .before .none .result) (c .begin .result) (c .before .none .ensures) (c .begin .ensures)
+loop-holds c = going-first (c .before .before .before .before .args .self) (c .before .before .before .before .args .game) (c .before .before .before .before .args .config) (now (c .before .before .before .before .args .words)) (c .before .none .result) (c .begin .result) (c .before .none .ensures) (c .begin .ensures)
 
 cast-if1 : tie.Need-cast-if1 Inv-loop μ-loop
 cast-if1 c = record { fits = omega (arith, c .before .loop .inv .empty .most) }
 
 ask-requires : tie.Need-ask-requires Inv-loop μ-loop
-ask-requires c κs = omega (arith, c .if1 .taken, c .before .before .before .before .before .before .before .pre .0)
+ask-requires c κs = omega (arith, c .if1 .taken, c .before .before .before .before .before .before .before .before .pre .0)
 
 begin-requires-2 : tie.Need-begin-requires-2 Inv-loop μ-loop
 begin-requires-2 c κs = tt
 
 minimax-requires : tie.Need-minimax-requires Inv-loop μ-loop
-minimax-requires c κs = (ask-asked (c .before .before .before .before .before .before .before .before .before .before .args .game) (c .before .before .before .before .before .before .before .before .before .before .args .config) (now (c .before .before .before .before .before .before .before .before .before .before .args .words)) (c .before .before .before .before .before .before .before .before .none .result) (c .before .before .before .before .before .before .before .begin .result) (c .before .before .before .before .before .before .loop .words) (c .before .before .before .before .before .before .loop .whole) (c .before .before .before .before .before .before .loop .s) (c .before .before .before .before .before .before .loop .inv) (c .before .before .before .before .before .before .before .before .before .before .pre .0) (c .before .before .before .before .before .before .before .before .before .before .pre .1) (c .before .before .before .if1 .taken) (c .before .before .ask .result) (c .before .before .ask .ensures) (c .before .begin2 .result) (c .before .begin2 .ensures), ask-counted (c .before .before .before .before .before .before .before .before .before .before .args .game) (c .before .before .before .before .before .before .before .before .before .before .args .config) (now (c .before .before .before .before .before .before .before .before .before .before .args .words)) (c .before .before .before .before .before .before .before .before .none .result) (c .before .before .before .before .before .before .before .begin .result) (c .before .before .before .before .before .before .loop .words) (c .before .before .before .before .before .before .loop .whole) (c .before .before .before .before .before .before .loop .s) (c .before .before .before .before .before .before .loop .inv) (c .before .before .before .before .before .before .before .before .before .before .pre .0) (c .before .before .before .before .before .before .before .before .before .before .pre .1) (c .before .before .before .if1 .taken) (c .before .before .ask .result) (c .before .before .ask .ensures) (c .before .begin2 .result) (c .before .begin2 .ensures))
+minimax-requires c κs = (ask-asked (c .before .before .before .before .before .before .before .before .before .before .before .args .game) (c .before .before .before .before .before .before .before .before .before .before .before .args .config) (now (c .before .before .before .before .before .before .before .before .before .before .before .args .words)) (c .before .before .before .before .before .before .before .before .none .result) (c .before .before .before .before .before .before .before .begin .result) (c .before .before .before .before .before .before .loop .words) (c .before .before .before .before .before .before .loop .whole) (c .before .before .before .before .before .before .loop .s) (c .before .before .before .before .before .before .loop .inv) (c .before .before .before .before .before .before .before .before .before .before .before .pre .0) (c .before .before .before .before .before .before .before .before .before .before .before .pre .1) (c .before .before .before .if1 .taken) (c .before .before .before .before .before .before .before .before .before .new .result) (c .before .before .before .before .before .before .before .before .before .new .ensures) (c .before .before .ask .result) (c .before .before .ask .ensures) (c .before .begin2 .result) (c .before .begin2 .ensures), ask-counted (c .before .before .before .before .before .before .before .before .before .before .before .args .game) (c .before .before .before .before .before .before .before .before .before .before .before .args .config) (now (c .before .before .before .before .before .before .before .before .before .before .before .args .words)) (c .before .before .before .before .before .before .before .before .none .result) (c .before .before .before .before .before .before .before .begin .result) (c .before .before .before .before .before .before .loop .words) (c .before .before .before .before .before .before .loop .whole) (c .before .before .before .before .before .before .loop .s) (c .before .before .before .before .before .before .loop .inv) (c .before .before .before .before .before .before .before .before .before .before .before .pre .0) (c .before .before .before .before .before .before .before .before .before .before .before .pre .1) (c .before .before .before .if1 .taken) (c .before .before .before .before .before .before .before .before .before .new .result) (c .before .before .before .before .before .before .before .before .before .new .ensures) (c .before .before .ask .result) (c .before .before .ask .ensures) (c .before .begin2 .result) (c .before .begin2 .ensures))
 
 report-requires : tie.Need-report-requires Inv-loop μ-loop
 report-requires c κs = c .before .before .before .before .before .before .before .before .before .before .loop .inv .empty
@@ -43,10 +46,10 @@ same-length : tie.Need-same-length Inv-loop μ-loop
 same-length c = c .before .before .before .before .minimax .kept .1 .1 .1 .0 ∙ c .before .before .before .before .before .before .before .before .before .before .before .loop .inv .long
 
 returns : tie.Need-returns Inv-loop μ-loop
-returns c = c .report .ensures _ ∙ ap report (going-stopped (c .before .before .before .before .before .before .before .before .before .before .before .before .before .before .before .args .game) (c .before .before .before .before .before .before .before .before .before .before .before .before .before .before .before .args .config) (now (c .before .before .before .before .before .before .before .before .before .before .before .before .before .before .before .args .words)) (c .before .before .before .before .before .before .before .before .before .before .before .before .before .none .result) (c .before .before .before .before .before .before .before .before .before .before .before .before .begin .result) (c .before .before .before .before .before .before .before .before .before .before .before .loop .words) (c .before .before .before .before .before .before .before .before .before .before .before .loop .whole) (c .before .before .before .before .before .before .before .before .before .before .before .loop .s) (c .before .before .before .before .before .before .before .before .before .before .before .loop .inv) (c .before .before .before .before .before .before .before .before .before .before .before .before .before .before .before .pre .0) (c .before .before .before .before .before .before .before .before .before .before .before .before .before .before .before .pre .1) (c .before .before .before .before .before .before .before .before .if1 .taken) (c .before .before .before .before .before .before .before .ask .result) (c .before .before .before .before .before .before .before .ask .ensures) (c .before .before .before .before .before .before .begin2 .result) (c .before .before .before .before .before .before .begin2 .ensures) (c .before .before .before .before .minimax .result) (c .before .before .before .before .minimax .last .1 .1 .1 .0) (c .before .before .before .before .minimax .ensures) (c .before .before .before .before .minimax .kept .1 .1 .1 .0) (c .before .if2 .taken) ∙ going-all (c .before .before .before .before .before .before .before .before .before .before .before .before .before .before .before .args .self) (c .before .before .before .before .before .before .before .before .before .before .before .before .before .before .before .args .game) (c .before .before .before .before .before .before .before .before .before .before .before .before .before .before .before .args .config) (now (c .before .before .before .before .before .before .before .before .before .before .before .before .before .before .before .args .words)) (c .before .before .before .before .before .before .before .before .before .before .before .before .before .none .result) (c .before .before .before .before .before .before .before .before .before .before .before .before .begin .result) (c .before .before .before .before .before .before .before .before .before .before .before .before .before .none .ensures) (c .before .before .before .before .before .before .before .before .before .before .before .before .begin .ensures))
+returns c = c .report .ensures _ ∙ ap report (going-stopped (c .before .before .before .before .before .before .before .before .before .before .before .before .before .before .before .before .args .game) (c .before .before .before .before .before .before .before .before .before .before .before .before .before .before .before .before .args .config) (now (c .before .before .before .before .before .before .before .before .before .before .before .before .before .before .before .before .args .words)) (c .before .before .before .before .before .before .before .before .before .before .before .before .before .none .result) (c .before .before .before .before .before .before .before .before .before .before .before .before .begin .result) (c .before .before .before .before .before .before .before .before .before .before .before .loop .words) (c .before .before .before .before .before .before .before .before .before .before .before .loop .whole) (c .before .before .before .before .before .before .before .before .before .before .before .loop .s) (c .before .before .before .before .before .before .before .before .before .before .before .loop .inv) (c .before .before .before .before .before .before .before .before .before .before .before .before .before .before .before .before .pre .0) (c .before .before .before .before .before .before .before .before .before .before .before .before .before .before .before .before .pre .1) (c .before .before .before .before .before .before .before .before .if1 .taken) (c .before .before .before .before .before .before .before .before .before .before .before .before .before .before .new .result) (c .before .before .before .before .before .before .before .before .before .before .before .before .before .before .new .ensures) (c .before .before .before .before .before .before .before .ask .result) (c .before .before .before .before .before .before .before .ask .ensures) (c .before .before .before .before .before .before .begin2 .result) (c .before .before .before .before .before .before .begin2 .ensures) (c .before .before .before .before .minimax .result) (c .before .before .before .before .minimax .last .1 .1 .1 .0) (c .before .before .before .before .minimax .ensures) (c .before .before .before .before .minimax .kept .1 .1 .1 .0) (c .before .if2 .taken) ∙ going-all (c .before .before .before .before .before .before .before .before .before .before .before .before .before .before .before .before .args .self) (c .before .before .before .before .before .before .before .before .before .before .before .before .before .before .before .before .args .game) (c .before .before .before .before .before .before .before .before .before .before .before .before .before .before .before .before .args .config) (now (c .before .before .before .before .before .before .before .before .before .before .before .before .before .before .before .before .args .words)) (c .before .before .before .before .before .before .before .before .before .before .before .before .before .none .result) (c .before .before .before .before .before .before .before .before .before .before .before .before .begin .result) (c .before .before .before .before .before .before .before .before .before .before .before .before .before .none .ensures) (c .before .before .before .before .before .before .before .before .before .before .before .before .begin .ensures))
 
 deeper-requires : tie.Need-deeper-requires Inv-loop μ-loop
-deeper-requires c κs = (omega (arith, c .before .before .before .before .before .before .before .if1 .taken, c .before .before .before .before .before .before .before .before .before .before .before .before .before .before .pre .0), c .before .before .before .before .before .before .before .before .before .before .loop .inv .empty, line-kept (c .before .before .before .before .before .before .before .before .before .before .before .before .before .before .args .game) (c .before .before .before .before .before .before .before .before .before .before .before .before .before .before .args .config) (now (c .before .before .before .before .before .before .before .before .before .before .before .before .before .before .args .words)) (c .before .before .before .before .before .before .before .before .before .before .before .before .none .result) (c .before .before .before .before .before .before .before .before .before .before .before .begin .result) (c .before .before .before .before .before .before .before .before .before .before .loop .words) (c .before .before .before .before .before .before .before .before .before .before .loop .whole) (c .before .before .before .before .before .before .before .before .before .before .loop .s) (c .before .before .before .before .before .before .before .before .before .before .loop .inv) (c .before .before .before .before .before .before .before .before .before .before .before .before .before .before .pre .0) (c .before .before .before .before .before .before .before .before .before .before .before .before .before .before .pre .1) (c .before .before .before .before .before .before .before .if1 .taken) (c .before .before .before .before .before .before .ask .result) (c .before .before .before .before .before .before .ask .ensures) (c .before .before .before .before .before .begin2 .result) (c .before .before .before .before .before .begin2 .ensures) (c .before .before .before .minimax .result) (c .before .before .before .minimax .last .1 .1 .1 .0) (c .before .before .before .minimax .ensures) (c .before .before .before .minimax .kept .1 .1 .1 .0) (c .if2 .left))
+deeper-requires c κs = (omega (arith, c .before .before .before .before .before .before .before .if1 .taken, c .before .before .before .before .before .before .before .before .before .before .before .before .before .before .before .pre .0), c .before .before .before .before .before .before .before .before .before .before .loop .inv .empty, line-kept (c .before .before .before .before .before .before .before .before .before .before .before .before .before .before .before .args .game) (c .before .before .before .before .before .before .before .before .before .before .before .before .before .before .before .args .config) (now (c .before .before .before .before .before .before .before .before .before .before .before .before .before .before .before .args .words)) (c .before .before .before .before .before .before .before .before .before .before .before .before .none .result) (c .before .before .before .before .before .before .before .before .before .before .before .begin .result) (c .before .before .before .before .before .before .before .before .before .before .loop .words) (c .before .before .before .before .before .before .before .before .before .before .loop .whole) (c .before .before .before .before .before .before .before .before .before .before .loop .s) (c .before .before .before .before .before .before .before .before .before .before .loop .inv) (c .before .before .before .before .before .before .before .before .before .before .before .before .before .before .before .pre .0) (c .before .before .before .before .before .before .before .before .before .before .before .before .before .before .before .pre .1) (c .before .before .before .before .before .before .before .if1 .taken) (c .before .before .before .before .before .before .before .before .before .before .before .before .before .new .result) (c .before .before .before .before .before .before .before .before .before .before .before .before .before .new .ensures) (c .before .before .before .before .before .before .ask .result) (c .before .before .before .before .before .before .ask .ensures) (c .before .before .before .before .before .begin2 .result) (c .before .before .before .before .before .begin2 .ensures) (c .before .before .before .minimax .result) (c .before .before .before .minimax .last .1 .1 .1 .0) (c .before .before .before .minimax .ensures) (c .before .before .before .minimax .kept .1 .1 .1 .0) (c .if2 .left))
 
 is-decided-requires : tie.Need-is-decided-requires Inv-loop μ-loop
 is-decided-requires c κs = tt
@@ -58,13 +61,13 @@ same-length-2 : tie.Need-same-length-2 Inv-loop μ-loop
 same-length-2 c = c .before .before .before .before .before .before .before .before .minimax .kept .1 .1 .1 .0 ∙ c .before .before .before .before .before .before .before .before .before .before .before .before .before .before .before .loop .inv .long
 
 returns-2 : tie.Need-returns-2 Inv-loop μ-loop
-returns-2 c = c .report2 .ensures _ ∙ ap report (going-decided (c .before .before .before .before .before .before .before .before .before .before .before .before .before .before .before .before .before .before .before .args .game) (c .before .before .before .before .before .before .before .before .before .before .before .before .before .before .before .before .before .before .before .args .config) (now (c .before .before .before .before .before .before .before .before .before .before .before .before .before .before .before .before .before .before .before .args .words)) (c .before .before .before .before .before .before .before .before .before .before .before .before .before .before .before .before .before .none .result) (c .before .before .before .before .before .before .before .before .before .before .before .before .before .before .before .before .begin .result) (c .before .before .before .before .before .before .before .before .before .before .before .before .before .before .before .loop .words) (c .before .before .before .before .before .before .before .before .before .before .before .before .before .before .before .loop .whole) (c .before .before .before .before .before .before .before .before .before .before .before .before .before .before .before .loop .s) (c .before .before .before .before .before .before .before .before .before .before .before .before .before .before .before .loop .inv) (c .before .before .before .before .before .before .before .before .before .before .before .before .before .before .before .before .before .before .before .pre .0) (c .before .before .before .before .before .before .before .before .before .before .before .before .before .before .before .before .before .before .before .pre .1) (c .before .before .before .before .before .before .before .before .before .before .before .before .if1 .taken) (c .before .before .before .before .before .before .before .before .before .before .before .ask .result) (c .before .before .before .before .before .before .before .before .before .before .before .ask .ensures) (c .before .before .before .before .before .before .before .before .before .before .begin2 .result) (c .before .before .before .before .before .before .before .before .before .before .begin2 .ensures) (c .before .before .before .before .before .before .before .before .minimax .result) (c .before .before .before .before .before .before .before .before .minimax .last .1 .1 .1 .0) (c .before .before .before .before .before .before .before .before .minimax .ensures) (c .before .before .before .before .before .before .before .before .minimax .kept .1 .1 .1 .0) (c .before .before .before .before .before .if2 .left) (c .before .before .before .before .deeper .result) (c .before .before .before .before .deeper .ensures) _ (c .before .before .is-decided .ensures) (c .before .if3 .taken) ∙ going-all (c .before .before .before .before .before .before .before .before .before .before .before .before .before .before .before .before .before .before .before .args .self) (c .before .before .before .before .before .before .before .before .before .before .before .before .before .before .before .before .before .before .before .args .game) (c .before .before .before .before .before .before .before .before .before .before .before .before .before .before .before .before .before .before .before .args .config) (now (c .before .before .before .before .before .before .before .before .before .before .before .before .before .before .before .before .before .before .before .args .words)) (c .before .before .before .before .before .before .before .before .before .before .before .before .before .before .before .before .before .none .result) (c .before .before .before .before .before .before .before .before .before .before .before .before .before .before .before .before .begin .result) (c .before .before .before .before .before .before .before .before .before .before .before .before .before .before .before .before .before .none .ensures) (c .before .before .before .before .before .before .before .before .before .before .before .before .before .before .before .before .begin .ensures))
+returns-2 c = c .report2 .ensures _ ∙ ap report (going-decided (c .before .before .before .before .before .before .before .before .before .before .before .before .before .before .before .before .before .before .before .before .args .game) (c .before .before .before .before .before .before .before .before .before .before .before .before .before .before .before .before .before .before .before .before .args .config) (now (c .before .before .before .before .before .before .before .before .before .before .before .before .before .before .before .before .before .before .before .before .args .words)) (c .before .before .before .before .before .before .before .before .before .before .before .before .before .before .before .before .before .none .result) (c .before .before .before .before .before .before .before .before .before .before .before .before .before .before .before .before .begin .result) (c .before .before .before .before .before .before .before .before .before .before .before .before .before .before .before .loop .words) (c .before .before .before .before .before .before .before .before .before .before .before .before .before .before .before .loop .whole) (c .before .before .before .before .before .before .before .before .before .before .before .before .before .before .before .loop .s) (c .before .before .before .before .before .before .before .before .before .before .before .before .before .before .before .loop .inv) (c .before .before .before .before .before .before .before .before .before .before .before .before .before .before .before .before .before .before .before .before .pre .0) (c .before .before .before .before .before .before .before .before .before .before .before .before .before .before .before .before .before .before .before .before .pre .1) (c .before .before .before .before .before .before .before .before .before .before .before .before .if1 .taken) (c .before .before .before .before .before .before .before .before .before .before .before .before .before .before .before .before .before .before .new .result) (c .before .before .before .before .before .before .before .before .before .before .before .before .before .before .before .before .before .before .new .ensures) (c .before .before .before .before .before .before .before .before .before .before .before .ask .result) (c .before .before .before .before .before .before .before .before .before .before .before .ask .ensures) (c .before .before .before .before .before .before .before .before .before .before .begin2 .result) (c .before .before .before .before .before .before .before .before .before .before .begin2 .ensures) (c .before .before .before .before .before .before .before .before .minimax .result) (c .before .before .before .before .before .before .before .before .minimax .last .1 .1 .1 .0) (c .before .before .before .before .before .before .before .before .minimax .ensures) (c .before .before .before .before .before .before .before .before .minimax .kept .1 .1 .1 .0) (c .before .before .before .before .before .if2 .left) (c .before .before .before .before .deeper .result) (c .before .before .before .before .deeper .ensures) _ (c .before .before .is-decided .ensures) (c .before .if3 .taken) ∙ going-all (c .before .before .before .before .before .before .before .before .before .before .before .before .before .before .before .before .before .before .before .before .args .self) (c .before .before .before .before .before .before .before .before .before .before .before .before .before .before .before .before .before .before .before .before .args .game) (c .before .before .before .before .before .before .before .before .before .before .before .before .before .before .before .before .before .before .before .before .args .config) (now (c .before .before .before .before .before .before .before .before .before .before .before .before .before .before .before .before .before .before .before .before .args .words)) (c .before .before .before .before .before .before .before .before .before .before .before .before .before .before .before .before .before .none .result) (c .before .before .before .before .before .before .before .before .before .before .before .before .before .before .before .before .begin .result) (c .before .before .before .before .before .before .before .before .before .before .before .before .before .before .before .before .before .none .ensures) (c .before .before .before .before .before .before .before .before .before .before .before .before .before .before .before .before .begin .ensures))
 
 loop-less : tie.Need-loop-less Inv-loop μ-loop
 loop-less c = let e = ap (λ (w : Whole). w .depth) (c .before .before .before .deeper .ensures .0) in omega (arith, c .before .before .before .before .before .before .before .before .before .before .before .if1 .taken)
 
 loop-again : tie.Need-loop-again Inv-loop μ-loop
-loop-again c = going-on (c .before .before .before .before .before .before .before .before .before .before .before .before .before .before .before .before .before .before .args .game) (c .before .before .before .before .before .before .before .before .before .before .before .before .before .before .before .before .before .before .args .config) (now (c .before .before .before .before .before .before .before .before .before .before .before .before .before .before .before .before .before .before .args .words)) (c .before .before .before .before .before .before .before .before .before .before .before .before .before .before .before .before .none .result) (c .before .before .before .before .before .before .before .before .before .before .before .before .before .before .before .begin .result) (c .before .before .before .before .before .before .before .before .before .before .before .before .before .before .loop .words) (c .before .before .before .before .before .before .before .before .before .before .before .before .before .before .loop .whole) (c .before .before .before .before .before .before .before .before .before .before .before .before .before .before .loop .s) (c .before .before .before .before .before .before .before .before .before .before .before .before .before .before .loop .inv) (c .before .before .before .before .before .before .before .before .before .before .before .before .before .before .before .before .before .before .pre .0) (c .before .before .before .before .before .before .before .before .before .before .before .before .before .before .before .before .before .before .pre .1) (c .before .before .before .before .before .before .before .before .before .before .before .if1 .taken) (c .before .before .before .before .before .before .before .before .before .before .ask .result) (c .before .before .before .before .before .before .before .before .before .before .ask .ensures) (c .before .before .before .before .before .before .before .before .before .begin2 .result) (c .before .before .before .before .before .before .before .before .before .begin2 .ensures) (c .before .before .before .before .before .before .before .minimax .result) (c .before .before .before .before .before .before .before .minimax .last .1 .1 .1 .0) (c .before .before .before .before .before .before .before .minimax .ensures) (c .before .before .before .before .before .before .before .minimax .kept .1 .1 .1 .0) (c .before .before .before .before .if2 .left) (c .before .before .before .deeper .result) (c .before .before .before .deeper .ensures) _ (c .before .is-decided .ensures) (c .if3 .left)
+loop-again c = going-on (c .before .before .before .before .before .before .before .before .before .before .before .before .before .before .before .before .before .before .before .args .game) (c .before .before .before .before .before .before .before .before .before .before .before .before .before .before .before .before .before .before .before .args .config) (now (c .before .before .before .before .before .before .before .before .before .before .before .before .before .before .before .before .before .before .before .args .words)) (c .before .before .before .before .before .before .before .before .before .before .before .before .before .before .before .before .none .result) (c .before .before .before .before .before .before .before .before .before .before .before .before .before .before .before .begin .result) (c .before .before .before .before .before .before .before .before .before .before .before .before .before .before .loop .words) (c .before .before .before .before .before .before .before .before .before .before .before .before .before .before .loop .whole) (c .before .before .before .before .before .before .before .before .before .before .before .before .before .before .loop .s) (c .before .before .before .before .before .before .before .before .before .before .before .before .before .before .loop .inv) (c .before .before .before .before .before .before .before .before .before .before .before .before .before .before .before .before .before .before .before .pre .0) (c .before .before .before .before .before .before .before .before .before .before .before .before .before .before .before .before .before .before .before .pre .1) (c .before .before .before .before .before .before .before .before .before .before .before .if1 .taken) (c .before .before .before .before .before .before .before .before .before .before .before .before .before .before .before .before .before .new .result) (c .before .before .before .before .before .before .before .before .before .before .before .before .before .before .before .before .before .new .ensures) (c .before .before .before .before .before .before .before .before .before .before .ask .result) (c .before .before .before .before .before .before .before .before .before .before .ask .ensures) (c .before .before .before .before .before .before .before .before .before .begin2 .result) (c .before .before .before .before .before .before .before .before .before .begin2 .ensures) (c .before .before .before .before .before .before .before .minimax .result) (c .before .before .before .before .before .before .before .minimax .last .1 .1 .1 .0) (c .before .before .before .before .before .before .before .minimax .ensures) (c .before .before .before .before .before .before .before .minimax .kept .1 .1 .1 .0) (c .before .before .before .before .if2 .left) (c .before .before .before .deeper .result) (c .before .before .before .deeper .ensures) _ (c .before .is-decided .ensures) (c .if3 .left)
 
 report-requires-3 : tie.Need-report-requires-3 Inv-loop μ-loop
 report-requires-3 c κs = c .before .before .before .loop .inv .empty
@@ -73,7 +76,7 @@ same-length-3 : tie.Need-same-length-3 Inv-loop μ-loop
 same-length-3 c = c .before .before .before .before .loop .inv .long
 
 returns-3 : tie.Need-returns-3 Inv-loop μ-loop
-returns-3 c = c .report3 .ensures _ ∙ ap report (going-done (c .before .before .before .before .before .before .before .before .args .game) (c .before .before .before .before .before .before .before .before .args .config) (now (c .before .before .before .before .before .before .before .before .args .words)) (c .before .before .before .before .before .before .none .result) (c .before .before .before .before .before .begin .result) (c .before .before .before .before .loop .words) (c .before .before .before .before .loop .whole) (c .before .before .before .before .loop .s) (c .before .before .before .before .loop .inv) (c .before .if1 .left) ∙ going-all (c .before .before .before .before .before .before .before .before .args .self) (c .before .before .before .before .before .before .before .before .args .game) (c .before .before .before .before .before .before .before .before .args .config) (now (c .before .before .before .before .before .before .before .before .args .words)) (c .before .before .before .before .before .before .none .result) (c .before .before .before .before .before .begin .result) (c .before .before .before .before .before .before .none .ensures) (c .before .before .before .before .before .begin .ensures))
+returns-3 c = c .report3 .ensures _ ∙ ap report (going-done (c .before .before .before .before .before .before .before .before .before .args .game) (c .before .before .before .before .before .before .before .before .before .args .config) (now (c .before .before .before .before .before .before .before .before .before .args .words)) (c .before .before .before .before .before .before .none .result) (c .before .before .before .before .before .begin .result) (c .before .before .before .before .loop .words) (c .before .before .before .before .loop .whole) (c .before .before .before .before .loop .s) (c .before .before .before .before .loop .inv) (c .before .if1 .left) ∙ going-all (c .before .before .before .before .before .before .before .before .before .args .self) (c .before .before .before .before .before .before .before .before .before .args .game) (c .before .before .before .before .before .before .before .before .before .args .config) (now (c .before .before .before .before .before .before .before .before .before .args .words)) (c .before .before .before .before .before .before .none .result) (c .before .before .before .before .before .begin .result) (c .before .before .before .before .before .before .none .ensures) (c .before .before .before .before .before .begin .ensures))
 
 pub deepen-spec : {M : Type 1} → statement M
 deepen-spec =
@@ -81,6 +84,7 @@ deepen-spec =
     (tie.spec
     Inv-loop
     μ-loop
+    new-requires
     none-requires
     begin-requires
     loop-holds

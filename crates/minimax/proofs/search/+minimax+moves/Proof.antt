@@ -1,13 +1,21 @@
 -- The two functions together: a position is entered, answered or searched over its moves, and each turn over the moves is one of the definition's.
-use mathlib.Core.Path.{_≡_, refl, sym, _∙_}
-use mathlib.Core.Bool.{Bool, false}
+use mathlib.Core.Path.{_≡_, refl, sym, ap, _∙_}
+use mathlib.Core.Bool.{Bool, true, false}
+use mathlib.Core.List.{[]}
+use mathlib.Core.Logic.{⊎-elim}
 use Prim.Native.Nat.{ℕ, _+_, _*_, _<_}
 use native.Mathlib.Omega.{arith}
-use lib.ListN.{length}
+use lib.ListN.{length, length-map}
+use mir.Syntax.{w64}
+use mir.Val.{toZ}
 use denote.Ref.{now}
 use Rattle.order.specs.Order.{walk-left}
-use Rattle.minimax.specs.State.{Ready}
-use Rattle.minimax.proofs.Turns.{stand, Turn, Begun, Held, Met, Brought, Raised, walk-shorter, words-long, may-raise, turn-first, turn-done, under-asked, under-counted, under-lower, turn-stopped, score-within, cut-room, turn-not, turn-better, turn-cut, entered-moves}
+use Rattle.minimax.specs.declared.search.Found.{Found}
+use Rattle.evaluation.proofs.Signed.{result}
+use Rattle.minimax.proofs.Scores.{told}
+use Rattle.minimax.proofs.Entering.{Begun as Entering, Looked, Knows, Goes, may-enter, may-leaf, may-hit, may-suffice, stop-gives, leaf-gives, none-goes, known-gives, some-goes, goes-gives, goes-on}
+use Rattle.minimax.proofs.Turns.{stand, Turn, Begun, Held, Met, Brought, Raised, walk-shorter, words-long, may-raise, turn-first, turn-done, may-count, may-tell-leaf, leaf-below, stop-below, by-parts, under-asked, under-counted, under-lower, turn-stopped, score-within, cut-room, turn-not, turn-better, turn-cut}
+use borrow.Author.Needs.{needs}
 use borrow.Fn.Kinds.{In, Out}
 use borrow.Fn.PlainCycle.{Measures, is, falls, and}
 use Rattle.minimax.proofs.search.minimax.Reads as minimax
@@ -17,18 +25,30 @@ use Rattle.minimax.proofs.search.moves.Reads as moves
 use Rattle.minimax.proofs.search.moves.Kinds as moves-kinds
 use Rattle.minimax.proofs.search.+minimax+moves.Lts-moves as moves-lts
 use Rattle.boards.proofs.moves.Move.is_none.Reads as is-none-reads
+use Rattle.boards.proofs.moves.Move.none.Reads as none-reads
+use Rattle.game.proofs.Game.zobrist.Reads as zobrist-reads
+use Rattle.table.proofs.lookup.Reads as lookup-reads
 use Rattle.order.proofs.Walk.next.Reads as next-reads
 use Rattle.minimax.proofs.search.Ask.below.Reads as below-reads
 use Rattle.minimax.proofs.search.Ask.best.Reads as best-reads
 use Rattle.minimax.proofs.search.Ask.cut.Reads as cut-reads
-use Rattle.minimax.proofs.search.Ask.enter.Reads as enter-reads
 use Rattle.minimax.proofs.search.Ask.is_cut.Reads as is-cut-reads
+use Rattle.minimax.proofs.search.Ask.evaluate.Reads as evaluate-reads
+use Rattle.minimax.proofs.search.Ask.evaluated.Reads as evaluated-reads
+use Rattle.minimax.proofs.search.Ask.is_leaf.Reads as is-leaf-reads
 use Rattle.minimax.proofs.search.Ask.leave.Reads as leave-reads
+use Rattle.minimax.proofs.search.Ask.suffices.Reads as suffices-reads
 use Rattle.minimax.proofs.search.Ask.walk.Reads as walk-reads
 use Rattle.minimax.proofs.search.Best.is_below.Reads as is-below-reads
 use Rattle.minimax.proofs.search.Best.raise.Reads as raise-reads
+use Rattle.minimax.proofs.search.Found.known.Reads as known-reads
 use Rattle.minimax.proofs.search.Found.of.Reads as of-reads
+use Rattle.minimax.proofs.search.Found.stop.Reads as stop-reads
 use Rattle.minimax.proofs.search.Line.empty.Reads as empty-reads
+use Rattle.minimax.proofs.search.Search.enter.Reads as count-reads
+use Rattle.minimax.proofs.search.Search.hit.Reads as hit-reads
+use Rattle.minimax.proofs.search.Search.leaf.Reads as leaf-reads
+use Rattle.minimax.proofs.search.Search.suffice.Reads as suffice-reads
 use Rattle.minimax.proofs.search.+minimax+moves.{statement}
 use Rattle.minimax.proofs.search.+minimax+moves.Tie.{close}
 
@@ -51,7 +71,36 @@ abbrev moves-below : ℕ → In 1 moves-kinds.ps
 moves-below t = and 1 moves-kinds.ps (falls 1 moves-kinds.ps _<_ μ-moves t) moves.Pre
 
 abbrev minimax-env : ℕ → minimax-lts.Claims
-minimax-env t = (enter-reads.Asked, enter-reads.Learnt, moves-below t, moves.Post, leave-reads.Asked, leave-reads.Learnt)
+minimax-env t = (
+  stop-reads.Asked,
+  stop-reads.Learnt,
+  count-reads.Asked,
+  count-reads.Learnt,
+  is-leaf-reads.Asked,
+  is-leaf-reads.Learnt,
+  leaf-reads.Asked,
+  leaf-reads.Learnt,
+  evaluated-reads.Asked,
+  evaluated-reads.Learnt,
+  none-reads.Asked,
+  none-reads.Learnt,
+  zobrist-reads.Asked,
+  zobrist-reads.Learnt,
+  lookup-reads.Asked,
+  lookup-reads.Learnt,
+  hit-reads.Asked,
+  hit-reads.Learnt,
+  suffices-reads.Asked,
+  suffices-reads.Learnt,
+  suffice-reads.Asked,
+  suffice-reads.Learnt,
+  known-reads.Asked,
+  known-reads.Learnt,
+  moves-below t,
+  moves.Post,
+  leave-reads.Asked,
+  leave-reads.Learnt,
+)
 
 abbrev moves-env : ℕ → moves-lts.Claims
 moves-env t = (
@@ -69,6 +118,16 @@ moves-env t = (
   of-reads.Learnt,
   below-reads.Asked,
   below-reads.Learnt,
+  is-leaf-reads.Asked,
+  is-leaf-reads.Learnt,
+  stop-reads.Asked,
+  stop-reads.Learnt,
+  count-reads.Asked,
+  count-reads.Learnt,
+  leaf-reads.Asked,
+  leaf-reads.Learnt,
+  evaluate-reads.Asked,
+  evaluate-reads.Learnt,
   minimax-below t,
   minimax.Post,
   is-below-reads.Asked,
@@ -95,37 +154,125 @@ module _ (t : ℕ) where
   abbrev Moves : (moves-lts.Claims → In 1 moves-kinds.ps → Out 1 moves-kinds.ps moves-kinds.r → moves-lts.InvT-loop → moves-lts.MeasureT-loop → Type 0) → Type 0
   Moves place = place (moves-env t) (moves-at t) moves.Post moves-Inv-loop moves-μ-loop
 
-  -- ---- the search of a position
+  -- ---- the search of a position: entered, no leaf, and what the table has
+  abbrev entering : Minimax minimax-lts.After-enter → Entering
+  entering c = let start = c .before .before .before .before .before in record {
+    a = start .args .a;
+    s = start .args .state;
+    l = start .args .line;
+    words = now (start .args .words);
+    asked = start .pre .1 .0;
+    counted = start .pre .1 .1;
+    more = c .before .if1 .left;
+    s₁ = c .enter .result;
+    entered = c .enter .ensures;
+  }
+
+  abbrev looked : (c : Minimax minimax-lts.After-lookup) → Looked (entering (c .before .before .before .before .before .before .before))
+  looked c = let told = c .before .before .before .before .before .before in record {
+    x = told .is-leaf .result;
+    told-leaf = told .is-leaf .ensures;
+    no-leaf = c .before .before .before .before .before .if2 .left;
+    held = c .lookup .result;
+    key = c .before .zobrist .result;
+    key-is = c .before .zobrist .ensures;
+    looked = c .lookup .ensures;
+  }
+
+  abbrev knows : (c : Minimax minimax-lts.After-suffices) → Knows (looked (c .before .before .before .before .before))
+  knows c = record {
+    entry = _;
+    is-held = c .before .before .before .held .given .1;
+    s₂ = c .before .hit .result;
+    was-hit = c .before .hit .ensures;
+    b = c .suffices .result;
+    told-suffices = c .suffices .ensures;
+  }
+
+  abbrev goes : (c : Minimax minimax-lts.At-match-came) → Goes (entering (c .before .before .before .before .before .before .before .before)) (c .match .first) (c .match .s)
+  goes c =
+      let none = c .before .before .before .before .none in
+      ⊎-elim
+      (λ w. goes-on (w .3) (w .2) (none-goes (looked (c .before)) (w .1 .given .1) (none .result) (none .ensures)))
+      (λ w. goes-on (w .8) (w .7) (some-goes {k = looked (c .before)} (record { entry = _; is-held = w .1 .given .1; s₂ = w .3 .result; was-hit = w .3 .ensures; b = w .4 .result; told-suffices = w .4 .ensures }) (w .5 .left) _ refl))
+      (c .match .came)
+
+  minimax-stop-requires : Minimax minimax-lts.Need-stop-requires
+  minimax-stop-requires c κs = tt
+
+  minimax-returns : Minimax minimax-lts.Need-returns
+  minimax-returns c = let start = c .before .before .before .before .before in
+      stop-gives (start .args .a) (start .args .state) (start .args .line) (now (start .args .words)) (c .stop .result) (c .before .if1 .taken) (c .stop .ensures)
+
   minimax-enter-requires : Minimax minimax-lts.Need-enter-requires
-  minimax-enter-requires c κs = c .before .before .pre .1
+  minimax-enter-requires c κs = let start = c .before .before .before .before in may-enter (start .args .a) (start .args .state) (start .pre .1 .0) (start .pre .1 .1) (c .if1 .left)
+
+  minimax-is-leaf-requires : Minimax minimax-lts.Need-is-leaf-requires
+  minimax-is-leaf-requires c κs = tt
+
+  minimax-leaf-requires : Minimax minimax-lts.Need-leaf-requires
+  minimax-leaf-requires c κs = may-leaf (entering (c .before .before))
+
+  minimax-evaluated-requires : Minimax minimax-lts.Need-evaluated-requires
+  minimax-evaluated-requires c κs = entering (c .before .before .before) .asked .valued
+
+  minimax-returns-2 : Minimax minimax-lts.Need-returns-2
+  minimax-returns-2 c =
+      let e = entering (c .before .before .before .before) in
+      let told = c .before .before .before in
+      leaf-gives (e .a) (e .s) (e .l) (e .words) (e .more) (e .s₁) (e .entered) (c .before .leaf .result) (c .before .leaf .ensures) (told .is-leaf .result) (told .is-leaf .ensures) (c .before .before .if2 .taken) (c .evaluated .result) (c .evaluated .ensures)
+
+  minimax-none-requires : Minimax minimax-lts.Need-none-requires
+  minimax-none-requires c κs = tt
+
+  minimax-zobrist-requires : Minimax minimax-lts.Need-zobrist-requires
+  minimax-zobrist-requires c κs = tt
+
+  minimax-lookup-requires : Minimax minimax-lts.Need-lookup-requires
+  minimax-lookup-requires c κs = tt
+
+  minimax-enum-told : Minimax minimax-lts.Need-enum-told
+  minimax-enum-told c = search needs
+
+  minimax-enum-known-held : Minimax minimax-lts.Need-enum-known-held
+  minimax-enum-known-held c = search needs
+
+  minimax-hit-requires : Minimax minimax-lts.Need-hit-requires
+  minimax-hit-requires c κs = may-hit (entering (c .before .before .before .before .before .before .before .before .before .before))
+
+  minimax-suffices-requires : Minimax minimax-lts.Need-suffices-requires
+  minimax-suffices-requires c κs = tt
+
+  minimax-suffice-requires : Minimax minimax-lts.Need-suffice-requires
+  minimax-suffice-requires c κs = may-suffice (entering (c .before .before .before .before .before .before .before .before .before .before .before .before .before)) (c .before .before .hit .result) (c .before .before .hit .ensures [])
+
+  minimax-known-requires : Minimax minimax-lts.Need-known-requires
+  minimax-known-requires c κs = tt
 
   minimax-same-length : Minimax minimax-lts.Need-same-length
   minimax-same-length c = refl
 
-  minimax-returns : Minimax minimax-lts.Need-returns
-  minimax-returns c = c .before .before .enter .ensures .at-once (c .if1 .taken)
-
-  ready : (c : Minimax minimax-lts.Else1) → Ready (c .before .before .before .before .before .args .a) (c .before .before .enter .result .found .state)
-  ready c = c .before .before .enter .ensures .ready (c .if1 .left)
+  minimax-returns-3 : Minimax minimax-lts.Need-returns-3
+  minimax-returns-3 c = known-gives (knows (c .before .before .before)) (c .before .before .if3 .taken) (c .before .suffice .result) (c .before .suffice .ensures) (c .known .result) (c .known .ensures)
 
   minimax-moves-requires : Minimax minimax-lts.Need-moves-requires
   minimax-moves-requires c κs =
-      let entered = c .before .before .before .before in
-      let start = entered .before .before .before .before .before in
-      (omega (arith, start .pre .0), (start .pre .1 .0, ready entered))
+      let start = c .before .before .before .before .before .before .before .before .before .before .before .before .before .before in
+      (omega (arith, start .pre .0), (start .pre .1 .0, goes (c .before) .ready))
 
   minimax-leave-requires : Minimax minimax-lts.Need-leave-requires
-  minimax-leave-requires c κs = let entered = c .before .before .before .before .before .before .before .before in (ready entered .deep, entered .before .before .before .before .before .pre .1 .0 .deep)
+  minimax-leave-requires c κs =
+      let came = c .before .before .before .before .before in
+      (goes came .ready .deep, entering (came .before .before .before .before .before .before .before .before) .asked .deep)
 
   minimax-same-length-2 : Minimax minimax-lts.Need-same-length-2
   minimax-same-length-2 c = c .before .before .leave .kept .1 .1 .0 ∙ c .before .before .before .before .before .before .moves .kept .1 .1 .1 .1 .0
 
-  minimax-returns-2 : Minimax minimax-lts.Need-returns-2
-  minimax-returns-2 c =
+  minimax-returns-4 : Minimax minimax-lts.Need-returns-4
+  minimax-returns-4 c =
       let told = c .before .before in
       let searched = told .before .before .before .before in
-      let entered = searched .before .before .before .before .before in
-      entered-moves (entered .before .before .enter .ensures) (entered .if1 .left) (searched .moves .ensures) (told .leave .ensures)
+      goes-gives (goes (searched .before .before)) (searched .moves .ensures) (told .leave .ensures)
 
   -- ---- the search over its moves: where the loop begins and stands, the move that it meets, and what is found below that
   abbrev begun : Moves moves-lts.After-empty → Begun
@@ -134,6 +281,7 @@ module _ (t : ℕ) where
     first = start .args .first;
     line = start .args .line;
     from = stand (now (start .args .words)) (c .before .before .walk .result) (start .args .state) (c .before .best .result) (c .empty .result);
+    three = simp length-map at (start .good .0 .1 .1 .0 .1 .1 .1 .1 .0 .1 .1 .0 .1 .0 .1);
     asked = start .pre .1 .0;
     ready = start .pre .1 .1;
     walk-is = c .before .before .walk .ensures (now (start .args .words));
@@ -144,17 +292,18 @@ module _ (t : ℕ) where
   abbrev held : Moves moves-lts.At-loop → Held
   held c = record { begun = begun (c .before); at = stand (c .loop .words) (c .loop .walk) (c .loop .s) (c .loop .best) (c .loop .local); turn = c .loop .inv }
 
-  abbrev met : (c : Moves moves-lts.After-below) → Met (held (c .before .before .before .before .before))
+  abbrev met : (c : Moves moves-lts.After-below) → Met (held (c .before .before .before .before .before .before))
   met c = record {
-    child = c .before .before .before .before .next .result;
+    child = c .before .before .before .before .before .next .result;
     under = c .below .result;
-    next = c .before .before .before .before .next .ensures;
-    is-some = sym (c .before .before .is-none .ensures) ∙ c .before .if1 .left;
+    next = c .before .before .before .before .before .next .ensures;
+    is-some = sym (c .before .before .before .is-none .ensures) ∙ c .before .before .if1 .left;
     under-is = c .below .ensures;
   }
 
-  abbrev brought : {b : Bool} (c : Moves moves-lts.After-slice-known2) → c .before .before .minimax .result .stopped ≡ b → Brought (met (c .before .before .before .before)) b
-  brought c e = let below = c .before .before .minimax in record {
+  -- by the search of the position, stopped or not
+  abbrev searched-below : {b : Bool} (c : Moves moves-lts.After-slice-known2) → c .before .before .minimax .result .stopped ≡ b → Brought (met (c .before .before .before .before .before .before)) b
+  searched-below c e = let below = c .before .before .minimax in record {
     r = below .result;
     words = below .last .1 .1 .1 .0;
     gives = below .ensures;
@@ -162,11 +311,34 @@ module _ (t : ℕ) where
     is-stopped = e;
   }
 
-  abbrev whole : (c : Moves moves-lts.Else2) → Brought (met (c .before .before .before .before .before)) false
-  whole c = brought (c .before) (c .if2 .left)
+  -- at a leaf, where no position more may be entered
+  abbrev stopped-below : (c : Moves moves-lts.After-stop) → Brought (met (c .before .before .before .before .before .before)) true
+  stopped-below c = record {
+    r = c .stop .result;
+    words = _;
+    gives = stop-below (met (c .before .before .before .before .before .before)) (c .before .if3 .taken) (c .stop .result) (c .stop .ensures);
+    long = refl;
+    is-stopped = ap (λ (f : Found). f .stopped) (c .stop .ensures);
+  }
 
-  abbrev raised : (c : Moves moves-lts.After-raise) → Raised (whole (c .before .before .before .before .before .before))
-  raised c = record { best = c .raise .result; better = sym (c .before .before .is-below .ensures) ∙ c .before .if3 .taken; raises = c .raise .ensures }
+  -- by either way
+  abbrev whole : (c : Moves moves-lts.Joined2) → Brought (met (c .before .before)) false
+  whole c =
+      let m = met (c .before .before) in
+      record {
+        r = record { state = c .if2 .s; line = c .if2 .local; score = toZ w64 (c .if2 .score); stopped = false };
+        words = c .if2 .words;
+        gives = ⊎-elim
+            (λ w. by-parts _ _ refl (leaf-below m (w .3 .left) (w .4 .result) (w .4 .ensures) (w .5 .result) (w .5 .ensures) (c .before .is-leaf .result) (c .before .is-leaf .ensures) (w .0 .taken) _ (result (w .6 .ok) (w .6 .ensures)))
+            (w .8) (w .9) (ap (toZ w64) (w .10)) (w .7))
+            (λ w. by-parts (w .2 .result) (w .2 .last .1 .1 .1 .0) (w .5 .left) (w .2 .ensures) (w .10) (w .11) (ap (toZ w64) (w .12) ∙ told (w .2 .result .score) (w .8 .given .1 .1 .0 .1)) (w .9))
+            (c .if2 .came);
+        long = ⊎-elim {C = length (c .if2 .words) ≡ length (c .before .before .before .before .before .before .before .before .loop .words)} (λ w. ap length (w .7)) (λ w. ap length (w .9) ∙ w .2 .kept .1 .1 .1 .0) (c .if2 .came);
+        is-stopped = refl;
+      }
+
+  abbrev raised : (c : Moves moves-lts.After-raise) → Raised (whole (c .before .before .before))
+  raised c = record { best = c .raise .result; better = sym (c .before .before .is-below .ensures) ∙ c .before .if5 .taken; raises = c .raise .ensures }
 
   moves-walk-requires : Moves moves-lts.Need-walk-requires
   moves-walk-requires c κs = (c .before .before .pre .1 .1 .deep, c .before .before .pre .1 .0 .deep)
@@ -196,61 +368,97 @@ module _ (t : ℕ) where
   moves-returns c = turn-done (held (c .before .before .before .before .before)) (c .before .before .before .before .next .ensures) (sym (c .before .before .is-none .ensures) ∙ c .before .if1 .taken) (c .of .ensures)
 
   moves-below-requires : Moves moves-lts.Need-below-requires
-  moves-below-requires c κs = let h = held (c .before .before .before .before) in (h .begun .ready .deep, h .begun .asked .beta-within, h .turn .score)
+  moves-below-requires c κs = let h = held (c .before .before .before .before .before) in (h .begun .ready .deep, h .begun .asked .beta-within, h .turn .score)
 
-  moves-minimax-requires : Moves moves-lts.Need-minimax-requires
-  moves-minimax-requires c κs = let m = met (c .before) in (omega (arith, under-lower m, c .before .before .before .before .before .before .before .before .before .before .before .before .pre .0), (under-asked m, under-counted m))
+  moves-is-leaf-requires : Moves moves-lts.Need-is-leaf-requires
+  moves-is-leaf-requires c κs = tt
+
+  moves-stop-requires : Moves moves-lts.Need-stop-requires
+  moves-stop-requires c κs = tt
 
   moves-same-length-2 : Moves moves-lts.Need-same-length-2
-  moves-same-length-2 c = words-long (brought (c .before) (c .if2 .taken))
+  moves-same-length-2 c = words-long (stopped-below c)
 
   moves-returns-2 : Moves moves-lts.Need-returns-2
-  moves-returns-2 c = turn-stopped (brought (c .before) (c .if2 .taken))
+  moves-returns-2 c = turn-stopped (stopped-below c)
+
+  moves-enter-requires : Moves moves-lts.Need-enter-requires
+  moves-enter-requires c κs = may-count (met (c .before .before .before .before .before)) (c .if3 .left)
+
+  moves-leaf-requires : Moves moves-lts.Need-leaf-requires
+  moves-leaf-requires c κs = may-tell-leaf (met (c .before .before .before .before .before .before)) (c .before .if3 .left) (c .enter .result) (c .enter .ensures)
+
+  moves-evaluate-requires : Moves moves-lts.Need-evaluate-requires
+  moves-evaluate-requires c κs = under-asked (met (c .before .before .before .before .before .before .before)) .valued
+
+  moves-minimax-requires : Moves moves-lts.Need-minimax-requires
+  moves-minimax-requires c κs = let m = met (c .before .before .before) in (omega (arith, under-lower m, c .before .before .before .before .before .before .before .before .before .before .before .before .before .before .before .pre .0), (under-asked m, under-counted m))
+
+  moves-same-length-3 : Moves moves-lts.Need-same-length-3
+  moves-same-length-3 c = words-long (searched-below (c .before) (c .if4 .taken))
+
+  moves-returns-3 : Moves moves-lts.Need-returns-3
+  moves-returns-3 c = turn-stopped (searched-below (c .before) (c .if4 .taken))
 
   moves-is-below-requires : Moves moves-lts.Need-is-below-requires
-  moves-is-below-requires c κs = score-within (whole (c .before .before .before))
+  moves-is-below-requires c κs = score-within (whole c)
 
   moves-raise-requires : Moves moves-lts.Need-raise-requires
-  moves-raise-requires c κs = may-raise (whole (c .before .before .before .before .before))
+  moves-raise-requires c κs = may-raise (whole (c .before .before))
 
   moves-is-cut-requires : Moves moves-lts.Need-is-cut-requires
   moves-is-cut-requires c κs = tt
 
   moves-cut-requires : Moves moves-lts.Need-cut-requires
-  moves-cut-requires c κs = cut-room (whole (c .before .before .before .before .before .before .before .before))
+  moves-cut-requires c κs = cut-room (whole (c .before .before .before .before .before))
 
   moves-of-requires-2 : Moves moves-lts.Need-of-requires-2
   moves-of-requires-2 c κs = tt
 
-  moves-same-length-3 : Moves moves-lts.Need-same-length-3
-  moves-same-length-3 c = words-long (whole (c .before .before .before .before .before .before .before .before .before .before))
+  moves-same-length-4 : Moves moves-lts.Need-same-length-4
+  moves-same-length-4 c = words-long (whole (c .before .before .before .before .before .before .before))
 
-  moves-returns-3 : Moves moves-lts.Need-returns-3
-  moves-returns-3 c = turn-cut (raised (c .before .before .before .before)) (sym (c .before .before .before .is-cut .ensures) ∙ c .before .before .if4 .taken) (c .before .cut .ensures) (c .of2 .ensures)
+  moves-returns-4 : Moves moves-lts.Need-returns-4
+  moves-returns-4 c = turn-cut (raised (c .before .before .before .before)) (sym (c .before .before .before .is-cut .ensures) ∙ c .before .before .if6 .taken) (c .before .cut .ensures) (c .of2 .ensures)
 
   moves-loop-less : Moves moves-lts.Need-loop-less
-  moves-loop-less c = walk-shorter (whole (c .before .before .before .before .before .before .before .before))
+  moves-loop-less c = walk-shorter (whole (c .before .before .before .before .before))
 
   moves-loop-again : Moves moves-lts.Need-loop-again
-  moves-loop-again c = turn-better (raised (c .before .before)) (sym (c .before .is-cut .ensures) ∙ c .if4 .left)
+  moves-loop-again c = turn-better (raised (c .before .before)) (sym (c .before .is-cut .ensures) ∙ c .if6 .left)
 
   moves-loop-less-2 : Moves moves-lts.Need-loop-less-2
-  moves-loop-less-2 c = walk-shorter (whole (c .before .before .before .before .before))
+  moves-loop-less-2 c = walk-shorter (whole (c .before .before))
 
   moves-loop-again-2 : Moves moves-lts.Need-loop-again-2
-  moves-loop-again-2 c = turn-not (whole (c .before .before .before .before .before)) (sym (c .before .is-below .ensures) ∙ c .if3 .left)
+  moves-loop-again-2 c = turn-not (whole (c .before .before)) (sym (c .before .is-below .ensures) ∙ c .if5 .left)
 
 pub +minimax+moves-spec : {M : Type 1} → statement M
 +minimax+moves-spec = close μ-minimax μ-moves (λ t. minimax-lts.spec (minimax-env t)
     (minimax-at t)
     minimax.Post
-    (minimax-enter-requires t)
-    (minimax-same-length t)
+    (minimax-stop-requires t)
     (minimax-returns t)
+    (minimax-enter-requires t)
+    (minimax-is-leaf-requires t)
+    (minimax-leaf-requires t)
+    (minimax-evaluated-requires t)
+    (minimax-returns-2 t)
+    (minimax-none-requires t)
+    (minimax-zobrist-requires t)
+    (minimax-lookup-requires t)
+    (minimax-enum-told t)
+    (minimax-enum-known-held t)
+    (minimax-hit-requires t)
+    (minimax-suffices-requires t)
+    (minimax-suffice-requires t)
+    (minimax-known-requires t)
+    (minimax-same-length t)
+    (minimax-returns-3 t)
     (minimax-moves-requires t)
     (minimax-leave-requires t)
     (minimax-same-length-2 t)
-    (minimax-returns-2 t))
+    (minimax-returns-4 t))
     λ t. moves-lts.spec (moves-env t)
     (moves-at t)
     moves.Post
@@ -266,16 +474,23 @@ pub +minimax+moves-spec : {M : Type 1} → statement M
     (moves-same-length t)
     (moves-returns t)
     (moves-below-requires t)
-    (moves-minimax-requires t)
+    (moves-is-leaf-requires t)
+    (moves-stop-requires t)
     (moves-same-length-2 t)
     (moves-returns-2 t)
+    (moves-enter-requires t)
+    (moves-leaf-requires t)
+    (moves-evaluate-requires t)
+    (moves-minimax-requires t)
+    (moves-same-length-3 t)
+    (moves-returns-3 t)
     (moves-is-below-requires t)
     (moves-raise-requires t)
     (moves-is-cut-requires t)
     (moves-cut-requires t)
     (moves-of-requires-2 t)
-    (moves-same-length-3 t)
-    (moves-returns-3 t)
+    (moves-same-length-4 t)
+    (moves-returns-4 t)
     (moves-loop-less t)
     (moves-loop-again t)
     (moves-loop-less-2 t)

@@ -1,27 +1,41 @@
--- Negatives within the window are exact.
-use mathlib.Core.Path.{ap₂}
-use Prim.Native.Nat.{_-_}
+-- Negatives within the window are exact, and the move's own board is valued anew.
+use mathlib.Core.Path.{ap, _∙_}
+use mathlib.Core.List.{List}
+use Prim.Native.Nat.{ℕ, _-_}
 use lib.IntN.{ℤ}
+use lib.ListN.{set}
+use Rattle.game.specs.Meaning.{position-of}
+use Rattle.evaluation.specs.Values.{board-value}
 use Rattle.minimax.proofs.Scores.{minus-fits, minus-reads}
 use borrow.Author.Needs.{needs}
 use Rattle.minimax.proofs.search.Ask.below.Statement.{statement}
 use Rattle.minimax.proofs.search.Ask.below.Tie as tie
 
-sub-t7 : tie.Need-sub-t7
-sub-t7 c = search needs
+global-requires : tie.Need-global-requires
+global-requires c κs = search needs
 
-sub-t8 : tie.Need-sub-t8
-sub-t8 c = minus-fits _ (c .before .before .before .before .before .pre .1)
+after-requires : tie.Need-after-requires
+after-requires c κs = search needs
 
-sub-t9 : tie.Need-sub-t9
-sub-t9 c = minus-fits _ (c .before .before .before .before .before .before .before .pre .2)
+sub-t10 : tie.Need-sub-t10
+sub-t10 c = search needs
+
+sub-t11 : tie.Need-sub-t11
+sub-t11 c = minus-fits _ (c .before .before .before .before .before .before .before .before .pre .1)
+
+sub-t12 : tie.Need-sub-t12
+sub-t12 c = minus-fits _ (c .before .before .before .before .before .before .before .before .before .before .pre .2)
 
 returns : tie.Need-returns
 returns c =
-    let a = c .before .before .before .before .before .before .before .args .self in
-    let child = c .before .before .before .before .before .before .before .args .child in
-    ap₂ (λ (x y : ℤ). record { game = child .game; depth = a .depth - 1; alpha = x; beta = y; prev = child .m; «draw_winner» = a .«draw_winner»; allowance = a .allowance })
-    (minus-reads _ (c .before .before .before .before .before .before .before .pre .1)) (minus-reads _ (c .before .before .before .before .before .before .before .pre .2))
+    let called = c .before .before .before .before .before in
+    let start = called .before .before .before .before .before in
+    let a = start .args .self in
+    let child = start .args .child in
+    let x = minus-reads _ (start .pre .1) in
+    let y = minus-reads _ (start .pre .2) in
+    let v = called .after .ensures ∙ ap (λ (b : ℕ). set (a .values .boards) b (board-value (position-of (child .game)) b)) (called .before .global .ensures) in
+    λ i. record { game = child .game; depth = a .depth - 1; alpha = x i; beta = y i; prev = child .m; «draw_winner» = a .«draw_winner»; allowance = a .allowance; values = record { boards = v i } }
 
 pub below-spec : {M : Type 1} → statement M
-below-spec = tie.close (tie.spec sub-t7 sub-t8 sub-t9 returns)
+below-spec = tie.close (tie.spec global-requires after-requires sub-t10 sub-t11 sub-t12 returns)

@@ -8,10 +8,10 @@ with-line-requires : tie.Need-with-line-requires
 with-line-requires c κs = search needs
 
 sub-t8 : tie.Need-sub-t8
-sub-t8 c = minus-fits _ (c .before .before .before .before .before .pre .0)
+sub-t8 c = minus-fits _ (c .before .before .pre .0)
 
 returns : tie.Need-returns
-returns c = (minus-reads _ (c .before .before .before .before .before .pre .0), c .before .before .with-line .ensures .0, c .before .before .with-line .ensures .1)
+returns c = (minus-reads _ (c .before .before .pre .0), c .with-line .ensures .0, c .with-line .ensures .1)
 
 pub raise-spec : {M : Type 1} → statement M
 raise-spec = tie.close (tie.spec with-line-requires sub-t8 returns)

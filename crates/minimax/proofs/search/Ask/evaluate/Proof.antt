@@ -1,0 +1,21 @@
+-- The values are those of the boards, and by them the evaluation is the plain one.
+use mathlib.Core.Path.{ap, _∙_}
+use Rattle.game.specs.Meaning.{position-of}
+use Rattle.evaluation.specs.Values.{evaluate-by}
+use Rattle.evaluation.proofs.Signed.{result}
+use Rattle.evaluation.proofs.Overall.{by-values}
+use borrow.Author.Needs.{needs}
+use Rattle.minimax.proofs.search.Ask.evaluate.Statement.{statement}
+use Rattle.minimax.proofs.search.Ask.evaluate.Tie as tie
+
+evaluate-requires : tie.Need-evaluate-requires
+evaluate-requires c κs = search needs
+
+returns : tie.Need-returns
+returns c =
+    let s = c .before .before .before in
+    let a = s .args .self in
+    result (c .evaluate .ok) (c .evaluate .ensures) ∙ ap (evaluate-by (a .«draw_winner») (position-of (a .game))) (s .pre) ∙ by-values (a .«draw_winner») (position-of (a .game))
+
+pub evaluate-spec : {M : Type 1} → statement M
+evaluate-spec = tie.close (tie.spec evaluate-requires returns)
