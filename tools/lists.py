@@ -1,17 +1,7 @@
-#!/usr/bin/env python3
-"""Turn the Rust's stored answers into the lists that the replay programs read.
+"""Records of the lists that the replay programs read, made from requests and the Rust's answers (docs/ORACLE.md).
 
-usage: lists.py game ANSWERS.. > crates/replay_game/stdin
-       lists.py notation ANSWERS.. > crates/replay_notation/stdin
-       lists.py eval ANSWERS.. > crates/replay_eval/stdin
-       lists.py program ANSWERS.. > crates/ultimattt/stdin
-       lists.py answers ANSWERS.. > crates/ultimattt/stdout
-       lists.py endgame ANSWERS.. > crates/replay_endgame/stdin
-       lists.py search ANSWERS.. > crates/replay_search/stdin
-
-ANSWERS is a folder of files KIND.req and KIND.ans, a request and an answer to a line, as the driver around the Rust
-engine gives them (docs/ORACLE.md). A list has a record to a line. Of game and notation it is decimal numbers parted by
-single blanks:
+`RECORDS` says of each list which kinds of requests it holds, in its order. A list has a record to a line. Of game and notation it is
+decimal numbers parted by single blanks:
 
   1 k m.. r..                       k moves tried from the empty board, and what each was answered: 0, or 9 to 13
   2 POSITION k m.. r..              the same from a position
@@ -31,10 +21,6 @@ has none), which is then the one expected; in 4 a text of over 256 bytes, or one
 
 Of eval it is three fields parted by tabs: a position's text; the draw winner, X, O or - for none; the evaluation, a
 decimal number with a minus before it if it is below 0.
-
-Of program it is lines for the program itself, and of answers what it must write: document 01's four examples and edges
-of a line, with the answers that its words give (DOCUMENT), then the stored requests of kind program with the stored answers. The
-last line of program has no line feed.
 
 Of endgame it is two fields parted by tabs: a position's text; numbers parted by blanks:
 
@@ -57,29 +43,22 @@ answers and table are the digests of the memory after the search (FNV-1a, 64 bit
 O's, a byte each; the table's words, the lowest byte first), remembered and used say how many there are. The count of a
 search that the driver does not count is the sum of its depths' visited.
 """
-import os, re, sys
+import re
 
 ERRORS = {"ok": 0, "OutOfBounds": 9, "GameOver": 10, "WonBoard": 11, "WrongBoard": 12, "NotEmpty": 13}
 STATES = {"InPlay": 0, "Drawn": 1, "WonX": 2, "WonO": 3}
 KINDS = {"MissingSection": 2, "BadPlayer": 3, "TooFewSquares": 4, "BadBoard": 5, "TooShort": 6}
 LINES = [(0, 1, 2), (3, 4, 5), (6, 7, 8), (0, 3, 6), (1, 4, 7), (2, 5, 8), (0, 4, 8), (6, 4, 2)]
-
-
-def pairs(folder, kind):
-    with open(f"{folder}/{kind}.req", "rb") as q, open(f"{folder}/{kind}.ans", "rb") as a:
-        for request, answer in zip(q.read().split(b"\n"), a.read().split(b"\n")):
-            if request:
-                yield request.split(b"\t"), answer.decode("utf-8", "replace")
+LONGEST = 4096   # bytes of a record that the programs read
 
 
 def letters(text):
-    text = text.decode() if isinstance(text, bytes) else text
     return [16 * (ord(text[i]) - 97) + ord(text[i + 1]) - 97 for i in range(0, len(text), 2)]
 
 
 def position(text):
     """The numbers of a position text that reads."""
-    side, overall, cells = text.decode().split(";")
+    side, overall, cells = text.split(";")
     rows = [0] * 6
     for board, part in enumerate(cells[:89].split("/")):
         for cell, mark in enumerate(part):
@@ -100,90 +79,188 @@ def fields(answer):
     return dict(re.findall(r"(\w+)=(\S+)", answer))
 
 
-def tail(answer):
-    f = fields(answer)
+def reached(f):
+    """The numbers of a game, and its list of moves."""
     rows = [int(n, 16) for row in f["rows"].split(",") for n in row.split(".")]
-    return rows + [int(f["hash"]), int(f["fresh"]), int(f["zobrist"]), STATES[f["state"]], "XO".index(f["player"]),
-                   255 if f["next"] == "-" else int(f["next"]), int(f["bound"]), int(f["open"])]
+    due = 255 if f["next"] == "-" else int(f["next"])
+    hashes = [int(f["hash"]), int(f["fresh"]), int(f["zobrist"])]
+    numbers = hashes + [STATES[f["state"]], "XO".index(f["player"]), due, int(f["bound"]), int(f["open"])]
+    moves = letters(f["moves"]) if f["state"] == "InPlay" and f["moves"] != "-" else []
+    return rows + numbers + [int(f["state"] != "InPlay"), len(moves)] + moves
 
 
-def listed(answer):
-    f = fields(answer)
-    if f["state"] != "InPlay":
-        return [1, 0]
-    moves = [] if f["moves"] == "-" else letters(f["moves"])
-    return [0, len(moves)] + moves
-
-
-def tried(moves, answer):
-    results = answer.split(" ")[0]
+def tried(text, answer):
+    moves, results = letters(text), answer.split(" ")[0]
     results = [] if results == "-" else [ERRORS[r] for r in results.split(",")]
     assert len(results) == len(moves)
-    return [len(moves)] + moves + results + tail(answer) + listed(answer)
+    return [len(moves)] + moves + results + reached(fields(answer))
 
 
-def game(folder):
-    for request, answer in pairs(folder, "play"):
-        yield [1] + tried(letters(request[1]), answer)
-    for request, answer in pairs(folder, "from"):
-        if not answer.startswith(("ERR", "PANIC")):
-            yield [2] + position(request[1]) + tried(letters(request[2]) if len(request) > 2 else [], answer)
-    for request, answer in pairs(folder, "equiv"):
-        a, b = answer.split()
-        yield [3] + position(request[1]) + position(request[2]) + [int(a == "true"), int(b == "true")]
+def played(request, answer):
+    return [1] + tried(request[1], answer)
+
+
+def played_from(request, answer):
+    return [2] + position(request[1]) + tried(request[2], answer)
+
+
+def equivalence(request, answer):
+    return [3] + position(request[1]) + position(request[2]) + [int(word == "true") for word in answer.split()]
+
+
+def as_bytes(text):
+    data = text.encode()
+    return [len(data), *data]
 
 
 def bad_mark(text):
-    overall = text.split(b";")[1]
-    return next(i for i, c in enumerate(overall) if c not in b"XO#@.")
+    """Where the first bad overall mark stands."""
+    side, overall, _ = text.encode().split(b";")
+    return len(side) + 1 + next(i for i, c in enumerate(overall) if c not in b"XO#@.")
 
 
-def notation(folder):
-    for request, answer in pairs(folder, "parse"):
-        text = b"\t".join(request[1:])
-        head = [len(text)] + list(text)
-        if len(text) > 256:
-            yield [4] + head + [1, 0, 0]
-        elif answer.startswith("PANIC") or answer.startswith("NOTUTF8"):
-            yield [4] + head + [5, 2 + bad_mark(text), 1]
-        elif answer.startswith("ERR"):
-            _, kind, offset, length = answer.split()
-            yield [4] + head + [KINDS[kind], int(offset), int(length)]
-        else:
-            f = fields(answer)
-            yield [5] + head + list(f["render"].encode()) + [int(f["hash"]), int(f["zobrist"]), STATES[f["state"]], int(f["bound"])]
-    for request, answer in pairs(folder, "move"):
-        text = b"\t".join(request[1:])
-        head = [len(text)] + list(text)
-        words = answer.split()
-        if words[0] == "ok":
-            yield [6] + head + [0, 0, int(words[1])]
-        elif words[0] == "BadLength":
-            yield [6] + head + [7, 0, 255]
-        else:
-            byte = next(c for c in text if not 97 <= c <= 105)
-            yield [6] + head + [8, byte, 255]
-    for request, answer in pairs(folder, "status"):
-        numbers = [int(n) for n in request[1:]]
-        value = 0 if answer == "none" else int(answer.split()[0])
-        yield ([8] if request[0] == b"merge" else [7]) + numbers + [value]
-    for request, answer in pairs(folder, "play"):
-        moves = letters(request[1])
-        yield [9, len(moves)] + moves + list(fields(answer)["render"].encode())
+def read(request, answer):
+    text = request[1]
+    if len(text.encode()) > 256:
+        return [4, *as_bytes(text), 1, 0, 0]
+    if answer.startswith("PANIC"):
+        return [4, *as_bytes(text), 5, bad_mark(text), 1]
+    if answer.startswith("ERR"):
+        _, kind, offset, length = answer.split()
+        return [4, *as_bytes(text), KINDS[kind], int(offset), int(length)]
+    f = fields(answer)
+    return [5, *as_bytes(text), *f["render"].encode(), int(f["hash"]), int(f["zobrist"]), STATES[f["state"]], int(f["bound"])]
 
 
-def evaluations(folder):
-    for request, answer in pairs(folder, "eval"):
-        _, text, draw = request
-        assert re.fullmatch("-?[0-9]+", answer), answer
-        yield [text.decode(), draw.decode(), answer]
+def move_text(request, answer):
+    what, *number = answer.split()
+    if what == "ok":
+        return [6, *as_bytes(request[1]), 0, 0, int(number[0])]
+    if what == "BadLength":
+        return [6, *as_bytes(request[1]), 7, 0, 255]
+    return [6, *as_bytes(request[1]), 8, chr(int(number[0])).encode()[0], 255]
 
+
+def status(request, answer):
+    value = 0 if answer == "none" else int(answer)
+    return [8 if request[0] == "merge" else 7, *request[1:], value]
+
+
+def rendered(request, answer):
+    moves = letters(request[1])
+    return [9, len(moves)] + moves + list(fields(answer)["render"].encode())
+
+
+def evaluation(request, answer):
+    assert re.fullmatch("-?[0-9]+", answer), answer
+    return [request[1], request[2], answer]
+
+
+def endgame(request, answer):
+    f = fields(answer)
+    moves = re.findall(r"([a-p]{2}):(\d+)", f.get("moves", "")) or [("aa", None)]
+    refusal = 10 if f["over"] == "1" else 14 if f["sound"] == "0" else 0
+    if refusal == 14:
+        numbers = [14, 7] + [0] * 6
+    else:
+        numbers = [0, int(f["status"])] + [int(n) for n in f["stats"].split(",")]
+    for move, found in moves:
+        numbers += [letters(move)[0], refusal, 7 if refusal else int(found)]
+    return [request[1], " ".join(map(str, numbers))]
+
+
+def digest(data):
+    h = 0xCBF29CE484222325
+    for byte in data:
+        h = (h ^ byte) * 0x100000001B3 % 2**64
+    return h
+
+
+def digest_of_zeros(count):
+    """A zero byte only multiplies."""
+    return 0xCBF29CE484222325 * pow(0x100000001B3, count, 2**64) % 2**64
+
+
+def score(text):
+    return [int(text.startswith("-")), text.lstrip("-")]
+
+
+def remembered(text):
+    """The numbers of the answers that a search begins with."""
+    return [n for a in text.split(",") if a for n in ("XO".index(a[0]), *letters(a[1:]))]
+
+
+def refusal(depth, allowance, entries):
+    if not 1 <= depth <= 81:
+        return 15
+    if not 1 <= allowance <= 1000000000:
+        return 16
+    return 17 if entries > 65536 else 0
+
+
+def refused(number, entries, answers):
+    """Document 01's answer: nothing entered, the memory as it was."""
+    memory = bytearray([255] * 512)
+    for k in range(0, len(answers), 3):
+        memory[256 * answers[k] + answers[k + 1]] = answers[k + 2]
+    return [number, 0, 0, 0, 0, digest(memory), 512 - memory.count(255), digest_of_zeros(24 * entries), 0]
+
+
+def found(answer):
+    """The numbers of a search from the driver's answer."""
+    f = fields(answer)
+    stats = [w for w in answer.split() if "=" not in w][0]
+    stats = [] if stats == "-" else [d.split(",") for d in stats.split(";")]
+    ending = 0 if f.get("stopped", "0") == "0" else 1 if stats else 18
+    moves = [255 if m == "--" else letters(m)[0] for m in re.findall("..", f["pv"])] if stats else []
+    assert len(moves) == len(stats)
+    count = f.get("count", sum(int(d[2]) for d in stats))
+    last = score(stats[-1][1] if stats else "0")
+    memory = [int(f["resp"], 16), f["nresp"], int(f["table"], 16), f["used"]]
+    return [ending, count, len(stats), *last, *memory, *moves, *(n for d in stats for n in (d[0], *score(d[1]), *d[2:]))]
+
+
+def searches(entries, draw, allowance, answers, asked):
+    """One memory, and (position, depth, answer) of each search that uses it."""
+    record = [entries, draw, allowance, " ".join(map(str, answers))]
+    for text, depth, answer in asked:
+        number = refusal(int(depth), int(allowance), int(entries))
+        numbers = refused(number, int(entries), answers) if number else found(answer)
+        record += [text, depth, " ".join(map(str, numbers))]
+    return record
+
+
+def searched(request, answer):
+    what, *given = request
+    if what == "searches":
+        entries, draw, *asked = given
+        return searches(entries, draw, 10**9, [], zip(asked[::2], asked[1::2], answer.split(" | "), strict=True))
+    text, depth, entries, draw, *more = given
+    allowance = more.pop(0) if what == "stop" else 10**9
+    return searches(entries, draw, allowance, remembered("".join(more)), [(text, depth, answer)])
+
+
+# Of each list what parts the fields of a record, and the kinds of requests with what makes a record of one.
+RECORDS = {
+    "game": (" ", {"play": played, "from": played_from, "hash": played_from, "equiv": equivalence}),
+    "notation": (" ", {"parse": read, "move": move_text, "status": status, "play": rendered}),
+    "eval": ("\t", {"eval": evaluation}),
+    "endgame": ("\t", {"endgame": endgame}),
+    "search": ("\t", dict.fromkeys(["search", "searches", "stop", "long", "refused"], searched)),
+}
+
+
+def record(name, kind, request, answer):
+    """The line of list `name` for a request of a kind and its answer."""
+    part, kinds = RECORDS[name]
+    return part.join(map(str, kinds[kind](request.split("\t"), answer)))
 
 EMPTY = "X;.........;" + "/".join(["." * 9] * 9)
 WINS = "X;XX@......;XXX....../XXX....../XX......." + "/........." * 6
 WON = "O;XXX......;" + "/".join(["." * 9] * 9)
 UNSOUND = "X;XXX......;" + "/".join(["." * 9] * 9)
 FIRST = "XOD 81 1 16 82 ee"
+# Lines of the program with the answers that document 01's words give: its four examples, and edges of a line.
 DOCUMENT = [
     (EMPTY + " 1", FIRST),
     (WINS + " 3", "X 7 1 1152921504606846976 8 cc"),
@@ -214,112 +291,3 @@ DOCUMENT = [
     ("X" * 5000, "E 19"),
     (EMPTY + " " * 4898 + "x", "E 19"),
 ]
-
-
-def program(folders):
-    lines = [(line.encode(), answer) for line, answer in DOCUMENT]
-    for folder in folders:
-        lines += [(b"\t".join(request[1:]), answer) for request, answer in pairs(folder, "program") if request[0] == b"program"]
-    return lines
-
-
-def endgames(folder):
-    for request, answer in pairs(folder, "endgame"):
-        f = fields(answer)
-        moves = re.findall(r"([a-p]{2}):(\d+)", f.get("moves", "")) or [("aa", None)]
-        refusal = 10 if f["over"] == "1" else 14 if f["sound"] == "0" else 0
-        if refusal == 14:
-            numbers = [14, 7] + [0] * 6
-        else:
-            numbers = [0, int(f["status"])] + [int(n) for n in f["stats"].split(",")]
-        for move, status in moves:
-            numbers += [letters(move)[0], refusal, 7 if refusal else int(status)]
-        yield [request[1].decode(), " ".join(map(str, numbers))]
-
-
-def digest(data):
-    h = 0xCBF29CE484222325
-    for byte in data:
-        h = (h ^ byte) * 0x100000001B3 % 2**64
-    return h
-
-
-def score(text):
-    return [int(text.startswith("-")), text.lstrip("-")]
-
-
-def remembered(text):
-    """The numbers of the answers that a search begins with."""
-    return [n for a in text.split(",") if a for n in ("XO".index(a[0]), *letters(a[1:]))]
-
-
-def refusal(depth, allowance, entries):
-    if not 1 <= depth <= 81:
-        return 15
-    if not 1 <= allowance <= 1000000000:
-        return 16
-    return 17 if entries > 65536 else 0
-
-
-def refused(number, entries, answers):
-    """Document 01's answer: nothing entered, the memory as it was."""
-    memory = bytearray([255] * 512)
-    for k in range(0, len(answers), 3):
-        memory[256 * answers[k] + answers[k + 1]] = answers[k + 2]
-    return [number, 0, 0, 0, 0, digest(memory), 512 - memory.count(255), digest(bytes(24 * entries)), 0]
-
-
-def found(answer):
-    """The numbers of a search from the driver's answer."""
-    f = fields(answer)
-    stats = [w for w in answer.split() if "=" not in w][0]
-    stats = [] if stats == "-" else [d.split(",") for d in stats.split(";")]
-    ending = 0 if f.get("stopped", "0") == "0" else 1 if stats else 18
-    moves = [255 if m == "--" else letters(m)[0] for m in re.findall("..", f["pv"])] if stats else []
-    assert len(moves) == len(stats)
-    count = f.get("count", sum(int(d[2]) for d in stats))
-    last = score(stats[-1][1] if stats else "0")
-    memory = [int(f["resp"], 16), f["nresp"], int(f["table"], 16), f["used"]]
-    return [ending, count, len(stats), *last, *memory, *moves, *(n for d in stats for n in (d[0], *score(d[1]), *d[2:]))]
-
-
-def chain(entries, draw, allowance, answers, searches):
-    record = [entries, draw, allowance, " ".join(map(str, answers))]
-    for position, depth, answer in searches:
-        number = refusal(int(depth), int(allowance), int(entries))
-        numbers = refused(number, int(entries), answers) if number else found(answer)
-        record += [position, depth, " ".join(map(str, numbers))]
-    return record
-
-
-def chains(folder):
-    for kind in ("search", "searches", "stop", "long", "refused"):
-        for request, answer in pairs(folder, kind) if os.path.exists(f"{folder}/{kind}.req") else []:
-            what, *given = [field.decode() for field in request]
-            if what == "searches":
-                entries, draw, *asked = given
-                yield chain(entries, draw, 10**9, [], zip(asked[::2], asked[1::2], answer.split(" | "), strict=True))
-            elif what == "stop":
-                position, depth, entries, draw, allowance, *more = given
-                yield chain(entries, draw, allowance, remembered("".join(more)), [(position, depth, answer)])
-            else:
-                position, depth, entries, draw, *more = given
-                yield chain(entries, draw, 10**9, remembered("".join(more)), [(position, depth, answer)])
-
-
-LISTS = {"game": (game, " "), "notation": (notation, " "), "eval": (evaluations, "\t"), "endgame": (endgames, "\t"),
-         "search": (chains, "\t")}
-
-if __name__ == "__main__":
-    if len(sys.argv) > 2 and sys.argv[1] == "program":
-        sys.stdout.buffer.write(b"\n".join(line for line, _ in program(sys.argv[2:])))
-        sys.exit()
-    if len(sys.argv) > 2 and sys.argv[1] == "answers":
-        print(*(answer for _, answer in program(sys.argv[2:])), sep="\n")
-        sys.exit()
-    if len(sys.argv) < 3 or sys.argv[1] not in LISTS:
-        sys.exit(__doc__)
-    records, part = LISTS[sys.argv[1]]
-    for folder in sys.argv[2:]:
-        for record in records(folder):
-            print(*record, sep=part)
