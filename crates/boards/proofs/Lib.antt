@@ -1,5 +1,4 @@
 pub mod Packed
-pub mod Masks
 pub mod Rows
 pub mod Cells
 pub mod Hashes

@@ -1,6 +1,6 @@
+pub mod Masks
 pub mod Packed
 pub mod With
 pub mod Rows
 pub mod Answers
 pub mod Cursor
-pub mod Masks

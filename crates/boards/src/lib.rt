@@ -1,5 +1,4 @@
-// Packed boards: the lines, moves and the cursor over them, the nine boards and their states.
-mod lines;
+// Packed boards: moves and the cursor over them, the nine boards and their states.
 mod local;
 mod moves;
 mod states;

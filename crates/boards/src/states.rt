@@ -7,8 +7,7 @@ ghost use Rattle.base.specs.Bits.{digits};
 ghost use Rattle.rules.specs.Board.{in-play, won-by, drawn, result};
 ghost use Rattle.boards.specs.Packed.{state-at};
 ghost use Rattle.boards.specs.With.{with-state};
-use crate::lines;
-use crate::lines::BOARD_MASK;
+use lines::BOARD_MASK;
 use rules::GameState;
 use rules::Player;
 

@@ -24,7 +24,7 @@ use Rattle.rules.specs.Endgame.{completes, critical, has-critical, suits, all-s
 use Rattle.rules.proofs.Board.{nine-in}
 use Rattle.rules.proofs.Endgame.{crit→}
 use Rattle.rules.proofs.Sound.{sound→}
-use Rattle.boards.proofs.Masks.{line-same}
+use Rattle.lines.proofs.Masks.{line-same}
 use Rattle.endgame.proofs.Sets.{set-bit, set-bit-all, none-in, joined-bit}
 
 -- ---- critical sets

@@ -25,7 +25,7 @@ use Rattle.rules.specs.Endgame.{critical}
 use Rattle.rules.proofs.Board.{in-nine}
 use Rattle.rules.proofs.Sound.{Fair}
 use Rattle.rules.proofs.Critical.{on, sole-empty, rust-critical, rust-critical-board, critical-is-rusts}
-use Rattle.boards.specs.Masks.{mask-of}
+use Rattle.lines.specs.Masks.{mask-of}
 use Rattle.evaluation.specs.Values.{line-at}
 use Rattle.evaluation.proofs.Lines.{mask-at}
 use Rattle.endgame.specs.Parts.{lacks-one, critical-by}

@@ -17,7 +17,7 @@ use Rattle.base.proofs.Every.{upTo, upTo-at, sameB, sameB-eq}
 use Rattle.base.proofs.Ones.{how-many-ones, lowest-first}
 use Rattle.rules.specs.Board.{Line, lines, whole}
 use Rattle.rules.specs.Evaluation.{count}
-use Rattle.boards.proofs.Masks.{covers}
+use Rattle.lines.proofs.Masks.{covers}
 use Rattle.evaluation.specs.Values.{line-at}
 use Rattle.evaluation.proofs.Lines.{mask-at, low}
 use Rattle.endgame.specs.Parts.{lacks-one}

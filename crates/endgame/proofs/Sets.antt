@@ -15,7 +15,7 @@ use Rattle.base.proofs.Digits.{bit-and, bit-or, bit-nought, bit-pow}
 use Rattle.base.proofs.Numbers.{bit-above, bit-digits, digits-lt, is-digits, none-set, shl-one}
 use Rattle.rules.specs.Board.{nine, has-line}
 use Rattle.rules.proofs.Board.{nine-in}
-use Rattle.boards.proofs.Masks.{line-same}
+use Rattle.lines.proofs.Masks.{line-same}
 use Rattle.boards.proofs.Packed.{bit-without}
 use Rattle.endgame.proofs.Walk.{all-fail}
 

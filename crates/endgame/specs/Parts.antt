@@ -8,7 +8,7 @@ use Rattle.rules.specs.declared.Player.{Player}
 use Rattle.rules.specs.Board.{sides, nine, Line, lines, whole, has-line}
 use Rattle.rules.specs.Position.{Position, open-board, won-boards, free-cell, has}
 use Rattle.rules.specs.Evaluation.{count}
-use Rattle.boards.specs.Masks.{mask-of}
+use Rattle.lines.specs.Masks.{mask-of}
 
 -- what `sound` asks of board b
 unfoldable pub live : Position → ℕ → Bool

@@ -41,14 +41,14 @@ use Rattle.minimax.specs.Report.{empty-answers, report-of, reported-of}
 use Rattle.minimax.specs.Structs.{structs}
 use Rattle.minimax.proofs.Reports.{bytes-empty}
 use Rattle.minimax.proofs.Rules.{reported-rules}
-use Rattle.line.specs.declared.held.Depth.{Depth}
-use Rattle.line.specs.declared.held.Depth.the-variants.{Of, Lacking}
-use Rattle.line.specs.declared.out.Out.{Out}
-use Rattle.line.specs.HeldLine.{DepthIs, new-held, pushed-all, held-asks, Same-question}
-use Rattle.line.specs.OutBytes.{out-of, out-text}
+use Rattle.held.specs.declared.Depth.{Depth}
+use Rattle.held.specs.declared.Depth.the-variants.{Of, Lacking}
+use Rattle.out.specs.declared.Out.{Out}
+use Rattle.held.specs.HeldLine.{DepthIs, new-held, pushed-all, held-asks, Same-question}
+use Rattle.out.specs.OutBytes.{out-of, out-text}
 use Rattle.line.specs.Answered.{settings, no-answers, searched, report-text, position-text, reading-text, asked-text, answer-line}
-use Rattle.line.proofs.HeldLine.{held-asks-the-same}
-use Rattle.line.proofs.OutBytes.{written-whole}
+use Rattle.held.proofs.HeldLine.{held-asks-the-same}
+use Rattle.out.proofs.OutBytes.{written-whole}
 use Rattle.line.proofs.Bounds.{moves-short, Small, searched-small}
 
 -- ---- the search, from fresh memory and with no words
@@ -152,6 +152,10 @@ reading-room text (refuses n o l) e depth = refusal-room n (omega (arith, refusa
 asked-room : (a : Asked) → length (asked-text a) ≤ 224
 asked-room no-depth = refusal-room 19 (omega arith)
 asked-room (asks text depth) = reading-room text (read text) refl depth
+
+-- no answer is longer
+pub answer-fits : (line : List ℕ) → length (answer-line line) ≤ 224
+answer-fits line = asked-room (asked line)
 
 -- ---- for every list of bytes: what `answer` promises of the line held, pushed byte by byte, is the answer to the line, and all of it is written
 pub record Answers (line : List ℕ) (r : Out) : Type 0 where

@@ -1,10 +1,2 @@
-pub mod Joined
-pub mod Padded
-pub mod Decimals
-pub mod Depths
-pub mod HeldLine
-pub mod OutBytes
-pub mod Signs
 pub mod Bounds
 pub mod Answered
-pub mod TakenLine

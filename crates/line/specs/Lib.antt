@@ -1,5 +1,1 @@
-pub mod Padded
-pub mod HeldLine
-pub mod OutBytes
 pub mod Answered
-pub mod TakenLine

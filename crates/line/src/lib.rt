@@ -1,6 +1,4 @@
 // One line of the program: what it asks, held in bounded memory, and the bytes of the answer.
-mod held;
-mod out;
 
 ghost use mathlib.Core.Path.{_≡_};
 ghost use mathlib.Core.List.{[]};
@@ -14,16 +12,14 @@ ghost use Rattle.game.specs.Meaning.{position-of};
 ghost use Rattle.game.specs.Neat.{neat};
 ghost use Rattle.notation.specs.Parsed.{kind-number};
 ghost use Rattle.minimax.specs.Report.{error-number, ending-number, report-of};
-ghost use Rattle.line.specs.HeldLine.{held-text, held-asks};
-ghost use Rattle.line.specs.OutBytes.{out-of};
+ghost use Rattle.held.specs.HeldLine.{held-text, held-asks};
+ghost use Rattle.out.specs.OutBytes.{out-of};
 ghost use Rattle.line.specs.Answered.{searched, report-text, position-text, reading-text, asked-text};
 use endgame::Analysis;
 use endgame::Made;
 use game::Game;
-pub use held::After;
-pub use held::Depth;
-pub use held::Held;
-pub use held::Taken;
+use held::Depth;
+use held::Held;
 use minimax::Config;
 use minimax::Ending;
 use minimax::Minimax;
@@ -31,13 +27,13 @@ use minimax::Report;
 use minimax::SearchError;
 use notation::ErrorKind;
 use notation::ParseAnswer;
-pub use out::Out;
+use out::Out;
 use rules::DrawWinner;
 use status::Status;
 
 pub const ALLOWANCE: u64 = 1000000;
 
-fn parse_number(why: ErrorKind) -> u64
+pub fn parse_number(why: ErrorKind) -> u64
     ensures { λ r. ⌜ r ≡ kind-number why ⌝ }
 {
     match why {
@@ -62,7 +58,7 @@ fn search_number(why: SearchError) -> u64
 }
 
 // 0 where the search was not refused.
-fn ending_number(ending: Ending) -> u64
+pub fn ending_number(ending: Ending) -> u64
     ensures { λ r. ⌜ r ≡ ending-number ending ⌝ }
 {
     match ending {

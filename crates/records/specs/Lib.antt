@@ -1,5 +1,3 @@
-pub mod Numbers
-pub mod Lists
 pub mod Fields
 pub mod Moves
 pub mod Totals

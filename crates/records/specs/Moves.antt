@@ -7,7 +7,7 @@ use lib.ListN.{length, getD}
 use Rattle.base.specs.Branch.{if_then_else_}
 use Rattle.records.specs.declared.moves.Code.{Code}
 use Rattle.records.specs.declared.moves.Code.the-variants.{Is, Bad}
-use Rattle.records.specs.Numbers.{within}
+use Rattle.decimals.specs.Numbers.{within}
 
 -- each letter `a` to `p`
 unfoldable pub pair : ℕ → ℕ → Code

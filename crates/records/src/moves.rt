@@ -1,7 +1,7 @@
 // Lists of moves: two letters each, `a` to `p`.
 ghost use mathlib.Core.Path.{_≡_};
 ghost use Rattle.records.specs.Moves.{pair, move-at};
-use crate::number::within;
+use decimals::within;
 
 // The bits of a move.
 pub enum Code {

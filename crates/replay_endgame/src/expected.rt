@@ -38,32 +38,32 @@ fn judging_number(answer: Judging) -> u64 {
 }
 
 fn same_counts(numbers: &[u64], stats: Stats) -> bool {
-    if stats.attacker_critical as u64 != records::at(numbers, 2) {
+    if stats.attacker_critical as u64 != decimals::at(numbers, 2) {
         return false;
     }
-    if stats.defender_critical as u64 != records::at(numbers, 3) {
+    if stats.defender_critical as u64 != decimals::at(numbers, 3) {
         return false;
     }
-    if stats.both_critical as u64 != records::at(numbers, 4) {
+    if stats.both_critical as u64 != decimals::at(numbers, 4) {
         return false;
     }
-    if stats.unwinnable as u64 != records::at(numbers, 5) {
+    if stats.unwinnable as u64 != decimals::at(numbers, 5) {
         return false;
     }
-    if stats.prove_attacker as u64 != records::at(numbers, 6) {
+    if stats.prove_attacker as u64 != decimals::at(numbers, 6) {
         return false;
     }
-    stats.prove_defender as u64 == records::at(numbers, 7)
+    stats.prove_defender as u64 == decimals::at(numbers, 7)
 }
 
 fn same_analysis(numbers: &[u64], game: Game) -> bool {
     let analysis = Analysis::new(game);
     let made = analysis.made;
-    if made_number(made) != records::at(numbers, 0) {
+    if made_number(made) != decimals::at(numbers, 0) {
         return false;
     }
     let status = analysis.status();
-    if status.as_byte() as u64 != records::at(numbers, 1) {
+    if status.as_byte() as u64 != decimals::at(numbers, 1) {
         return false;
     }
     let stats = analysis.stats;
@@ -75,15 +75,15 @@ fn same_move(numbers: &[u64], at: usize, game: Game) -> bool
     requires { ⌜ at < 10000 ⌝ }
 {
     let m = Move {
-        bits: (records::at(numbers, at) % 256) as u8,
+        bits: (decimals::at(numbers, at) % 256) as u8,
     };
     let judged = endgame::evaluate_move(game, m);
     let answer = judged.answer;
-    if judging_number(answer) != records::at(numbers, at + 1) {
+    if judging_number(answer) != decimals::at(numbers, at + 1) {
         return false;
     }
     let status = judged.status;
-    status.as_byte() as u64 == records::at(numbers, at + 2)
+    status.as_byte() as u64 == decimals::at(numbers, at + 2)
 }
 
 // Whether the analysis, and the judging of each listed move, of which there are `count`, are what the numbers say.

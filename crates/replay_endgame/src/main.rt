@@ -2,10 +2,10 @@
 // A record is a position's text, a tab, and the numbers that are expected (tools/lists.py).
 mod expected;
 
+use decimals::Count;
 use input::Input;
 use libc::STDOUT_FILENO;
 use notation::ParseAnswer;
-use records::Count;
 use records::Outcome;
 use records::Totals;
 
@@ -39,10 +39,10 @@ fn more_unsound(before: usize, found: Found) -> usize {
 
 // By the refusals that are expected, of the position or of its first listed move.
 fn kind(numbers: &[u64]) -> Found {
-    if records::at(numbers, 0) == 14 {
+    if decimals::at(numbers, 0) == 14 {
         return Found::Unsound;
     }
-    if records::at(numbers, 9) == 10 {
+    if decimals::at(numbers, 9) == 10 {
         return Found::Finished;
     }
     Found::Same
@@ -76,7 +76,7 @@ fn compared(line: &[u8]) -> Found {
         return Found::Differs;
     }
     let mut numbers = [0u64; MOST];
-    match records::numbers(records::field(line, 1), &mut numbers) {
+    match decimals::numbers(records::field(line, 1), &mut numbers) {
         Count::Of(count) => held(records::field(line, 0), &numbers, count),
         Count::Bad => Found::Differs,
     }

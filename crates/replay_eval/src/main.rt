@@ -1,14 +1,14 @@
 // Replays the Rust's answers on the evaluation, and prints how many agree and each record that does not.
 // A record is a position's text, the draw winner (X, O or - for none) and the evaluation, parted by tabs (tools/lists.py).
+use decimals::Signed;
 use input::Input;
 use notation::ParseAnswer;
 use records::Draw;
 use records::Outcome;
-use records::Signed;
 use records::Totals;
 
 fn is_score(text: &[u8], score: i64) -> bool {
-    match records::read_signed(text) {
+    match decimals::read_signed(text) {
         Signed::Is(expected) => expected == score,
         Signed::Bad => false,
     }

@@ -9,10 +9,10 @@ use boards::Move;
 use boards::MoveError;
 use boards::MoveIterator;
 use boards::Row;
+use decimals::Count;
 use game::Game;
 use game::NextBoard;
 use input::Input;
-use records::Count;
 use records::Outcome;
 use records::Totals;
 use rules::GameState;
@@ -87,8 +87,8 @@ fn row_at(words: &[u64], i: usize) -> Row
     requires { ⌜ i < 200000 ⌝ }
 {
     Row {
-        x: low(records::at(words, i)),
-        o: low(records::at(words, i + 1)),
+        x: low(decimals::at(words, i)),
+        o: low(decimals::at(words, i + 1)),
     }
 }
 
@@ -102,15 +102,15 @@ fn position_at(words: &[u64], i: usize) -> Game
         row_at(words, i + 6),
     ];
     let states = GlobalStates {
-        x: (records::at(words, i + 8) % 65536) as u16,
-        o: (records::at(words, i + 9) % 65536) as u16,
+        x: (decimals::at(words, i + 8) % 65536) as u16,
+        o: (decimals::at(words, i + 9) % 65536) as u16,
     };
     Game::pack(
-        player_of(records::at(words, i)),
-        next_of(records::at(words, i + 1)),
+        player_of(decimals::at(words, i)),
+        next_of(decimals::at(words, i + 1)),
         LocalBoards { rows },
         states,
-        state_of(records::at(words, i + 10)),
+        state_of(decimals::at(words, i + 10)),
     )
 }
 
@@ -127,9 +127,9 @@ fn run_moves(words: &[u64], from: usize, count: usize, start: Game) -> Run
     let mut good = true;
     let mut k: usize = 0;
     while k < count {
-        let made = game.make_move(move_of(records::at(words, from + k)));
+        let made = game.make_move(move_of(decimals::at(words, from + k)));
         let answer = made.answer;
-        if answer_number(answer) != records::at(words, from + count + k) {
+        if answer_number(answer) != decimals::at(words, from + count + k) {
             good = false;
         }
         game = made.game;
@@ -141,10 +141,10 @@ fn run_moves(words: &[u64], from: usize, count: usize, start: Game) -> Run
 fn same_row(words: &[u64], i: usize, row: Row) -> bool
     requires { ⌜ i < 200000 ⌝ }
 {
-    if row.x as u64 != records::at(words, i) {
+    if row.x as u64 != decimals::at(words, i) {
         return false;
     }
-    row.o as u64 == records::at(words, i + 1)
+    row.o as u64 == decimals::at(words, i + 1)
 }
 
 fn same_rows(words: &[u64], i: usize, boards: LocalBoards) -> bool
@@ -164,7 +164,7 @@ fn same_rows(words: &[u64], i: usize, boards: LocalBoards) -> bool
 fn same_moves(words: &[u64], i: usize, list: MoveIterator) -> bool
     requires { ⌜ i < 100000 ⌝ }
 {
-    let n = records::at(words, i);
+    let n = decimals::at(words, i);
     if list.count() as u64 != n {
         return false;
     }
@@ -176,7 +176,7 @@ fn same_moves(words: &[u64], i: usize, list: MoveIterator) -> bool
                 return k as u64 == n;
             }
             Listed::Next(m, rest) => {
-                if m.bits as u64 != records::at(words, i + 1 + k) {
+                if m.bits as u64 != decimals::at(words, i + 1 + k) {
                     return false;
                 }
                 left = rest;
@@ -200,35 +200,35 @@ fn fresh_hash(g: Game) -> u64 {
 fn same_numbers(words: &[u64], i: usize, g: Game) -> bool
     requires { ⌜ i < 100000 ⌝ }
 {
-    if g.hash != records::at(words, i) {
+    if g.hash != decimals::at(words, i) {
         return false;
     }
-    if fresh_hash(g) != records::at(words, i + 1) {
+    if fresh_hash(g) != decimals::at(words, i + 1) {
         return false;
     }
-    if g.zobrist() != records::at(words, i + 2) {
+    if g.zobrist() != decimals::at(words, i + 2) {
         return false;
     }
-    if records::state_number(g.game_state()) != records::at(words, i + 3) {
+    if records::state_number(g.game_state()) != decimals::at(words, i + 3) {
         return false;
     }
-    if player_number(g.player()) != records::at(words, i + 4) {
+    if player_number(g.player()) != decimals::at(words, i + 4) {
         return false;
     }
-    if next_number(g.board_to_play()) != records::at(words, i + 5) {
+    if next_number(g.board_to_play()) != decimals::at(words, i + 5) {
         return false;
     }
-    if g.bound_depth() as u64 != records::at(words, i + 6) {
+    if g.bound_depth() as u64 != decimals::at(words, i + 6) {
         return false;
     }
-    g.open_boards() as u64 == records::at(words, i + 7)
+    g.open_boards() as u64 == decimals::at(words, i + 7)
 }
 
 // Moves tried from a game: the numbers at `i` are k, the moves, their answers, and what is expected at the end.
 fn same_play(words: &[u64], i: usize, start: Game) -> bool
     requires { ⌜ i < 1000 ⌝ }
 {
-    let count = (records::at(words, i) % 512) as usize;
+    let count = (decimals::at(words, i) % 512) as usize;
     let run = run_moves(words, i + 1, count, start);
     let end = i + 1 + 2 * count;
     let g = run.game;
@@ -249,23 +249,23 @@ fn same_equivalence(words: &[u64]) -> bool {
     let b = position_at(words, 12);
     let forth = if a.equivalent(b) { 1 } else { 0 };
     let back = if b.equivalent(a) { 1 } else { 0 };
-    if forth != records::at(words, 23) {
+    if forth != decimals::at(words, 23) {
         return false;
     }
-    back == records::at(words, 24)
+    back == decimals::at(words, 24)
 }
 
 // How many numbers a record of a play has, from what it says of its moves.
 fn play_length(words: &[u64], i: usize) -> usize
     requires { ⌜ i < 1000 ⌝ }
 {
-    let count = (records::at(words, i) % 512) as usize;
+    let count = (decimals::at(words, i) % 512) as usize;
     let list = i + 16 + 2 * count;
-    list + 1 + (records::at(words, list) % 128) as usize
+    list + 1 + (decimals::at(words, list) % 128) as usize
 }
 
 fn record_length(words: &[u64]) -> usize {
-    match records::at(words, 0) {
+    match decimals::at(words, 0) {
         1 => play_length(words, 1),
         2 => play_length(words, 12),
         _ => 25,
@@ -276,7 +276,7 @@ fn agrees(words: &[u64]) -> bool {
     if words.len() != record_length(words) {
         return false;
     }
-    match records::at(words, 0) {
+    match decimals::at(words, 0) {
         1 => same_play(words, 1, Game::new()),
         2 => same_play(words, 12, position_at(words, 1)),
         3 => same_equivalence(words),
@@ -288,13 +288,13 @@ fn agrees(words: &[u64]) -> bool {
 fn marks_list(words: &[u64], i: usize) -> bool
     requires { ⌜ i < 1000 ⌝ }
 {
-    let count = (records::at(words, i) % 512) as usize;
-    records::at(words, i + 15 + 2 * count) == 1
+    let count = (decimals::at(words, i) % 512) as usize;
+    decimals::at(words, i + 15 + 2 * count) == 1
 }
 
 // Whether the record's list of moves is document 01's and not the Rust's.
 fn is_apart(words: &[u64]) -> bool {
-    match records::at(words, 0) {
+    match decimals::at(words, 0) {
         1 => marks_list(words, 1),
         2 => marks_list(words, 12),
         _ => false,
@@ -314,7 +314,7 @@ fn judged(words: &[u64]) -> Outcome {
 
 // What is found of a line. One that is no list of numbers differs.
 fn outcome(line: &[u8], words: &mut [u64]) -> Outcome {
-    let Count::Of(n) = records::numbers(line, words) else {
+    let Count::Of(n) = decimals::numbers(line, words) else {
         return Outcome::Differs;
     };
     if n > words.len() {

@@ -4,12 +4,12 @@ ghost use mathlib.Core.Path.{_≡_};
 ghost use Prim.Native.Nat.{_<_};
 ghost use lib.ListN.{length};
 use boards::Move;
+use decimals::Count;
 use game::Game;
 use input::Input;
 use notation::ErrorKind;
 use notation::MoveTextAnswer;
 use notation::ParseAnswer;
-use records::Count;
 use records::Outcome;
 use records::Totals;
 use status::Read;
@@ -33,7 +33,7 @@ fn kind_number(e: ErrorKind) -> u64 {
 fn text_length(words: &[u64]) -> usize
     ensures { λ r. ⌜ r < 512 ⌝ }
 {
-    let n = records::at(words, 1);
+    let n = decimals::at(words, 1);
     if n < 512 { n as usize } else { 511 }
 }
 
@@ -44,7 +44,7 @@ fn text_bytes(words: &[u64]) -> [u8; 512]
     let mut text = [0u8; 512];
     let mut k: usize = 0;
     while k < 512 {
-        text[k] = (records::at(words, k + 2) % 256) as u8;
+        text[k] = (decimals::at(words, k + 2) % 256) as u8;
         k += 1;
     }
     text
@@ -58,7 +58,7 @@ fn same_render(words: &[u64], i: usize, g: Game) -> bool
     let mut good = true;
     let mut k: usize = 0;
     while k < 101 {
-        if text[k] as u64 != records::at(words, i + k) {
+        if text[k] as u64 != decimals::at(words, i + k) {
             good = false;
         }
         k += 1;
@@ -86,13 +86,13 @@ fn same_refusal(words: &[u64], n: usize, text: &[u8]) -> bool
         ParseAnswer::Accepted => false,
         ParseAnswer::Refused(e) => {
             let why = e.why;
-            if kind_number(why) != records::at(words, n + 2) {
+            if kind_number(why) != decimals::at(words, n + 2) {
                 return false;
             }
-            if e.offset as u64 != records::at(words, n + 3) {
+            if e.offset as u64 != decimals::at(words, n + 3) {
                 return false;
             }
-            e.length as u64 == records::at(words, n + 4)
+            e.length as u64 == decimals::at(words, n + 4)
         }
     }
 }
@@ -103,16 +103,16 @@ fn same_game(words: &[u64], n: usize, g: Game) -> bool
     if !same_render(words, n + 2, g) {
         return false;
     }
-    if g.hash != records::at(words, n + 103) {
+    if g.hash != decimals::at(words, n + 103) {
         return false;
     }
-    if g.zobrist() != records::at(words, n + 104) {
+    if g.zobrist() != decimals::at(words, n + 104) {
         return false;
     }
-    if records::state_number(g.game_state()) != records::at(words, n + 105) {
+    if records::state_number(g.game_state()) != decimals::at(words, n + 105) {
         return false;
     }
-    g.bound_depth() as u64 == records::at(words, n + 106)
+    g.bound_depth() as u64 == decimals::at(words, n + 106)
 }
 
 fn same_reading(words: &[u64], n: usize, text: &[u8]) -> bool
@@ -132,17 +132,17 @@ fn same_move(words: &[u64], n: usize, text: &[u8]) -> bool
     let parsed = notation::parse_move(text);
     let answer = parsed.answer;
     let m = parsed.m;
-    if m.bits as u64 != records::at(words, n + 4) {
+    if m.bits as u64 != decimals::at(words, n + 4) {
         return false;
     }
     match answer {
-        MoveTextAnswer::Read => records::at(words, n + 2) == 0,
-        MoveTextAnswer::BadLength => records::at(words, n + 2) == 7,
+        MoveTextAnswer::Read => decimals::at(words, n + 2) == 0,
+        MoveTextAnswer::BadLength => decimals::at(words, n + 2) == 7,
         MoveTextAnswer::BadCharacter(c) => {
-            if records::at(words, n + 2) != 8 {
+            if decimals::at(words, n + 2) != 8 {
                 return false;
             }
-            c as u64 == records::at(words, n + 3)
+            c as u64 == decimals::at(words, n + 3)
         }
     }
 }
@@ -157,19 +157,19 @@ fn same_set(set: Read, byte: u64) -> bool {
 
 fn status_at(words: &[u64], i: usize) -> Status {
     Status {
-        bits: (records::at(words, i) % 256) as u8,
+        bits: (decimals::at(words, i) % 256) as u8,
     }
 }
 
 fn same_merge(words: &[u64]) -> bool {
     let a = status_at(words, 1);
     let b = status_at(words, 2);
-    same_set(a.merge(b), records::at(words, 3))
+    same_set(a.merge(b), decimals::at(words, 3))
 }
 
 fn same_byte(words: &[u64]) -> bool {
     let s = status_at(words, 1);
-    same_set(Status::from_byte(s.bits), records::at(words, 2))
+    same_set(Status::from_byte(s.bits), decimals::at(words, 2))
 }
 
 // The game after the moves of a record, from place 2 on.
@@ -180,7 +180,7 @@ fn after_moves(words: &[u64], count: usize) -> Game
     let mut k: usize = 0;
     while k < count {
         let m = Move {
-            bits: (records::at(words, k + 2) % 256) as u8,
+            bits: (decimals::at(words, k + 2) % 256) as u8,
         };
         let made = game.make_move(m);
         game = made.game;
@@ -221,7 +221,7 @@ fn record_length(words: &[u64], kind: u64) -> usize {
 }
 
 fn agrees(words: &[u64]) -> bool {
-    let kind = records::at(words, 0);
+    let kind = decimals::at(words, 0);
     if words.len() != record_length(words, kind) {
         return false;
     }
@@ -239,7 +239,7 @@ fn agrees(words: &[u64]) -> bool {
 // Whether a byte of a record's text is not ASCII.
 fn is_wide(words: &[u64], offset: u64) -> bool {
     if offset < 512 {
-        records::at(words, (offset as usize) + 2) > 127
+        decimals::at(words, (offset as usize) + 2) > 127
     } else {
         false
     }
@@ -247,13 +247,13 @@ fn is_wide(words: &[u64], offset: u64) -> bool {
 
 // Whether the record holds document 01's answer and not the Rust's: a text of over 256 bytes, or a mark on which the Rust panics.
 fn is_apart(words: &[u64]) -> bool {
-    if records::at(words, 0) != 4 {
+    if decimals::at(words, 0) != 4 {
         return false;
     }
     let n = text_length(words);
-    match records::at(words, n + 2) {
+    match decimals::at(words, n + 2) {
         1 => true,
-        5 => is_wide(words, records::at(words, n + 3)),
+        5 => is_wide(words, decimals::at(words, n + 3)),
         _ => false,
     }
 }
@@ -271,7 +271,7 @@ fn judged(words: &[u64]) -> Outcome {
 
 // What is found of a line. One that is no list of numbers differs.
 fn outcome(line: &[u8], words: &mut [u64]) -> Outcome {
-    let Count::Of(n) = records::numbers(line, words) else {
+    let Count::Of(n) = decimals::numbers(line, words) else {
         return Outcome::Differs;
     };
     if n > words.len() {

@@ -2,12 +2,12 @@
 ghost use Prim.Native.Nat.{_<_};
 use crate::expected;
 use boards::Move;
+use decimals::Count;
+use decimals::Number;
 use minimax::Config;
 use minimax::Minimax;
 use notation::ParseAnswer;
-use records::Count;
 use records::Draw;
-use records::Number;
 use records::Outcome;
 use rules::DrawWinner;
 
@@ -59,9 +59,9 @@ fn answered(numbers: &[u64], count: usize) -> Minimax
     while k < count {
         state = with_answer(
             state,
-            records::at(numbers, k * 3),
-            records::at(numbers, k * 3 + 1),
-            records::at(numbers, k * 3 + 2),
+            decimals::at(numbers, k * 3),
+            decimals::at(numbers, k * 3 + 1),
+            decimals::at(numbers, k * 3 + 2),
         );
         k += 1;
     }
@@ -76,7 +76,7 @@ fn begin(text: &[u8]) -> Begun {
         };
     }
     let mut numbers = [0u64; MOST];
-    match records::numbers(text, &mut numbers) {
+    match decimals::numbers(text, &mut numbers) {
         Count::Of(n) => Begun {
             good: n % 3 == 0,
             state: answered(&numbers, (n % 1024) / 3),
@@ -102,7 +102,7 @@ fn searched(
         return differs(state);
     };
     let mut numbers = [0u64; MOST];
-    let Count::Of(n) = records::numbers(expected, &mut numbers) else {
+    let Count::Of(n) = decimals::numbers(expected, &mut numbers) else {
         return differs(state);
     };
     if n > MOST {
@@ -134,7 +134,7 @@ fn replayed(line: &[u8], count: usize, config: Config, begun: Minimax, table: &m
     let mut apart = false;
     let mut k: usize = 0;
     while k < count {
-        let Number::Is(max_depth) = records::read_number(records::field(line, 3 * k + 5)) else {
+        let Number::Is(max_depth) = decimals::read_number(records::field(line, 3 * k + 5)) else {
             return Outcome::Differs;
         };
         let step = searched(
@@ -179,7 +179,7 @@ fn clear(words: &mut [u64]) {
 fn run(line: &[u8], count: usize, draw_winner: DrawWinner, table: &mut [u64]) -> Outcome
     requires { ⌜ count < 100000 ⌝ }
 {
-    let Number::Is(allowance) = records::read_number(records::field(line, 2)) else {
+    let Number::Is(allowance) = decimals::read_number(records::field(line, 2)) else {
         return Outcome::Differs;
     };
     let begun = begin(records::field(line, 3));
@@ -208,7 +208,7 @@ pub fn outcome(line: &[u8], words: &mut [u64]) -> Outcome {
     if thirds > 1000 {
         return Outcome::Differs;
     }
-    let Number::Is(entries) = records::read_number(records::field(line, 0)) else {
+    let Number::Is(entries) = decimals::read_number(records::field(line, 0)) else {
         return Outcome::Differs;
     };
     if entries > 65537 {

@@ -3,11 +3,11 @@
 ghost use Prim.Native.Nat.{_<_, _≤_};
 use crate::digest;
 use boards::Move;
+use decimals::Signed;
 use minimax::Ending;
 use minimax::Report;
 use minimax::SearchError;
 use minimax::Stats;
-use records::Signed;
 
 // The numbers before the line.
 const HEAD: usize = 9;
@@ -31,18 +31,18 @@ fn ending_number(e: Ending) -> u64 {
 
 // Whether the numbers expect a refusal.
 pub fn is_refusal(numbers: &[u64]) -> bool {
-    records::at(numbers, 0) > 1
+    decimals::at(numbers, 0) > 1
 }
 
 // Whether the sign and the size at a place are a score's.
 fn same_score(numbers: &[u64], at: usize, score: i64) -> bool
     requires { ⌜ at < 100000 ⌝ }
 {
-    let sign = records::at(numbers, at);
+    let sign = decimals::at(numbers, at);
     if sign > 1 {
         return false;
     }
-    match records::with_sign(sign == 1, records::at(numbers, at + 1)) {
+    match decimals::with_sign(sign == 1, decimals::at(numbers, at + 1)) {
         Signed::Is(expected) => expected == score,
         Signed::Bad => false,
     }
@@ -52,25 +52,25 @@ fn same_score(numbers: &[u64], at: usize, score: i64) -> bool
 fn same_depth(numbers: &[u64], at: usize, stats: Stats) -> bool
     requires { ⌜ at < 10000 ⌝ }
 {
-    if stats.depth != records::at(numbers, at) {
+    if stats.depth != decimals::at(numbers, at) {
         return false;
     }
     if !same_score(numbers, at + 1, stats.score) {
         return false;
     }
-    if stats.visited != records::at(numbers, at + 3) {
+    if stats.visited != decimals::at(numbers, at + 3) {
         return false;
     }
-    if stats.terminal != records::at(numbers, at + 4) {
+    if stats.terminal != decimals::at(numbers, at + 4) {
         return false;
     }
-    if stats.cuts != records::at(numbers, at + 5) {
+    if stats.cuts != decimals::at(numbers, at + 5) {
         return false;
     }
-    if stats.tt_hit != records::at(numbers, at + 6) {
+    if stats.tt_hit != decimals::at(numbers, at + 6) {
         return false;
     }
-    stats.tt_suffice == records::at(numbers, at + 7)
+    stats.tt_suffice == decimals::at(numbers, at + 7)
 }
 
 fn same_depths(numbers: &[u64], depth: usize, stats: [Stats; 81]) -> bool
@@ -92,7 +92,7 @@ fn same_line(numbers: &[u64], depth: usize, line: [Move; 81]) -> bool
     let mut i: usize = 0;
     while i < depth {
         let m = line[i];
-        if m.bits as u64 != records::at(numbers, HEAD + i) {
+        if m.bits as u64 != decimals::at(numbers, HEAD + i) {
             return false;
         }
         i += 1;
@@ -102,13 +102,13 @@ fn same_line(numbers: &[u64], depth: usize, line: [Move; 81]) -> bool
 
 fn same_result(numbers: &[u64], r: Report) -> bool {
     let ending = r.ending;
-    if ending_number(ending) != records::at(numbers, 0) {
+    if ending_number(ending) != decimals::at(numbers, 0) {
         return false;
     }
-    if r.count != records::at(numbers, 1) {
+    if r.count != decimals::at(numbers, 1) {
         return false;
     }
-    if r.depth != records::at(numbers, 2) {
+    if r.depth != decimals::at(numbers, 2) {
         return false;
     }
     same_score(numbers, 3, r.score)
@@ -116,20 +116,20 @@ fn same_result(numbers: &[u64], r: Report) -> bool {
 
 fn same_memory(numbers: &[u64], r: Report, table: &[u64]) -> bool {
     let state = r.state;
-    if digest::of_answers(state) != records::at(numbers, 5) {
+    if digest::of_answers(state) != decimals::at(numbers, 5) {
         return false;
     }
-    if digest::remembered(state) != records::at(numbers, 6) {
+    if digest::remembered(state) != decimals::at(numbers, 6) {
         return false;
     }
-    if digest::of_table(table) != records::at(numbers, 7) {
+    if digest::of_table(table) != decimals::at(numbers, 7) {
         return false;
     }
-    digest::used(table) == records::at(numbers, 8)
+    digest::used(table) == decimals::at(numbers, 8)
 }
 
 fn same_walk(numbers: &[u64], r: Report) -> bool {
-    let depth = records::at(numbers, 2) as usize;
+    let depth = decimals::at(numbers, 2) as usize;
     if depth > 81 {
         return false;
     }

@@ -42,7 +42,7 @@ fn from_word(w: u64) -> i64
     }
 }
 
-fn to_word(value: i64) -> u64
+pub fn to_word(value: i64) -> u64
     ensures { λ r. ⌜ r ≡ word-of value ⌝ }
 {
     if value < 0 {

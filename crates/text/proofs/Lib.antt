@@ -5,3 +5,4 @@ pub mod RoundTrip
 pub mod MoveText
 pub mod Examples
 pub mod ProgramLine
+pub mod Padded

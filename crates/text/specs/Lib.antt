@@ -3,3 +3,4 @@ pub mod Reading
 pub mod Writing
 pub mod MoveText
 pub mod ProgramLine
+pub mod Padded

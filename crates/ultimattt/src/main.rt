@@ -1,8 +1,8 @@
 // For each line `position depth` of standard input a line with its answer. There may be any number of lines, of any length.
+use held::Held;
 use libc::STDIN_FILENO;
 use libc::STDOUT_FILENO;
-use line::Held;
-use line::Out;
+use out::Out;
 
 fn write(out: Out) {
     let bytes = out.bytes;

@@ -1,7 +1,7 @@
 -- The tests that `live` has, in its order.
 use mathlib.Core.Path.{sym, refl, _∙_}
 use borrow.Author.Tests.{eq-eqb, ne-eqb, not-true, not-false}
-use Rattle.boards.proofs.Masks.{line-known}
+use Rattle.lines.proofs.Masks.{line-known}
 use Rattle.game.specs.Meaning.{position-of}
 use Rattle.endgame.proofs.Sets.{none-in}
 use Rattle.endgame.proofs.Sound.{live-closed, live-full, live-line-x, live-line-o}

@@ -7,7 +7,7 @@ use borrow.Author.Tests.{not-true, not-false}
 use Rattle.base.specs.Lists.{all}
 use Rattle.rules.specs.Board.{nine}
 use Rattle.rules.specs.Sound.{sound}
-use Rattle.boards.proofs.Masks.{line-known}
+use Rattle.lines.proofs.Masks.{line-known}
 use Rattle.game.specs.Meaning.{position-of}
 use Rattle.endgame.specs.Parts.{live}
 use Rattle.endgame.proofs.Walk.{all-failed, all-passed, nine-at}

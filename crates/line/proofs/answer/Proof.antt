@@ -1,6 +1,6 @@
 -- 19, or what the text is answered as.
 use mathlib.Core.Path.{ap, _∙_}
-use Rattle.line.specs.OutBytes.{out-of}
+use Rattle.out.specs.OutBytes.{out-of}
 use Rattle.line.proofs.Answered.{no-depth-text, depth-text}
 use borrow.Author.Needs.{needs}
 use Rattle.line.proofs.answer.Statement.{statement}

@@ -1,7 +1,7 @@
 -- 14 comes first; else the status is the analysis's, and the report the search's.
 use mathlib.Core.Path.{sym, ap, _∙_}
 use Rattle.endgame.specs.Means.{made-number}
-use Rattle.line.specs.OutBytes.{out-of}
+use Rattle.out.specs.OutBytes.{out-of}
 use Rattle.line.proofs.Answered.{position-refused, position-searched}
 use borrow.Author.Needs.{needs}
 use Rattle.line.proofs.position.Statement.{statement}

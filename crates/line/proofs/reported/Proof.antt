@@ -5,7 +5,7 @@ use Rattle.base.proofs.Signed.{back}
 use Rattle.text.specs.ProgramLine.{refusal-text}
 use Rattle.status.specs.Sets.{set-of}
 use Rattle.minimax.specs.Report.{report-of}
-use Rattle.line.specs.OutBytes.{out-of}
+use Rattle.out.specs.OutBytes.{out-of}
 use Rattle.line.proofs.Answered.{report-refused, report-answered}
 use borrow.Author.Needs.{needs}
 use Rattle.line.proofs.reported.Statement.{statement}

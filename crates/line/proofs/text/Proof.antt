@@ -2,7 +2,7 @@
 use mathlib.Core.Path.{ap, _∙_}
 use Rattle.text.specs.ProgramLine.{refusal-text}
 use Prim.Native.Nat.{ℕ}
-use Rattle.line.specs.OutBytes.{out-of}
+use Rattle.out.specs.OutBytes.{out-of}
 use Rattle.line.proofs.Answered.{text-refused, text-accepted, text-game}
 use borrow.Author.Needs.{needs}
 use Rattle.line.proofs.text.Statement.{statement}

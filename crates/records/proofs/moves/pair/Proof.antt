@@ -4,7 +4,7 @@ use native.Mathlib.Omega.{arith}
 use borrow.Author.Tests.{not-true, not-false}
 use Rattle.base.specs.Branch.{if_then_else_}
 use Rattle.records.specs.Moves.{pair}
-use Rattle.records.proofs.Digits.{within-bounds}
+use Rattle.decimals.proofs.Digits.{within-bounds}
 use borrow.Author.Needs.{needs}
 use Rattle.records.proofs.moves.pair.Statement.{statement}
 use Rattle.records.proofs.moves.pair.Tie as tie

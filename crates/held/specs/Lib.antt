@@ -1,0 +1,2 @@
+pub mod HeldLine
+pub mod TakenLine

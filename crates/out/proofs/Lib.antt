@@ -1,0 +1,4 @@
+pub mod OutBytes
+pub mod Joined
+pub mod Decimals
+pub mod Signs

@@ -1,0 +1,151 @@
+// The bytes of an answer.
+ghost use mathlib.Core.Path.{_≡_};
+ghost use Prim.Native.Nat.{min};
+ghost use Rattle.text.specs.MoveText.{move-text};
+ghost use Rattle.text.specs.ProgramLine.{decimal, signed, shown, status-letters, joined, answer-text, refusal-text};
+ghost use Rattle.status.specs.Sets.{set-of};
+ghost use Rattle.out.specs.OutBytes.{new-out, added, added-all, move-bytes, out-of};
+use boards::Move;
+use rules::Player;
+use status::Status;
+
+// The longest answer has 201 bytes.
+pub const ROOM: usize = 224;
+
+pub struct Out {
+    pub bytes: [u8; 224],
+    pub len: usize,
+}
+
+impl Out {
+    pub fn new() -> Out
+        ensures { λ r. ⌜ r ≡ new-out ⌝ }
+    {
+        Out {
+            bytes: [0; 224],
+            len: 0,
+        }
+    }
+
+    // One byte more; where there is no room it is dropped.
+    pub fn push(self, b: u8) -> Out
+        ensures { λ r. ⌜ r ≡ added self b ⌝ }
+    {
+        let at = self.len;
+        if at < ROOM {
+            let mut out = self;
+            out.bytes[at] = b;
+            out.len = at + 1;
+            return out;
+        }
+        self
+    }
+
+    pub fn text(self, bytes: &[u8]) -> Out
+        ensures { λ r. ⌜ r ≡ added-all self (now (bytes .entry)) ⌝ }
+    {
+        let mut out = self;
+        let mut i = 0;
+        while i < bytes.len() {
+            out = out.push(bytes[i]);
+            i += 1;
+        }
+        out
+    }
+
+    pub fn decimal(self, n: u64) -> Out
+        ensures { λ r. ⌜ r ≡ added-all self (decimal n) ⌝ }
+    {
+        let mut digits = [0u8; 20];
+        let k = io::decimal(n, &mut digits);
+        self.text(&digits[..k])
+    }
+
+    pub fn signed(self, n: i64) -> Out
+        ensures { λ r. ⌜ r ≡ added-all self (signed n) ⌝ }
+    {
+        if n < 0 {
+            let out = self.push(b'-');
+            let m = (-(n + 1)) as u64 + 1;
+            return out.decimal(m);
+        }
+        self.decimal(n as u64)
+    }
+
+    // A letter, if it is to be shown.
+    fn letter(self, show: bool, b: u8) -> Out
+        ensures { λ r. ⌜ r ≡ added-all self (shown show b) ⌝ }
+    {
+        if show { self.push(b) } else { self }
+    }
+
+    pub fn status(self, s: Status) -> Out
+        ensures { λ r. ⌜ r ≡ added-all self (status-letters (set-of s)) ⌝ }
+    {
+        let x = s.is_winnable(Player::X);
+        let o = s.is_winnable(Player::O);
+        let draw = (s.bits >> 2) & 1 == 1;
+        self.letter(x, b'X').letter(o, b'O').letter(draw, b'D')
+    }
+
+    pub fn move_text(self, m: Move) -> Out
+        ensures { λ r. ⌜ r ≡ added-all self (move-text (m .bits)) ⌝ }
+    {
+        let text = notation::render_move(m);
+        self.text(&text)
+    }
+
+    // Moves up to the first empty one, joined; `-` if there is none.
+    pub fn moves(self, line: [Move; 81]) -> Out
+        ensures { λ r. ⌜ r ≡ added-all self (joined (move-bytes line)) ⌝ }
+    {
+        let first = line[0];
+        if first.is_none() {
+            return self.push(b'-');
+        }
+        let mut out = self;
+        let mut i: usize = 0;
+        while i < 81 {
+            let m = line[i];
+            if m.is_none() {
+                return out;
+            }
+            out = out.move_text(m);
+            i += 1;
+        }
+        out
+    }
+
+    // A line that is refused: `E` and the number.
+    pub fn refused(number: u64) -> Out
+        ensures { λ r. ⌜ r ≡ out-of (refusal-text number) ⌝ }
+    {
+        Out::new().push(b'E').push(b' ').decimal(number)
+    }
+
+    // A line that is answered.
+    pub fn answer(
+        status: Status,
+        legal: u64,
+        depth: u64,
+        score: i64,
+        count: u64,
+        line: [Move; 81],
+    ) -> Out
+        ensures { λ r. ⌜ r ≡ out-of (answer-text (set-of status) legal depth score count (move-bytes line)) ⌝ }
+    {
+        let first = Out::new().status(status).push(b' ');
+        let second = first.decimal(legal).push(b' ');
+        let third = second.decimal(depth).push(b' ');
+        let fourth = third.signed(score).push(b' ');
+        fourth.decimal(count).push(b' ').moves(line)
+    }
+
+    // How many bytes are to be written: they are the first ones.
+    pub fn written(self) -> usize
+        ensures { λ r. ⌜ r ≡ min (self .len) 224 ⌝ }
+    {
+        let len = self.len;
+        if len < ROOM { len } else { ROOM }
+    }
+}
