@@ -1,0 +1,89 @@
+-- Demand 3 of a report with the table off: its list is what was tried by calls of ultimattt_play since the empty board, then the report's own moves.
+use mathlib.Core.Path.{_≡_, refl, sym, ap, _∙_, subst}
+use mathlib.Core.List.{List, [], _∷_, _++_}
+use Prim.Native.Nat.{ℕ}
+use native.Mathlib.Omega.{arith}
+use lib.Dec.{T, ltb→lt}
+use lib.ListN.{take, drop}
+use Rattle.rules.specs.declared.DrawWinner.the-variants.{Nobody}
+use Rattle.rules.specs.Position.{Position, start, going}
+use Rattle.rules.specs.Play.{reached}
+use Rattle.rules.specs.Endgame.{Analysis as Ends, analysis}
+use Rattle.rules.proofs.Sound.{good-is-sound, start-is-good, reached-good}
+use Rattle.rules.proofs.Endgame.{analysis-sound}
+use Rattle.theory.specs.Reported.{Settings, Reported, reported}
+use Rattle.reference.specs.Reference.{game}
+use Rattle.game.specs.declared.Game.{Game}
+use Rattle.game.specs.Meaning.{position-of}
+use Rattle.game.specs.Built.{new-game}
+use Rattle.game.specs.After.{game-after, games-after}
+use Rattle.game.specs.declared.NextBoard.{NextBoard}
+use Rattle.game.specs.declared.NextBoard.the-variants.{Any, Only}
+use Rattle.game.specs.Neat.{neat-next}
+use Rattle.game.proofs.Neat.{neat→}
+use Rattle.game.proofs.Played.{new-played-neat, new-played-means, new-played-hash}
+use Rattle.minimax.specs.Structs.{structs}
+use Rattle.minimax.proofs.Rules.{reported-rules}
+use Rattle.demands.specs.Claims.{NotStopped, MarkSays, Right, StatusHolds}
+use Rattle.demands.proofs.Claims.{reported-marks, reported-right, reported-holds}
+use Rattle.interface.specs.Position.{words-of, game-from}
+use Rattle.interface.specs.Calls.{draws-from, found}
+use Rattle.interface.proofs.PositionWords.{Byte, slice-comes-back}
+
+joined : (g : Game) (ns ms : List ℕ) → games-after (games-after g ns) ms ≡ games-after g (ns ++ ms)
+unfolding games-after
+joined g [] ms = refl
+joined g (n ∷ ns) ms = joined (game-after g n) ns ms
+
+module _ (p ns ms : List ℕ) (depth allowance draws : ℕ) (answers report : List ℕ) (from : game-from p ≡ games-after new-game ns) where
+  abbrev q : Position
+  q = reached start (ns ++ ms)
+
+  abbrev c : Settings
+  c = record { max-depth = depth; allowance = allowance }
+
+  abbrev xs : List ℕ
+  xs = take 256 answers
+
+  abbrev os : List ℕ
+  os = take 256 (drop 256 answers)
+
+  abbrev x : Reported
+  x = found p ms depth allowance draws answers [] report
+
+  game-is : games-after (game-from p) ms ≡ games-after new-game (ns ++ ms)
+  game-is = ap (λ (g : Game). games-after g ms) from ∙ joined new-game ns ms
+
+  pub reached-is : position-of (games-after (game-from p) ms) ≡ q
+  reached-is = ap position-of game-is ∙ new-played-means (ns ++ ms)
+
+  pub found-is : x ≡ reported (game (draws-from draws)) c q xs os []
+  found-is =
+      ap (λ (g : Game). reported (structs (draws-from draws)) c g xs os []) game-is
+      ∙ reported-rules (draws-from draws) c (games-after new-game (ns ++ ms)) (new-played-neat (ns ++ ms)) (new-played-hash (ns ++ ms)) xs os []
+      ∙ ap (λ (k : Position). reported (game (draws-from draws)) c k xs os []) (new-played-means (ns ++ ms))
+
+  module _ (t : T (going q)) where
+    pub found-answered : analysis (position-of (games-after (game-from p) ms)) .refusal ≡ 0
+    found-answered =
+        ap (λ (k : Position). analysis k .refusal) reached-is
+        ∙ ap (λ (y : Ends). y .refusal) (analysis-sound q t (good-is-sound q (reached-good start start-is-good (ns ++ ms)) t) .2)
+
+    pub found-marks : MarkSays (draws-from draws) c xs os q x
+    found-marks = subst (MarkSays (draws-from draws) c xs os q) (sym found-is) (reported-marks (ns ++ ms) t (draws-from draws) c xs os)
+
+    pub found-right : NotStopped (draws-from draws) c xs os q → Right (draws-from draws) c xs os q x
+    found-right n = subst (Right (draws-from draws) c xs os q) (sym found-is) (reported-right (ns ++ ms) t (draws-from draws) c xs os n)
+
+    pub found-holds : draws ≡ 0 → StatusHolds c xs os q x (analysis q .status)
+    found-holds e = subst (λ (y : Reported). StatusHolds c xs os q y (analysis q .status))
+        (sym (found-is ∙ ap (λ (d : ℕ). reported (game (draws-from d)) c q xs os []) e)) (reported-holds (ns ++ ms) t c xs os)
+
+-- ---- the words that calls since the empty board have left are such a position
+next-is-byte : (n : NextBoard) → T (neat-next n) → Byte n
+next-is-byte Any t = tt
+next-is-byte (Only b) t = let h = ltb→lt b 9 t in omega (arith, h)
+
+pub played-comes-back : (ns rest : List ℕ) → game-from (words-of (games-after new-game ns) ++ rest) ≡ games-after new-game ns
+played-comes-back ns rest = let n = neat→ (games-after new-game ns) (new-played-neat ns) in
+    slice-comes-back (games-after new-game ns) rest (n .three) (next-is-byte (games-after new-game ns .«next_board») (n .next))

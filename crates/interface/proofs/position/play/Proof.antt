@@ -1,0 +1,75 @@
+-- The moves left, tried from where the loop stands, lead where the whole list leads, and their answers complete the list's.
+use mathlib.Core.Path.{_≡_, refl, sym, ap, _∙_}
+use Prim.Native.Nat.{_+_, _-_}
+use lib.ListN.{length, drop, length-set}
+use lib.Seq.{sets}
+use denote.Ref.{now}
+use Rattle.game.specs.declared.Game.{Game}
+use Rattle.game.specs.After.{games-after}
+use Rattle.demands.proofs.Lists.{games-more, games-all}
+use Rattle.interface.specs.Calls.{answers-to}
+use Rattle.interface.proofs.TriedMoves.{answers-next, answers-end}
+use borrow.Author.Needs.{needs}
+use Rattle.interface.proofs.position.play.Statement.{statement}
+use Rattle.interface.proofs.position.play.Tie as tie
+
+abbrev Inv-loop : tie.InvT-loop
+Inv-loop moves answers₀ game₀ i₀ i-end answers game i = (i-end ≡ length moves) × (length answers ≡ length answers₀) × (games-after game (drop i moves) ≡ games-after game₀ moves) × (sets answers i (answers-to game (drop i moves)) ≡ sets answers₀ 0 (answers-to game₀ moves))
+
+abbrev μ-loop : tie.MeasureT-loop
+μ-loop moves answers₀ game₀ i₀ i-end answers game i = i-end - i
+
+loop-holds : tie.Need-loop-holds Inv-loop μ-loop
+loop-holds c = (refl, refl, refl, refl)
+
+shared-slice-read-answers : tie.Need-shared-slice-read-answers Inv-loop μ-loop
+shared-slice-read-answers c = search needs
+
+make-move-requires : tie.Need-make-move-requires Inv-loop μ-loop
+make-move-requires c κs = search needs
+
+answer-number-requires : tie.Need-answer-number-requires Inv-loop μ-loop
+answer-number-requires c κs = search needs
+
+slice-write-answers : tie.Need-slice-write-answers Inv-loop μ-loop
+slice-write-answers c = search needs
+
+add-i : tie.Need-add-i Inv-loop μ-loop
+add-i c = search needs
+
+loop-less : tie.Need-loop-less Inv-loop μ-loop
+loop-less c = search needs
+
+loop-again : tie.Need-loop-again Inv-loop μ-loop
+loop-again c =
+    let l = c .before .before .before .before .before .loop in
+    let ms = c .before .before .before .before .before .before .before .before .args .moves .now in
+    let made = c .before .before .make-move in
+    let h = c .before .before .before .before .loop-test .taken in
+    (refl, simp length-set (l .inv .1), ap (λ (g : Game). games-after g (drop (l .i + 1) ms)) (made .ensures .exact) ∙ games-more (l .game) ms (l .i) 0 h ∙ l .inv .2, answers-next (l .answers) ms (l .game) _ (l .i) _ h (c .before .answer-number .ensures ∙ made .ensures .number) (made .ensures .exact) ∙ l .inv .3)
+
+same-length : tie.Need-same-length Inv-loop μ-loop
+same-length c = search needs
+
+returns : tie.Need-returns Inv-loop μ-loop
+returns c =
+    let l = c .before .loop in
+    let ms = c .before .before .before .before .args .moves .now in
+    (sym (games-all (l .game) ms (l .i) (c .loop-test .left)) ∙ l .inv .2, answers-end (l .answers) ms _ (l .game) (l .i) (c .loop-test .left) (l .inv .3))
+
+pub play-spec : {M : Type 1} → statement M
+play-spec =
+    tie.close
+    (tie.spec
+    Inv-loop
+    μ-loop
+    loop-holds
+    shared-slice-read-answers
+    make-move-requires
+    answer-number-requires
+    slice-write-answers
+    add-i
+    loop-less
+    loop-again
+    same-length
+    returns)

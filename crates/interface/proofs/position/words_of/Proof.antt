@@ -1,0 +1,87 @@
+-- Three rows give six words.
+use mathlib.Core.Path.{_≡_}
+use lib.ListN.{length, length-map}
+use Rattle.interface.proofs.PositionWords.{words-made}
+use borrow.Author.Needs.{needs}
+use Rattle.interface.proofs.position.words_of.Statement.{statement}
+use Rattle.interface.proofs.position.words_of.Tie as tie
+
+element-copy-out-wide : tie.Need-element-copy-out-wide
+element-copy-out-wide c = search needs
+
+wide-requires : tie.Need-wide-requires
+wide-requires c κs = search needs
+
+element-copy-out-wide-2 : tie.Need-element-copy-out-wide-2
+element-copy-out-wide-2 c = search needs
+
+wide-requires-2 : tie.Need-wide-requires-2
+wide-requires-2 c κs = search needs
+
+element-copy-out-wide-3 : tie.Need-element-copy-out-wide-3
+element-copy-out-wide-3 c = search needs
+
+wide-requires-3 : tie.Need-wide-requires-3
+wide-requires-3 c κs = search needs
+
+element-copy-out-wide-4 : tie.Need-element-copy-out-wide-4
+element-copy-out-wide-4 c = search needs
+
+wide-requires-4 : tie.Need-wide-requires-4
+wide-requires-4 c κs = search needs
+
+element-copy-out-wide-5 : tie.Need-element-copy-out-wide-5
+element-copy-out-wide-5 c = search needs
+
+wide-requires-5 : tie.Need-wide-requires-5
+wide-requires-5 c κs = search needs
+
+element-copy-out-wide-6 : tie.Need-element-copy-out-wide-6
+element-copy-out-wide-6 c = search needs
+
+wide-requires-6 : tie.Need-wide-requires-6
+wide-requires-6 c κs = search needs
+
+cast-t32 : tie.Need-cast-t32
+cast-t32 c = search needs
+
+cast-t33 : tie.Need-cast-t33
+cast-t33 c = search needs
+
+as-bit-requires : tie.Need-as-bit-requires
+as-bit-requires c κs = search needs
+
+due-word-requires : tie.Need-due-word-requires
+due-word-requires c κs = search needs
+
+state-number-requires : tie.Need-state-number-requires
+state-number-requires c κs = search needs
+
+returns : tie.Need-returns
+returns c =
+    let s = c .before .before .before .before .before .before .before .before .before .before .before .before .before .before in
+    let n : length (s .args .game .«local_boards» .rows) ≡ 3 = simp length-map at (s .good .0 .1 .1 .1 .1 .0 .1 .1 .0 .1 .0 .1) in
+    words-made (s .args .game) _ _ _ _ _ _ _ _ _ n (c .before .before .before .before .before .before .before .before .before .before .wide .ensures) (c .before .before .before .before .before .before .before .before .before .wide2 .ensures) (c .before .before .before .before .before .before .before .before .wide3 .ensures) (c .before .before .before .before .before .before .before .wide4 .ensures) (c .before .before .before .before .before .before .wide5 .ensures) (c .before .before .before .before .before .wide6 .ensures) (c .before .before .as-bit .ensures) (c .before .due-word .ensures) (c .state-number .ensures)
+
+pub words-of-spec : {M : Type 1} → statement M
+words-of-spec =
+    tie.close
+    (tie.spec
+    element-copy-out-wide
+    wide-requires
+    element-copy-out-wide-2
+    wide-requires-2
+    element-copy-out-wide-3
+    wide-requires-3
+    element-copy-out-wide-4
+    wide-requires-4
+    element-copy-out-wide-5
+    wide-requires-5
+    element-copy-out-wide-6
+    wide-requires-6
+    cast-t32
+    cast-t33
+    as-bit-requires
+    due-word-requires
+    state-number-requires
+    returns)

@@ -1,0 +1,46 @@
+-- Each word by its call.
+use mathlib.Core.Path.{ap, _∙_}
+use Rattle.base.proofs.Signed.{back}
+use Rattle.theory.specs.Table.{word-of}
+use Rattle.status.specs.declared.Status.{Status}
+use Rattle.interface.proofs.ReportWords.{seven}
+use borrow.Author.Needs.{needs}
+use Rattle.interface.proofs.report.head.Statement.{statement}
+use Rattle.interface.proofs.report.head.Tie as tie
+
+status-requires : tie.Need-status-requires
+status-requires c κs = search needs
+
+ending-number-requires : tie.Need-ending-number-requires
+ending-number-requires c κs = search needs
+
+stopped-requires : tie.Need-stopped-requires
+stopped-requires c κs = search needs
+
+to-word-requires : tie.Need-to-word-requires
+to-word-requires c κs = search needs
+
+made-number-requires : tie.Need-made-number-requires
+made-number-requires c κs = search needs
+
+cast-t10 : tie.Need-cast-t10
+cast-t10 c = search needs
+
+returns : tie.Need-returns
+returns c =
+    let s = c .before .before .before .before .before .before .before .args .found .score in
+    seven _ _ _ _ _ _ _ _ _ _ _ _ (c .before .before .before .before .before .ending-number .ensures) (c .before .before .before .before .stopped .ensures)
+    (c .before .before .to-word .ensures ∙ ap word-of (back s (record { sfits = c .before .before .before .struct-told .given .1 .1 .1 .0 .1 })))
+    (c .before .made-number .ensures) (ap (λ (s : Status). s .bits) (c .before .before .before .before .before .before .status .ensures))
+
+pub head-spec : {M : Type 1} → statement M
+head-spec =
+    tie.close
+    (tie.spec
+    status-requires
+    ending-number-requires
+    stopped-requires
+    to-word-requires
+    made-number-requires
+    cast-t10
+    returns)

@@ -1,0 +1,121 @@
+-- What each call promises of what it returns and of the lent slices at exit, from their bytes and words at entry.
+use mathlib.Core.Path.{_≡_}
+use mathlib.Core.Bool.{Bool, cond, _&&_}
+use mathlib.Core.List.{List, [], _∷_, _++_}
+use Prim.Native.Nat.{ℕ, _-_}
+use lib.Dec.{eqb, leb}
+use lib.ListN.{length, take, drop}
+use Rattle.base.specs.Branch.{if_then_else_}
+use Rattle.rules.specs.declared.DrawWinner.{DrawWinner}
+use Rattle.rules.specs.declared.DrawWinner.the-variants.{Nobody, Side}
+use Rattle.rules.specs.Play.{play}
+use Rattle.rules.specs.Status.{as-byte}
+use Rattle.rules.specs.Endgame.{analysis}
+use Rattle.theory.specs.Table.{word-of}
+use Rattle.theory.specs.Deepening.{Stats}
+use Rattle.theory.specs.Reported.{Reported, reported}
+use Rattle.text.specs.Reading.{Reading, reads, refuses, read}
+use Rattle.text.specs.Writing.{text-of}
+use Rattle.game.specs.declared.Game.{Game}
+use Rattle.game.specs.Meaning.{position-of}
+use Rattle.game.specs.Built.{new-game}
+use Rattle.game.specs.After.{refusal, game-after, games-after}
+use Rattle.notation.specs.Parsed.{game-for}
+use Rattle.minimax.specs.Structs.{structs}
+use Rattle.line.specs.Answered.{answer-line}
+use Rattle.interface.specs.Lent.{returned, left}
+use Rattle.interface.specs.Position.{words-of, game-from, is-position, side-from}
+
+-- ---- ultimattt_answer: the program's answer to a line
+module _ (line out : List ℕ) where
+  pub record Answers (out-after : List ℕ) (r : ℕ) : Type 0 where
+    pub returns : r ≡ length (answer-line line)
+    pub out-is : out-after ≡ left (leb (length (answer-line line)) (length out)) (answer-line line) out
+
+-- ---- ultimattt_new: the empty board
+pub record Begins (position position-after : List ℕ) (r : ℕ) : Type 0 where
+  pub returns : r ≡ returned (leb 12 (length position)) 0
+  pub position-is : position-after ≡ left (leb 12 (length position)) (words-of new-game) position
+
+-- ---- ultimattt_read: a text, as a position
+abbrev pub read-number : Reading → ℕ
+read-number (reads p) = 0
+read-number (refuses n offset size) = n
+
+abbrev pub read-place : Reading → List ℕ
+read-place (reads p) = 0 ∷ 0 ∷ []
+read-place (refuses n offset size) = offset ∷ size ∷ []
+
+module _ (text position place : List ℕ) where
+  abbrev pub read-ok : Bool
+  read-ok = leb 12 (length position) && leb 2 (length place)
+
+  pub record Reads (position-after place-after : List ℕ) (r : ℕ) : Type 0 where
+    pub returns : r ≡ returned read-ok (read-number (read text))
+    pub position-is : position-after ≡ left read-ok (words-of (game-for (read text))) position
+    pub place-is : place-after ≡ left read-ok (read-place (read text)) place
+
+-- ---- ultimattt_render: a position, as a text
+module _ (position out : List ℕ) where
+  abbrev pub render-ok : Bool
+  render-ok = is-position position && leb 101 (length out)
+
+  pub record Renders (out-after : List ℕ) (r : ℕ) : Type 0 where
+    pub returns : r ≡ returned render-ok 0
+    pub out-is : out-after ≡ left render-ok (text-of (position-of (game-from position))) out
+
+-- ---- ultimattt_play: moves, tried one after the other
+-- what each is answered: 9 to 13, or 0 where it is played
+unfoldable pub answers-to : Game → List ℕ → List ℕ
+answers-to g [] = []
+answers-to g (m ∷ ms) = refusal (play (position-of g) m) ∷ answers-to (game-after g m) ms
+
+module _ (position moves answers : List ℕ) where
+  abbrev pub play-ok : Bool
+  play-ok = is-position position && leb (length moves) (length answers)
+
+  pub record PlaysAll (position-after answers-after : List ℕ) (r : ℕ) : Type 0 where
+    pub returns : r ≡ returned play-ok 0
+    pub position-is : position-after ≡ left play-ok (words-of (games-after (game-from position) moves)) position
+    pub answers-is : answers-after ≡ left play-ok (answers-to (game-from position) moves) answers
+
+-- ---- ultimattt_analyze: endgame analysis and search after tried moves
+-- 0 nobody, 1 X, 2 O
+abbrev pub draws-from : ℕ → DrawWinner
+draws-from n = cond (eqb n 0) Nobody (Side (side-from (n - 1)))
+
+abbrev pub stats-words : Stats → List ℕ
+stats-words s =
+    s .depth ∷ word-of (s .score) ∷ s .tally .visited ∷ s .tally .terminal ∷ s .tally .cuts ∷ s .tally .tt-hit ∷ s .tally .tt-suffice ∷ []
+
+unfoldable pub all-stats : List Stats → List ℕ
+all-stats [] = []
+all-stats (s ∷ ss) = stats-words s ++ all-stats ss
+
+-- of the search, and of the endgame analysis, by its number and its status byte
+abbrev pub head-words : Reported → ℕ → ℕ → List ℕ
+head-words x refusal status = x .number ∷ cond (x .is-stopped) 1 0 ∷ x .depth ∷ word-of (x .score) ∷ x .count ∷ refusal ∷ status ∷ []
+
+-- then 81 moves, and seven words for each of 81 depths
+abbrev pub report-words : Reported → ℕ → ℕ → List ℕ
+report-words x refusal status = head-words x refusal status ++ (x .line ++ all-stats (x .stats))
+
+module _ (position moves : List ℕ) (depth allowance draws : ℕ) (answers words report : List ℕ) where
+  abbrev pub analyze-ok : Bool
+  analyze-ok = is-position position && (leb draws 2 && (leb 512 (length answers) && leb 655 (length report)))
+
+  abbrev pub analysed : Game
+  analysed = games-after (game-from position) moves
+
+  -- with the remembered answers to X's moves, then those to O's
+  abbrev pub found : Reported
+  found =
+      reported (structs (draws-from draws)) (record { max-depth = depth; allowance = allowance }) analysed
+      (take 256 answers) (take 256 (drop 256 answers)) words
+
+  pub record Analyzes (answers-after words-after report-after : List ℕ) (r : ℕ) : Type 0 where
+    pub returns : r ≡ returned analyze-ok (found .number)
+    pub answers-is : answers-after ≡ left analyze-ok (found .answers-x ++ found .answers-o) answers
+    pub words-is : words-after ≡ (if analyze-ok then (λ _. found .table) else λ _. words)
+    pub report-is :
+        report-after ≡ left analyze-ok (report-words found (analysis (position-of analysed) .refusal) (as-byte (analysis (position-of analysed) .status))) report

@@ -1,0 +1,128 @@
+// A C interface over the proved functions, on numbers and lent slices; for C a slice is a pointer and a length. Asked wrongly, a call but
+// `ultimattt_answer` returns 255 and changes nothing; a slice that is longer than needed keeps its other places.
+mod lent;
+mod position;
+mod report;
+
+ghost use Rattle.interface.specs.Calls.{Answers, Begins, Reads, Renders, PlaysAll, Analyzes};
+use endgame::Analysis;
+use game::Game;
+use minimax::Config;
+
+// A slice is too short, words are no position, or a setting is none. Document 01's numbers are below 32.
+pub const BAD_ARGUMENT: u64 = 255;
+
+// The program's answer to a line without its line feed: how many bytes it has. They are written only if there is room for all.
+#[no_mangle]
+pub extern "C" fn ultimattt_answer(line: &[u8], out: &mut [u8]) -> usize
+    ensures { λ r. ⌜ Answers (now (line .entry)) (now (out .entry)) (now (out .exit)) r ⌝ }
+{
+    let answer = line::answer(lent::held(line));
+    let n = answer.written();
+    let bytes = answer.bytes;
+    if n <= out.len() {
+        lent::put_bytes(out, 0, &bytes[..n]);
+    }
+    n
+}
+
+// The empty board.
+#[no_mangle]
+pub extern "C" fn ultimattt_new(position: &mut [u64]) -> u64
+    ensures { λ r. ⌜ Begins (now (position .entry)) (now (position .exit)) r ⌝ }
+{
+    if position.len() < 12 {
+        return BAD_ARGUMENT;
+    }
+    position::put(position, Game::new());
+    0
+}
+
+// A text, read as a position: 0, or refusal 1 to 6 with the empty board. In place, offset and length of the part that is refused.
+#[no_mangle]
+pub extern "C" fn ultimattt_read(text: &[u8], position: &mut [u64], place: &mut [u64]) -> u64
+    ensures { λ r. ⌜ Reads (now (text .entry)) (now (position .entry)) (now (place .entry)) (now (position .exit)) (now (place .exit)) r ⌝ }
+{
+    if position.len() < 12 {
+        return BAD_ARGUMENT;
+    }
+    if place.len() < 2 {
+        return BAD_ARGUMENT;
+    }
+    let parsed = notation::parse(text);
+    position::put(position, parsed.game);
+    lent::put(place, 0, &position::place(parsed));
+    position::read_number(parsed)
+}
+
+// A position's text of 101 bytes.
+#[no_mangle]
+pub extern "C" fn ultimattt_render(position: &[u64], out: &mut [u8]) -> u64
+    ensures { λ r. ⌜ Renders (now (position .entry)) (now (out .entry)) (now (out .exit)) r ⌝ }
+{
+    if !position::is_position(position) {
+        return BAD_ARGUMENT;
+    }
+    if out.len() < 101 {
+        return BAD_ARGUMENT;
+    }
+    lent::put_bytes(out, 0, &notation::render(position::game_from(position)));
+    0
+}
+
+// Tries moves one after the other, and answers each with 0 or refusal 9 to 13. A refused one changes nothing.
+#[no_mangle]
+pub extern "C" fn ultimattt_play(position: &mut [u64], moves: &[u8], answers: &mut [u8]) -> u64
+    ensures { λ r. ⌜ PlaysAll (now (position .entry)) (now (moves .entry)) (now (answers .entry)) (now (position .exit)) (now (answers .exit)) r ⌝ }
+{
+    if !position::is_position(position) {
+        return BAD_ARGUMENT;
+    }
+    if answers.len() < moves.len() {
+        return BAD_ARGUMENT;
+    }
+    let game = position::play(position::game_from(position), moves, answers);
+    position::put(position, game);
+    0
+}
+
+// The endgame analysis and the search, after moves tried from a position: 0, or refusal 15 to 18. The draw winner is 0 for nobody, 1 for X, 2 for O.
+// The 512 answers are those to X's moves, then those to O's, each by the move it answers; the table is in words, and off without any.
+#[no_mangle]
+pub extern "C" fn ultimattt_analyze(
+    position: &[u64],
+    moves: &[u8],
+    depth: u64,
+    allowance: u64,
+    draw_winner: u64,
+    answers: &mut [u8],
+    words: &mut [u64],
+    report: &mut [u64],
+) -> u64
+    ensures { λ r. ⌜ Analyzes (now (position .entry)) (now (moves .entry)) depth allowance «draw_winner»
+        (now (answers .entry)) (now (words .entry)) (now (report .entry)) (now (answers .exit)) (now (words .exit)) (now (report .exit)) r ⌝ }
+{
+    if !position::is_position(position) {
+        return BAD_ARGUMENT;
+    }
+    if draw_winner > 2 {
+        return BAD_ARGUMENT;
+    }
+    if answers.len() < 512 {
+        return BAD_ARGUMENT;
+    }
+    if report.len() < 655 {
+        return BAD_ARGUMENT;
+    }
+    let game = position::play_all(position::game_from(position), moves);
+    let config = Config {
+        max_depth: depth,
+        allowance,
+        draw_winner: report::draws_from(draw_winner),
+    };
+    let found = report::memory(answers).analyze(game, config, words);
+    report::put_memory(answers, found.state);
+    report::put(report, found, Analysis::new(game));
+    let ending = found.ending;
+    line::ending_number(ending)
+}

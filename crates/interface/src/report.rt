@@ -1,0 +1,181 @@
+// The search's memory and report in lent slices.
+ghost use mathlib.Core.Path.{_≡_};
+ghost use mathlib.Core.Bool.{cond};
+ghost use mathlib.Core.List.{[], _++_, map};
+ghost use Prim.Native.Nat.{_+_, _≤_};
+ghost use lib.ListN.{length, take, drop};
+ghost use lib.Seq.{sets};
+ghost use Rattle.endgame.specs.Means.{made-number};
+ghost use Rattle.minimax.specs.State.{bytes-of};
+ghost use Rattle.minimax.specs.Report.{stats-of, is-spent, ending-stopped, report-of};
+ghost use Rattle.interface.specs.Lent.{Puts};
+ghost use Rattle.interface.specs.Calls.{draws-from, stats-words, all-stats, head-words, report-words};
+use crate::lent;
+use crate::position::side_from;
+use boards::Move;
+use endgame::Analysis;
+use endgame::Made;
+use minimax::Ending;
+use minimax::Minimax;
+use minimax::Report;
+use minimax::SearchError;
+use minimax::Stats;
+use rules::DrawWinner;
+
+pub(crate) fn draws_from(w: u64) -> DrawWinner
+    ensures { λ r. ⌜ r ≡ draws-from w ⌝ }
+{
+    if w == 0 {
+        return DrawWinner::Nobody;
+    }
+    DrawWinner::Side(side_from(w - 1))
+}
+
+// 256 moves, from a place on.
+fn moves_from(bytes: &[u8], at: usize) -> [Move; 256]
+    requires { ⌜ at + 256 ≤ length (now bytes) ⌝ }
+    ensures { λ r. ⌜ bytes-of r ≡ take 256 (drop at (now (bytes .entry))) ⌝ }
+{
+    let mut moves = [Move::NONE; 256];
+    for i in 0..256 {
+        moves[i] = Move {
+            bits: bytes[at + i],
+        };
+    }
+    moves
+}
+
+pub(crate) fn memory(answers: &[u8]) -> Minimax
+    requires { ⌜ 512 ≤ length (now answers) ⌝ }
+    ensures { λ r. ⌜ (bytes-of (r .«answers_x») ≡ take 256 (now (answers .entry))) × (bytes-of (r .«answers_o») ≡ take 256 (drop 256 (now (answers .entry)))) ⌝ }
+{
+    let answers_x = moves_from(answers, 0);
+    let answers_o = moves_from(answers, 256);
+    Minimax {
+        answers_x,
+        answers_o,
+    }
+}
+
+// 256 moves, from a place on.
+fn put_moves(out: &mut [u8], at: usize, moves: [Move; 256])
+    requires { ⌜ at + 256 ≤ length (now out) ⌝ }
+    ensures { λ _. ⌜ now (out .exit) ≡ sets (now (out .entry)) at (bytes-of moves) ⌝ }
+{
+    for i in 0..256 {
+        let m = moves[i];
+        out[at + i] = m.bits;
+    }
+}
+
+pub(crate) fn put_memory(answers: &mut [u8], state: Minimax)
+    requires { ⌜ 512 ≤ length (now answers) ⌝ }
+    ensures { λ _. ⌜ Puts (now (answers .entry)) (bytes-of (state .«answers_x») ++ bytes-of (state .«answers_o»)) 512 (now (answers .exit)) ⌝ }
+{
+    let answers_x = state.answers_x;
+    let answers_o = state.answers_o;
+    put_moves(answers, 0, answers_x);
+    put_moves(answers, 256, answers_o);
+}
+
+fn spent(why: SearchError) -> u64
+    ensures { λ r. ⌜ r ≡ cond (is-spent why) 1 0 ⌝ }
+{
+    match why {
+        SearchError::Depth => 0,
+        SearchError::Allowance => 0,
+        SearchError::Words => 0,
+        SearchError::Spent => 1,
+    }
+}
+
+// 1 where the allowance stopped the search.
+fn stopped(ending: Ending) -> u64
+    ensures { λ r. ⌜ r ≡ cond (ending-stopped ending) 1 0 ⌝ }
+{
+    match ending {
+        Ending::Whole => 0,
+        Ending::Stopped => 1,
+        Ending::Refused(why) => spent(why),
+    }
+}
+
+fn made_number(made: Made) -> u64
+    ensures { λ r. ⌜ r ≡ made-number made ⌝ }
+{
+    match made {
+        Made::Analysed => 0,
+        Made::Unsound => 14,
+    }
+}
+
+// The words before the moves.
+fn head(found: Report, analysis: Analysis) -> [u64; 7]
+    ensures { λ r. ⌜ r ≡ head-words (report-of found []) (made-number (analysis .made)) (analysis .proven .bits) ⌝ }
+{
+    let ending = found.ending;
+    let made = analysis.made;
+    let status = analysis.status();
+    [
+        line::ending_number(ending),
+        stopped(ending),
+        found.depth,
+        table::to_word(found.score),
+        found.count,
+        made_number(made),
+        status.bits as u64,
+    ]
+}
+
+fn word(m: Move) -> u64
+    ensures { λ r. ⌜ r ≡ m .bits ⌝ }
+{
+    m.bits as u64
+}
+
+// 81 moves, from a place on.
+fn put_line(out: &mut [u64], at: usize, line: [Move; 81])
+    requires { ⌜ at + 81 ≤ length (now out) ⌝ }
+    ensures { λ _. ⌜ now (out .exit) ≡ sets (now (out .entry)) at (bytes-of line) ⌝ }
+{
+    for i in 0..81 {
+        let m = line[i];
+        out[at + i] = word(m);
+    }
+}
+
+fn stats_words(s: Stats) -> [u64; 7]
+    ensures { λ r. ⌜ r ≡ stats-words (stats-of s) ⌝ }
+{
+    [
+        s.depth,
+        table::to_word(s.score),
+        s.visited,
+        s.terminal,
+        s.cuts,
+        s.tt_hit,
+        s.tt_suffice,
+    ]
+}
+
+// Seven words for each of 81 depths, from a place on.
+fn put_stats(out: &mut [u64], at: usize, stats: [Stats; 81])
+    requires { ⌜ at + 567 ≤ length (now out) ⌝ }
+    ensures { λ _. ⌜ now (out .exit) ≡ sets (now (out .entry)) at (all-stats (map stats-of stats)) ⌝ }
+{
+    for i in 0..81 {
+        let words = stats_words(stats[i]);
+        lent::put(out, at + 7 * i, &words);
+    }
+}
+
+pub(crate) fn put(out: &mut [u64], found: Report, analysis: Analysis)
+    requires { ⌜ 655 ≤ length (now out) ⌝ }
+    ensures { λ _. ⌜ Puts (now (out .entry)) (report-words (report-of found []) (made-number (analysis .made)) (analysis .proven .bits)) 655 (now (out .exit)) ⌝ }
+{
+    let line = found.line;
+    let stats = found.stats;
+    lent::put(out, 0, &head(found, analysis));
+    put_line(out, 7, line);
+    put_stats(out, 88, stats);
+}
