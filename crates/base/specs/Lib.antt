@@ -3,3 +3,4 @@ pub mod Lists
 pub mod Change
 pub mod Integers
 pub mod Bits
+pub mod Checks

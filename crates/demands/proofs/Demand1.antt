@@ -22,7 +22,8 @@ use Rattle.rules.specs.declared.GameState.{GameState}
 use Rattle.rules.specs.declared.GameState.the-variants.{InPlay, Drawn}
 use Rattle.rules.specs.Board.{in-play, nine, sides, has-line}
 use Rattle.rules.specs.Position.{Position, going, open-board, free-cell, has}
-use Rattle.rules.specs.Play.{no-move, move-of, board-of, cell-of, may, checks, first-failed, accepts, Tried, played, refused, play}
+use Rattle.base.specs.Checks.{all-pass, first-failed}
+use Rattle.rules.specs.Play.{no-move, move-of, board-of, cell-of, may, checks, accepts, Tried, played, refused, play}
 use Rattle.rules.specs.Sound.{sound}
 use Rattle.rules.specs.Status.{Status as Set, unproven}
 use Rattle.rules.specs.Endgame.{Analysis as Meant, Stats as Counts, no-stats as no-counts, stats, merged, or-unproven, analysis, Judged, judge-tried, evaluate-move}

@@ -9,7 +9,8 @@ use Rattle.base.specs.Lists.{any, all, keep, elem, each}
 use Rattle.base.specs.Change.{put}
 use Rattle.base.specs.Integers.{sum}
 use Rattle.rules.specs.Board.{has-line, result}
-use Rattle.rules.specs.Play.{first-failed, accepts, after, play, left-by, tried}
+use Rattle.base.specs.Checks.{all-pass, first-failed}
+use Rattle.rules.specs.Play.{accepts, after, play, left-by, tried}
 use Rattle.rules.specs.Moves.{places, moves}
 use Rattle.rules.specs.Sound.{sound, proper}
 use Rattle.rules.specs.Hash.{cell-key, board-key, due-key, xors, cells-hash, board-hash, hash, with-turn, zobrist, hash-after}
@@ -33,7 +34,7 @@ unfolding parted depth-of quoted e9 empty-position if_then_else_
 asking = tt
 
 computing : Unit {0}
-unfolding if_then_else_ any all keep elem each put sum has-line result first-failed accepts after play left-by tried places moves sound proper cell-key board-key due-key xors cells-hash board-hash hash with-turn zobrist hash-after count unless-both board-line board-score overall-line score evaluate completes winning critical has-critical suits all-suit lure attack prove-attacker forced forced-loss winnable proven narrow combine merged stats or-unproven analysis from-byte merge side-of overall-mark cell-mark sections first-bad last-at fault-at first-fault cell-in state-in said read-cells read-overall read parted depth-of in-places decimal signed move-letters read-letters value-of entry-of off begins look-up store suffices bound-of begin enter leaf hit answered cut some-move hints unless-stopped entering probed on-probe told set-first fresh candidates over-moves search on-outcome deepen analyze entry-refusal reported report-text position-text quoted e9 c9 empty-position
+unfolding if_then_else_ any all keep elem each put sum has-line result first-failed accepts all-pass after play left-by tried places moves sound proper cell-key board-key due-key xors cells-hash board-hash hash with-turn zobrist hash-after count unless-both board-line board-score overall-line score evaluate completes winning critical has-critical suits all-suit lure attack prove-attacker forced forced-loss winnable proven narrow combine merged stats or-unproven analysis from-byte merge side-of overall-mark cell-mark sections first-bad last-at fault-at first-fault cell-in state-in said read-cells read-overall read parted depth-of in-places decimal signed move-letters read-letters value-of entry-of off begins look-up store suffices bound-of begin enter leaf hit answered cut some-move hints unless-stopped entering probed on-probe told set-first fresh candidates over-moves search on-outcome deepen analyze entry-refusal reported report-text position-text quoted e9 c9 empty-position
 computing = tt
 
 -- the empty board's text, as the worked examples have it

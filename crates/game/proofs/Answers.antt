@@ -14,7 +14,8 @@ use Rattle.base.proofs.Branch.{if-ind}
 use Rattle.rules.specs.declared.CellState.{CellState}
 use Rattle.rules.specs.Board.{blank}
 use Rattle.rules.specs.Position.{Position, going, open-board, free-cell}
-use Rattle.rules.specs.Play.{board-of, cell-of, may, checks, first-failed, accepts, play}
+use Rattle.base.specs.Checks.{all-pass, first-failed}
+use Rattle.rules.specs.Play.{board-of, cell-of, may, checks, accepts, play}
 use Rattle.rules.proofs.Play.{play-accepted, play-refused, refusal-is-first}
 use Rattle.game.specs.After.{refusal}
 
@@ -24,7 +25,7 @@ passed [] t = refl
 passed (u ∷ ts) t = let r = and→ (u .0) _ t in if-ind (λ (n : ℕ). n ≡ 0) (u .0) _ _ (λ _. passed ts (r .1)) (λ d. absurd (deny (u .0) d (r .0)))
 
 pub first-is-refusal : (p : Position) (m : ℕ) → first-failed (checks p (board-of m) (cell-of m)) ≡ refusal (play p m)
-unfolding refusal accepts
+unfolding refusal accepts all-pass
 first-is-refusal p m = elim (is (accepts p m)) [
   | inl t ↦ passed (checks p (board-of m) (cell-of m)) t ∙ sym (ap refusal (play-accepted p m t))
   | inr t ↦ sym (ap refusal (play-refused p m t))

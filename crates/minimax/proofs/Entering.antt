@@ -9,6 +9,7 @@ use lib.Dec.{eqb}
 use lib.IntN.{pos}
 use lib.ListN.{set, replicate}
 use borrow.Author.Tests.{lt-ltb, le-ltb, eqb-true, eqb-false}
+use Rattle.base.specs.Checks.{all-pass}
 use Rattle.base.specs.Lists.{all}
 use Rattle.rules.specs.Position.{going}
 use Rattle.rules.specs.Play.{accepts, no-move}
@@ -34,7 +35,7 @@ use Rattle.minimax.proofs.Lines.{set-first-place, set-first-drop, empty
 
 -- ---- the empty move is not accepted
 none-refused : (a : Ask) → asked-game a .accepts (a .game) no-move ≡ false
-unfolding accepts all
+unfolding accepts all-pass all
 none-refused a = refl
 
 -- ---- counts: from s to m a position is entered, and k entries of the table are met

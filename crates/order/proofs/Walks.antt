@@ -6,6 +6,7 @@ use Prim.Native.Nat.{ℕ, _<_}
 use native.Mathlib.Omega.{arith}
 use lib.Dec.{T, eqb}
 use lib.ListN.{length}
+use Rattle.base.specs.Checks.{all-pass}
 use Rattle.base.specs.Branch.{if_then_else_}
 use Rattle.base.specs.Lists.{all, elem}
 use Rattle.base.proofs.Agree.{false-by}
@@ -75,7 +76,7 @@ numbered GameOver e = omega arith
 
 -- no game accepts the empty move
 pub none-refused : (p : Position) → T (not (accepts p no-move))
-unfolding accepts all
+unfolding accepts all-pass all
 none-refused p = tt
 
 abbrev pub step-from : Game → Order → Seen → Step

@@ -16,7 +16,8 @@ use Rattle.rules.specs.declared.GameState.the-variants.{InPlay, Won}
 use Rattle.rules.specs.declared.DrawWinner.the-variants.{Nobody}
 use Rattle.rules.specs.Board.{has-line, result}
 use Rattle.rules.specs.Position.{at, Position, start}
-use Rattle.rules.specs.Play.{no-move, first-failed, accepts, after, play, left-by, tried}
+use Rattle.base.specs.Checks.{all-pass, first-failed}
+use Rattle.rules.specs.Play.{no-move, accepts, after, play, left-by, tried}
 use Rattle.rules.specs.Moves.{places, moves}
 use Rattle.rules.specs.Hash.{cell-key, board-key, due-key, xors, cells-hash, board-hash, hash, with-turn, zobrist}
 use Rattle.rules.specs.Evaluation.{won, lost, count, unless-both, board-line, board-score, overall-line, score, evaluate}
@@ -29,7 +30,7 @@ use Rattle.reference.specs.Reference.{game}
 
 -- ---- what the facts compute with
 playing : Unit {0}
-unfolding moves places each keep tried left-by play accepts all any first-failed after put result has-line if_then_else_
+unfolding moves places each keep tried left-by play accepts all-pass all any first-failed after put result has-line if_then_else_
 playing = tt
 
 valuing : Unit {0}

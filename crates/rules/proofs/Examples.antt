@@ -18,7 +18,8 @@ use Rattle.rules.specs.declared.GameState.the-variants.{InPlay, Drawn, W
 use Rattle.rules.specs.declared.DrawWinner.the-variants.{Nobody, Side}
 use Rattle.rules.specs.Board.{line, has-line, result}
 use Rattle.rules.specs.Position.{Due, free, at, Position, start, won-boards}
-use Rattle.rules.specs.Play.{first-failed, accepts, after, refused, play, left-by, tried, reached}
+use Rattle.base.specs.Checks.{all-pass, first-failed}
+use Rattle.rules.specs.Play.{accepts, after, refused, play, left-by, tried, reached}
 use Rattle.rules.specs.Moves.{places, moves}
 use Rattle.rules.specs.Sound.{sound, proper}
 use Rattle.rules.specs.Keys.{x-cell-keys, o-cell-keys, drawn-keys, x-board-keys, o-board-keys, due-keys}
@@ -29,7 +30,7 @@ use Rattle.rules.specs.Endgame.{completes, winning, critical, has-critic
 
 -- ---- what the facts compute with
 unfoldable pub playing : Unit {0}
-unfolding reached tried left-by play accepts all any first-failed after put result has-line if_then_else_
+unfolding reached tried left-by play accepts all-pass all any first-failed after put result has-line if_then_else_
 playing = tt
 
 unfoldable pub listing : Unit {0}

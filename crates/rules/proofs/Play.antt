@@ -12,7 +12,8 @@ use Rattle.base.proofs.Bool.{and→, →and, or→, deny, is, always, _⇒_, �
 use Rattle.base.proofs.Branch.{if-ind}
 use Rattle.base.proofs.Lists.{all-each}
 use Rattle.rules.specs.Position.{Position, going, open-board, free-cell}
-use Rattle.rules.specs.Play.{move-of, board-of, cell-of, may, checks, first-failed, accepts, after, played, refused, play, left-by, tried}
+use Rattle.base.specs.Checks.{all-pass, first-failed}
+use Rattle.rules.specs.Play.{move-of, board-of, cell-of, may, checks, accepts, after, played, refused, play, left-by, tried}
 
 -- ---- two positions that agree place by place are one
 pub same-position : (p q : Position) → p .turn ≡ q .turn → p .due ≡ q .due →
@@ -40,7 +41,7 @@ pub record Legal (p : Position) (b c : ℕ) : Type 0 where
 
 -- an accepted move is legal, and a legal one is accepted
 pub accepts→ : (p : Position) (m : ℕ) → T (accepts p m) → Legal p (board-of m) (cell-of m)
-unfolding accepts all
+unfolding accepts all-pass all
 accepts→ p m t =
     let r1 = and→ (ltb (board-of m) 9 && ltb (cell-of m) 9) _ t in
     let r0 = and→ (ltb (board-of m) 9) (ltb (cell-of m) 9) (r1 .0) in
@@ -51,7 +52,7 @@ accepts→ p m t =
     record { board = ltb→lt _ _ (r0 .0); cell = ltb→lt _ _ (r0 .1); unfinished = r2 .0; opened = r3 .0; allowed = r4 .0; empty = r5 .0 }
 
 pub →accepts : (p : Position) (m : ℕ) → Legal p (board-of m) (cell-of m) → T (accepts p m)
-unfolding accepts all
+unfolding accepts all-pass all
 →accepts p m l =
     →and (ltb (board-of m) 9 && ltb (cell-of m) 9) _ (→and (ltb (board-of m) 9) _ (lt→ltb _ _ (l .board)) (lt→ltb _ _ (l .cell)))
     (→and (going p) _ (l .unfinished)
@@ -114,7 +115,7 @@ unfolding first-is-right numbered at-number all first-failed if_then_else_
 first-always-right = always 5 (λ a b c d e. first-is-right (numbered a b c d e)) tt
 
 first-failing : (p : Position) (m : ℕ) → T (not (accepts p m)) → FirstFailing (first-failed (checks p (board-of m) (cell-of m))) (checks p (board-of m) (cell-of m))
-unfolding first-is-right numbered at-number accepts
+unfolding first-is-right numbered at-number accepts all-pass
 first-failing p m n =
     let ts = checks p (board-of m) (cell-of m) in let k = first-failed ts in
     elim (or→ (all (λ (t : Bool × ℕ). t .0) ts) _

@@ -5,7 +5,7 @@ use Prim.Native.Nat.{ℕ, _+_, _*_, _/_, _%_}
 use lib.Dec.{eqb, ltb}
 use Rattle.rules.specs.declared.CellState.the-variants.{Played}
 use Rattle.base.specs.Branch.{if_then_else_}
-use Rattle.base.specs.Lists.{all}
+use Rattle.base.specs.Checks.{all-pass, first-failed}
 use Rattle.base.specs.Change.{put}
 use Rattle.rules.specs.Board.{other, blank, mine, in-play, won-by, result}
 use Rattle.rules.specs.Position.{Due, free, at, Position, going, open-board, free-cell}
@@ -37,12 +37,8 @@ checks p b c =
     (may (p .due) b, 12) ∷
     (free-cell p b c, 13) ∷ []
 
-unfoldable pub first-failed : List (Bool × ℕ) → ℕ
-first-failed [] = 0
-first-failed (t ∷ ts) = if t .0 then (λ _. first-failed ts) else λ _. t .1
-
 unfoldable pub accepts : Position → ℕ → Bool
-accepts p m = all (λ (t : Bool × ℕ). t .0) (checks p (board-of m) (cell-of m))
+accepts p m = all-pass (checks p (board-of m) (cell-of m))
 
 -- ---- the position after the side to move, w, has played cell c of board b: the cell is w's, the board and then the game are looked at for
 -- w's lines, and the next board is the cell's number if that board is still in play, else free choice
