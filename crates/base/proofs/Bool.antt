@@ -1,4 +1,5 @@
 -- Laws of tests, and laws of n Booleans that are computed.
+use mathlib.Core.Path.{_≡_, refl}
 use mathlib.Core.Bool.{Bool, true, false, not, _||_, _&&_}
 use mathlib.Core.Logic.{_⊎_, inl, inr}
 use Prim.Native.Nat.{ℕ, zero, suc}
@@ -39,6 +40,14 @@ not-not false t = t
 pub is : (b : Bool) → T b ⊎ T (not b)
 is true = inl tt
 is false = inr tt
+
+pub is-true : (b : Bool) → T b → b ≡ true
+is-true true t = refl
+is-true false t = absurd t
+
+pub is-false : (b : Bool) → T (not b) → b ≡ false
+is-false true t = absurd t
+is-false false t = refl
 
 -- ---- a law of n Booleans, computed
 abbrev pub Law : ℕ → Type 0

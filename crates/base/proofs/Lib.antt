@@ -1,6 +1,7 @@
 pub mod Bool
 pub mod Branch
 pub mod Lists
+pub mod Checks
 pub mod Change
 pub mod Integers
 pub mod Digits

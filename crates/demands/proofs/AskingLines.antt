@@ -9,7 +9,7 @@ use borrow.Author.Tests.{eqb-false, ne-eqb}
 use Rattle.base.specs.Branch.{if_then_else_}
 use Rattle.base.specs.Lists.{elem}
 use Rattle.base.proofs.Agree.{same-by}
-use Rattle.base.proofs.Bool.{→not}
+use Rattle.base.proofs.Bool.{→not, is-true, is-false}
 use Rattle.text.specs.ProgramLine.{Parted, no-blank, around, parted, parted-with, depth-of, Asked, no-depth, asks, asks-with, asked-by, asked, is-digit, line-refusal, refusal-text}
 use Rattle.line.specs.Answered.{asked-text, answer-line}
 use Rattle.demands.specs.Demand1.{digit, one-or-two-digits, AskingLine}
@@ -23,14 +23,6 @@ le-is-not-lt a b = same-by (leb a b) (not (ltb b a)) (λ t. →not (ltb b a) (λ
   where
     le-not-lt : a ≤ b → b < a → ⊥
     le-not-lt h k = omega arith
-
-true-of : (b : Bool) → T b → b ≡ true
-true-of true t = refl
-true-of false t = absurd t
-
-false-of : (b : Bool) → T (not b) → b ≡ false
-false-of true t = absurd t
-false-of false t = refl
 
 -- ---- where it is parted
 not-here : (c : ℕ) (cs : List ℕ) → T (not (elem 0x20 (c ∷ cs))) → (eqb c 0x20 ≡ false) × T (not (elem 0x20 cs))
@@ -58,15 +50,15 @@ same-digit c = ap₂ _&&_ (le-is-not-lt 0x30 c) (le-is-not-lt c 0x39)
 depth-refused : (text rest : List ℕ) → T (not (one-or-two-digits rest)) → asks-with text (depth-of rest) ≡ no-depth
 unfolding depth-of if_then_else_
 depth-refused text [] t = refl
-depth-refused text (c ∷ []) t = rw (same-digit c, false-of (digit c) t)
-depth-refused text (c ∷ d ∷ []) t = rw (same-digit c, same-digit d, false-of (digit c && digit d) t)
+depth-refused text (c ∷ []) t = rw (same-digit c, is-false (digit c) t)
+depth-refused text (c ∷ d ∷ []) t = rw (same-digit c, same-digit d, is-false (digit c && digit d) t)
 depth-refused text (c ∷ d ∷ e ∷ cs) t = refl
 
 depth-accepted : (text rest : List ℕ) → T (one-or-two-digits rest) → line-refusal (asks-with text (depth-of rest)) ≡ 0
 unfolding depth-of if_then_else_
 depth-accepted text [] t = absurd t
-depth-accepted text (c ∷ []) t = rw (same-digit c, true-of (digit c) t)
-depth-accepted text (c ∷ d ∷ []) t = rw (same-digit c, same-digit d, true-of (digit c && digit d) t)
+depth-accepted text (c ∷ []) t = rw (same-digit c, is-true (digit c) t)
+depth-accepted text (c ∷ d ∷ []) t = rw (same-digit c, same-digit d, is-true (digit c && digit d) t)
 depth-accepted text (c ∷ d ∷ e ∷ cs) t = absurd t
 
 pub asking-line-holds : (line : List ℕ) → AskingLine line

@@ -3,5 +3,6 @@ pub mod Lists
 pub mod AfterMoves
 pub mod Demand2
 pub mod AskingLines
+pub mod ReadingTexts
 pub mod Demand1
 pub mod Twelve

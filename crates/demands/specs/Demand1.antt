@@ -1,32 +1,34 @@
--- Demand 1: what each entry point refuses, by document 01's numbers in their order, and what it returns then. All else is accepted, with number 0.
+-- Demand 1: what each entry point asks, as a list of checks with document 01's numbers in their order, and what it returns where one fails.
+-- The number that it answers is that of the first that fails, 0 where all pass.
 use mathlib.Core.Path.{_≡_}
 use mathlib.Core.Bool.{Bool, true, false, not, _||_, _&&_}
-use mathlib.Core.List.{List, [], _∷_, _++_}
-use Prim.Native.Nat.{ℕ, suc, _+_, _-_, _%_}
-use lib.Dec.{T, eqb, ltb}
+use mathlib.Core.List.{List, [], _∷_, _++_, map}
+use Prim.Native.Nat.{ℕ, suc, _-_, _%_}
+use lib.Dec.{T, eqb, leb, ltb}
 use lib.IntN.{pos}
 use lib.ListN.{length, getD, replicate}
 use Rattle.base.specs.Lists.{any, elem, from}
+use Rattle.base.specs.Checks.{all-pass, first-failed}
 use Rattle.rules.specs.declared.Player.{Player}
 use Rattle.rules.specs.declared.Player.the-variants.{X, O}
 use Rattle.rules.specs.declared.CellState.the-variants.{Empty}
 use Rattle.rules.specs.declared.GameState.the-variants.{InPlay}
 use Rattle.rules.specs.Board.{blank, mine, in-play, won-by, nine, has-line}
-use Rattle.rules.specs.Play.{no-move, move-of, board-of, cell-of, after}
+use Rattle.rules.specs.Play.{no-move, move-of, board-of, cell-of, checks, after}
 use Rattle.rules.specs.Status.{unproven}
 use Rattle.rules.specs.Endgame.{no-stats as no-counts}
 use Rattle.text.specs.Reading.{sections}
+use Rattle.text.specs.MoveText.{coordinate}
 use Rattle.text.specs.ProgramLine.{asked, line-refusal, refusal-text}
+use Rattle.theory.specs.Limits.{console}
 use Rattle.theory.specs.Memory.{fresh-memory}
 use Rattle.theory.specs.OrderedSearch.{unlimited}
 use Rattle.theory.specs.Deepening.{analyze}
-use Rattle.theory.specs.Reported.{Reported, no-stats}
+use Rattle.theory.specs.Reported.{entry-checks, Reported, no-stats}
 use Rattle.boards.specs.declared.moves.Move.{Move}
 use Rattle.boards.specs.declared.moves.Built.{Built}
 use Rattle.boards.specs.Packed.{cell-at, state-at}
-use Rattle.boards.specs.Answers.{answer-number, Builds}
-use Rattle.game.specs.declared.NextBoard.{NextBoard}
-use Rattle.game.specs.declared.NextBoard.the-variants.{Any, Only}
+use Rattle.boards.specs.Answers.{answer-number, in-range, Builds}
 use Rattle.game.specs.declared.Game.{Game}
 use Rattle.game.specs.declared.Made.{Made}
 use Rattle.game.specs.declared.CellAnswer.{CellAnswer}
@@ -51,54 +53,29 @@ use Rattle.minimax.specs.declared.Config.{Config}
 use Rattle.minimax.specs.declared.Report.{Report}
 use Rattle.minimax.specs.Structs.{structs}
 use Rattle.minimax.specs.State.{bytes-of}
-use Rattle.minimax.specs.Report.{report-of, answer-of, reported-of}
+use Rattle.minimax.specs.Report.{settings-of, report-of, answer-of, reported-of}
 use Rattle.line.specs.Answered.{answer-line}
 
--- the number n where the test passes, and else what the later tests say
-infixr 5 _when_else_
-abbrev pub _when_else_ : ℕ → Bool → ℕ → ℕ
-_when_else_ n true later = n
-_when_else_ n false later = later
-
--- no cell: the board or the cell is over 8
-abbrev pub over-8 : ℕ → ℕ → Bool
-over-8 b c = ltb 8 b || ltb 8 c
-
--- ---- playing
-abbrev pub other-due : NextBoard → ℕ → Bool
-other-due Any b = false
-other-due (Only d) b = not (eqb d b)
-
--- cell c of board b
-abbrev pub playing : Game → ℕ → ℕ → ℕ
-playing g b c =
-    9 when over-8 b c else
-    10 when not (in-play (g .«game_state»)) else
-    11 when not (in-play (state-at (g .«global_states») b)) else
-    12 when other-due (g .«next_board») b else
-    13 when not (blank (cell-at (g .«local_boards») b c)) else
-    0
-
+-- ---- playing: the rules' own checks
 -- refused play returns the old game
 pub record Playing (g : Game) (m : Move) (r : Made) : Type 0 where
-  pub number : answer-number (r .answer) ≡ playing g (board-of (m .bits)) (cell-of (m .bits))
+  pub number : answer-number (r .answer) ≡ first-failed (checks (position-of g) (board-of (m .bits)) (cell-of (m .bits)))
   pub refused : (answer-number (r .answer) ≡ 0 → ⊥) → r .game ≡ g
   pub accepted : answer-number (r .answer) ≡ 0 → r .game ≡ after-move g (board-of (m .bits)) (cell-of (m .bits))
-  pub accepted-means : answer-number (r .answer) ≡ 0 → position-of (r .game) ≡ after (position-of g) (board-of (m .bits)) (cell-of (m .bits))
+  pub accepted-means : answer-number (r .answer) ≡ 0 →
+      position-of (r .game) ≡ after (position-of g) (board-of (m .bits)) (cell-of (m .bits))
 
 -- ---- searching
 module _ (m : Minimax) (g : Game) (c : Config) (words : List ℕ) where
   -- what the ordered search enters at depth 1 alone, if nothing limits it
   abbrev pub depth-1-enters : ℕ
-  depth-1-enters = analyze (structs (c .«draw_winner»)) unlimited 1 g (fresh-memory (bytes-of (m .«answers_x»)) (bytes-of (m .«answers_o»)) words) .memory .count
+  depth-1-enters =
+      let s = fresh-memory (bytes-of (m .«answers_x»)) (bytes-of (m .«answers_o»)) words in
+      analyze (structs (c .«draw_winner»)) unlimited 1 g s .memory .count
 
-  abbrev pub searching : ℕ
-  searching =
-      15 when eqb (c .«max_depth») 0 || ltb 81 (c .«max_depth») else
-      16 when eqb (c .allowance) 0 || ltb 1000000000 (c .allowance) else
-      17 when not (eqb (length words % 3) 0) || ltb 196608 (length words) else
-      18 when ltb (c .allowance) depth-1-enters else
-      0
+  -- 15 to 17 at the entry, then 18
+  abbrev pub searching : List (Bool × ℕ)
+  searching = entry-checks console (settings-of c) (length words) ++ ((leb depth-1-enters (c .allowance), 18) ∷ [])
 
   -- x is what is reported
   module _ (x : Reported) where
@@ -106,8 +83,8 @@ module _ (m : Minimax) (g : Game) (c : Config) (words : List ℕ) where
     pub record Silent : Type 0 where
       pub depth : x .depth ≡ 0
       pub score : x .score ≡ pos 0
-      pub line : x .line ≡ replicate 81 no-move
-      pub stats : x .stats ≡ replicate 81 no-stats
+      pub line : x .line ≡ replicate (console .deepest) no-move
+      pub stats : x .stats ≡ replicate (console .deepest) no-stats
 
     -- nothing is changed, and no position was entered
     pub record Unchanged : Type 0 where
@@ -126,7 +103,7 @@ module _ (m : Minimax) (g : Game) (c : Config) (words : List ℕ) where
       pub table : x .table ≡ answer-of m g c words .memory .table
 
     pub record Searching : Type 0 where
-      pub number : x .number ≡ searching
+      pub number : x .number ≡ first-failed searching
       pub refused : (x .number ≡ 0 → ⊥) → Silent
       -- 15 to 17
       pub at-entry : (x .number ≡ 0 → ⊥) → (x .number ≡ 18 → ⊥) → Unchanged
@@ -141,15 +118,14 @@ line-of-boards g w = has-line (λ b. won-by w (state-at (g .«global_states») b
 abbrev pub broken-board : Game → ℕ → Bool
 broken-board g b =
     let cell = cell-at (g .«local_boards») b in
-    in-play (state-at (g .«global_states») b) && (not (any (λ c. blank (cell c)) nine) || (has-line (λ c. mine X (cell c)) || has-line (λ c. mine O (cell c))))
+    in-play (state-at (g .«global_states») b) &&
+    (not (any (λ c. blank (cell c)) nine) || (has-line (λ c. mine X (cell c)) || has-line (λ c. mine O (cell c))))
 
 abbrev pub unsound : Game → Bool
 unsound g = line-of-boards g X || (line-of-boards g O || any (broken-board g) nine)
 
-abbrev pub analysing : Game → ℕ
-analysing g =
-    14 when in-play (g .«game_state») && unsound g else
-    0
+abbrev pub analysing : Game → List (Bool × ℕ)
+analysing g = (not (in-play (g .«game_state») && unsound g), 14) ∷ []
 
 -- the full set and no counts
 pub record Unanswered (a : Analysis) : Type 0 where
@@ -157,45 +133,39 @@ pub record Unanswered (a : Analysis) : Type 0 where
   pub none-counted : stats-of (a .stats) ≡ no-counts
 
 pub record Analysing (g : Game) (a : Analysis) : Type 0 where
-  pub number : made-number (a .made) ≡ analysing g
+  pub number : made-number (a .made) ≡ first-failed (analysing g)
   pub refused : (made-number (a .made) ≡ 0 → ⊥) → Unanswered a
   pub finished-number : T (not (in-play (g .«game_state»))) → made-number (a .made) ≡ 0
   pub finished : T (not (in-play (g .«game_state»))) → Unanswered a
 
 -- a move's status: 14 first, then what playing refuses
 pub record Judging (g : Game) (m : Move) (r : MoveStatus) : Type 0 where
-  pub number : judging-number (r .answer) ≡ (14 when in-play (g .«game_state») && unsound g else playing g (board-of (m .bits)) (cell-of (m .bits)))
+  pub number : judging-number (r .answer) ≡ first-failed (analysing g ++ checks (position-of g) (board-of (m .bits)) (cell-of (m .bits)))
   pub refused : (judging-number (r .answer) ≡ 0 → ⊥) → r .status ≡ status-of unproven
 
 -- ---- looking at a cell or a board, and building a move
 pub record LookingCell (b c : ℕ) (r : CellAnswer) : Type 0 where
-  pub number : answer-number (r .answer) ≡ (9 when over-8 b c else 0)
+  pub number : answer-number (r .answer) ≡ first-failed ((in-range b c, 9) ∷ [])
   pub refused : (answer-number (r .answer) ≡ 0 → ⊥) → r .cell ≡ Empty
 
 pub record LookingBoard (b : ℕ) (r : StateAnswer) : Type 0 where
-  pub number : answer-number (r .answer) ≡ (9 when ltb 8 b else 0)
+  pub number : answer-number (r .answer) ≡ first-failed ((ltb b 9, 9) ∷ [])
   pub refused : (answer-number (r .answer) ≡ 0 → ⊥) → r .state ≡ InPlay
 
 pub record Building (b c : ℕ) (r : Built) : Type 0 where
-  pub number : answer-number (r .answer) ≡ (9 when over-8 b c else 0)
+  pub number : answer-number (r .answer) ≡ first-failed ((in-range b c, 9) ∷ [])
   pub refused : (answer-number (r .answer) ≡ 0 → ⊥) → r .m .bits ≡ no-move
   pub accepted : answer-number (r .answer) ≡ 0 → r .m .bits ≡ move-of b c
 
 -- ---- reading a move
--- outside `a` to `i`
-abbrev pub no-letter : ℕ → Bool
-no-letter c = ltb c 0x61 || ltb 0x69 c
-
-abbrev pub reading-move : List ℕ → ℕ
-reading-move text =
-    7 when not (eqb (length text) 2) else
-    8 when no-letter (getD text 0 0) || no-letter (getD text 1 0) else
-    0
+-- the first two bytes, each with what is said of it
+abbrev pub letters : List ℕ → ℕ → ℕ → List (Bool × ℕ)
+letters text m n = (coordinate (getD text 0 0), m) ∷ (coordinate (getD text 1 0), n) ∷ []
 
 pub record ReadingMove (text : List ℕ) (r : ParsedMove) : Type 0 where
-  pub number : move-number (r .answer) ≡ reading-move text
+  pub number : move-number (r .answer) ≡ first-failed ((eqb (length text) 2, 7) ∷ letters text 8 8)
   -- 8 gives the byte, the first one first
-  pub byte : move-number (r .answer) ≡ 8 → r .answer ≡ BadCharacter (getD text 0 0 when no-letter (getD text 0 0) else getD text 1 0)
+  pub byte : move-number (r .answer) ≡ 8 → r .answer ≡ BadCharacter (first-failed (letters text (getD text 0 0) (getD text 1 0)))
   pub refused : (move-number (r .answer) ≡ 0 → ⊥) → r .m .bits ≡ no-move
   pub accepted : move-number (r .answer) ≡ 0 → r .m .bits ≡ move-of (getD text 0 0 - 0x61) (getD text 1 0 - 0x61)
 
@@ -204,76 +174,61 @@ pub record ReadingMove (text : List ℕ) (r : ParsedMove) : Type 0 where
 abbrev pub side-letter : ℕ → Bool
 side-letter c = eqb c 0x58 || eqb c 0x4f
 
--- neither `.`, `@`, `#` nor a side's letter
-abbrev pub bad-mark : ℕ → Bool
-bad-mark c = not (eqb c 0x2e || (eqb c 0x40 || (eqb c 0x23 || side-letter c)))
+-- `.`, `@`, `#` or a side's letter
+abbrev pub good-mark : ℕ → Bool
+good-mark c = (eqb c 0x2e || eqb c 0x40) || (eqb c 0x23 || side-letter c)
 
--- neither `.` nor a side's letter
-abbrev pub bad-cell : ℕ → Bool
-bad-cell c = not (eqb c 0x2e || side-letter c)
+-- `.` or a side's letter
+abbrev pub good-cell : ℕ → Bool
+good-cell c = eqb c 0x2e || side-letter c
 
--- byte i of the cells' section: each tenth is a `/`, the others are cells
-abbrev pub cells-fault : List ℕ → ℕ → ℕ
-cells-fault cs i =
-    5 when eqb (i % 10) 9 && (not (ltb i (length cs)) || not (eqb (getD cs i 0) 0x2f)) else
-    6 when not (eqb (i % 10) 9) && not (ltb i (length cs)) else
-    3 when not (eqb (i % 10) 9) && bad-cell (getD cs i 0) else
-    0
+-- the overall marks, from left to right, each with its offset
+unfoldable pub marks-from : ℕ → List ℕ → List (Bool × ℕ)
+marks-from o [] = []
+marks-from o (c ∷ cs) = (good-mark c, o) ∷ marks-from (suc o) cs
 
--- the first number that is not 0
-abbrev pub first-of : (ℕ → ℕ) → List ℕ → ℕ
-first-of f [] = 0
-first-of f (i ∷ is) = f i when not (eqb (f i) 0) else first-of f is
+-- the bytes of the cells' section by their places: each tenth is a `/`, the others are cells
+unfoldable pub cell-checks : List ℕ → List ℕ → List (Bool × ℕ)
+cell-checks cs [] = []
+cell-checks cs (i ∷ is) =
+    let joint = eqb (i % 10) 9 in
+    (not joint || (ltb i (length cs) && eqb (getD cs i 0) 0x2f), 5) ∷
+    (joint || ltb i (length cs), 6) ∷
+    (joint || good-cell (getD cs i 0), 3) ∷ cell-checks cs is
 
--- by the parts between the semicolons: side, overall marks, and cells, of which 89 bytes are looked at from left to right
-abbrev pub reading-position : List ℕ → ℕ
-reading-position text =
-    let side = getD (sections text) 0 [] in
-    let overall = getD (sections text) 1 [] in
-    let cells = getD (sections text) 2 [] in
-    1 when ltb 256 (length text) else
-    2 when not (eqb (length (sections text)) 3) else
-    3 when not (eqb (length side) 1 && side-letter (getD side 0 0)) else
-    4 when not (eqb (length overall) 9) else
-    5 when any bad-mark overall else
-    first-of (cells-fault cells) (from 0 89)
+-- what is asked of a text and of its parts between the semicolons: side, overall marks, and cells, of which 89 bytes are looked at.
+-- Beside its number each check has offset and length of the part at fault; 1 has none
+abbrev pub text-checks : List ℕ → List (List ℕ) → List (Bool × ℕ × ℕ × ℕ)
+text-checks text parts =
+    let side = getD parts 0 [] in
+    let overall = getD parts 1 [] in
+    let cells = getD parts 2 [] in
+    let marks = marks-from 2 overall in
+    let fault = first-failed (cell-checks cells (from 0 89)) in
+    (leb (length text) 256, 1, 0, 0) ∷
+    (eqb (length parts) 3, 2, 0, length text) ∷
+    (eqb (length side) 1 && side-letter (getD side 0 0), 3, 0, length side) ∷
+    (eqb (length overall) 9, 4, 2, length overall) ∷
+    (all-pass marks, 5, first-failed marks, 1) ∷
+    (eqb fault 0, fault, 12, length cells) ∷ []
 
--- how many bytes stand before the first that passes the test
-abbrev pub before-first : (ℕ → Bool) → List ℕ → ℕ
-before-first f [] = 0
-before-first f (c ∷ cs) = 0 when f c else suc (before-first f cs)
+abbrev pub numbers : List (Bool × ℕ × ℕ × ℕ) → List (Bool × ℕ)
+numbers = map (λ (t : Bool × ℕ × ℕ × ℕ). (t .0, t .1))
 
--- the part at fault, by the same tests: the text, the side, the overall marks, one of these, or the cells; 1 has none
-abbrev pub fault-offset : List ℕ → ℕ
-fault-offset text =
-    let side = getD (sections text) 0 [] in
-    let overall = getD (sections text) 1 [] in
-    0 when ltb 256 (length text) else
-    0 when not (eqb (length (sections text)) 3) else
-    0 when not (eqb (length side) 1 && side-letter (getD side 0 0)) else
-    2 when not (eqb (length overall) 9) else
-    (2 + before-first bad-mark overall) when any bad-mark overall else
-    12
+abbrev pub offsets : List (Bool × ℕ × ℕ × ℕ) → List (Bool × ℕ)
+offsets = map (λ (t : Bool × ℕ × ℕ × ℕ). (t .0, t .2))
 
-abbrev pub fault-length : List ℕ → ℕ
-fault-length text =
-    let side = getD (sections text) 0 [] in
-    let overall = getD (sections text) 1 [] in
-    0 when ltb 256 (length text) else
-    length text when not (eqb (length (sections text)) 3) else
-    length side when not (eqb (length side) 1 && side-letter (getD side 0 0)) else
-    length overall when not (eqb (length overall) 9) else
-    1 when any bad-mark overall else
-    length (getD (sections text) 2 [])
+abbrev pub lengths : List (Bool × ℕ × ℕ × ℕ) → List (Bool × ℕ)
+lengths = map (λ (t : Bool × ℕ × ℕ × ℕ). (t .0, t .3))
 
 abbrev pub parse-number : ParseAnswer → ℕ
 parse-number Accepted = 0
 parse-number (Refused e) = kind-number (e .why)
 
 pub record ReadingPosition (text : List ℕ) (r : Parsed) : Type 0 where
-  pub number : parse-number (r .answer) ≡ reading-position text
-  pub offset-is : (e : ParseError) → r .answer ≡ Refused e → e .offset ≡ fault-offset text
-  pub length-is : (e : ParseError) → r .answer ≡ Refused e → e .length ≡ fault-length text
+  pub number : parse-number (r .answer) ≡ first-failed (numbers (text-checks text (sections text)))
+  pub offset-is : (e : ParseError) → r .answer ≡ Refused e → e .offset ≡ first-failed (offsets (text-checks text (sections text)))
+  pub length-is : (e : ParseError) → r .answer ≡ Refused e → e .length ≡ first-failed (lengths (text-checks text (sections text)))
   pub refused : (parse-number (r .answer) ≡ 0 → ⊥) → r .game ≡ new-game
 
 -- ---- a line of the program
@@ -289,8 +244,10 @@ one-or-two-digits (c ∷ d ∷ e ∷ cs) = false
 -- 19 where there is no blank, or what follows the last one is not one or two digits; it comes before all other numbers
 pub record AskingLine (line : List ℕ) : Type 0 where
   pub no-blank : T (not (elem 0x20 line)) → answer-line line ≡ refusal-text 19
-  pub no-depth : (text rest : List ℕ) → line ≡ text ++ (0x20 ∷ rest) → T (not (elem 0x20 rest)) → T (not (one-or-two-digits rest)) → answer-line line ≡ refusal-text 19
-  pub accepted : (text rest : List ℕ) → line ≡ text ++ (0x20 ∷ rest) → T (not (elem 0x20 rest)) → T (one-or-two-digits rest) → line-refusal (asked line) ≡ 0
+  pub no-depth : (text rest : List ℕ) → line ≡ text ++ (0x20 ∷ rest) → T (not (elem 0x20 rest)) → T (not (one-or-two-digits rest)) →
+      answer-line line ≡ refusal-text 19
+  pub accepted : (text rest : List ℕ) → line ≡ text ++ (0x20 ∷ rest) → T (not (elem 0x20 rest)) → T (one-or-two-digits rest) →
+      line-refusal (asked line) ≡ 0
 
 -- ---- the demand: of every value that a promise allows
 pub record Demand1 : Type 0 where
@@ -303,6 +260,7 @@ pub record Demand1 : Type 0 where
   pub endgame : (g : Game) (a : Analysis) → Analyses g a → Analysing g a
   pub move-status : (g : Game) (m : Move) (r : MoveStatus) → Judges g m r → Judging g m r
   -- words and words' are the table's before and after
-  pub search : (m : Minimax) (g : Game) (c : Config) (words : List ℕ) (r : Report) (words' : List ℕ) → report-of r words' ≡ reported-of m g c words → Searching m g c words (report-of r words')
+  pub search : (m : Minimax) (g : Game) (c : Config) (words : List ℕ) (r : Report) (words' : List ℕ) →
+      report-of r words' ≡ reported-of m g c words → Searching m g c words (report-of r words')
   -- of the bytes of a line, whose answer is `answer`'s by the law `line-is-answered`
   pub program-line : (line : List ℕ) → AskingLine line

@@ -1,19 +1,17 @@
 -- The answers of the public functions, case by case: refused, finished or analysed; and a move refused, called lost or not.
 use mathlib.Core.Path.{_≡_, refl, sym, ap, _∙_}
 use mathlib.Core.Bool.{Bool, true, false, not, _&&_}
-use mathlib.Core.Logic.{inl, inr}
 use Prim.Native.Nat.{ℕ, _<_}
 use native.Mathlib.Omega.{arith}
 use lib.Dec.{T, lit<}
-use Rattle.base.specs.Branch.{if_then_else_}
-use Rattle.base.proofs.Bool.{is, deny}
+use Rattle.base.proofs.Bool.{→and, deny, →not, not-not}
 use Rattle.rules.specs.Position.{Position, going}
-use Rattle.rules.specs.Play.{cell-of, accepts, refused, play}
+use Rattle.rules.specs.Play.{cell-of, play}
 use Rattle.rules.specs.Sound.{sound}
 use Rattle.rules.specs.Status.{unproven}
-use Rattle.rules.specs.Endgame.{merged, stats, or-unproven, Analysis as Analysed, analysis, Judged, judge, judge-tried, evaluate-move}
-use Rattle.rules.proofs.Play.{accepts→, play-accepted, play-refused, refusal-is-first}
-use Rattle.rules.proofs.Endgame.{analysis-cases}
+use Rattle.rules.specs.Endgame.{merged, stats, or-unproven, Analysis as Analysed, analysis, Judged, judge, evaluate-move}
+use Rattle.rules.proofs.Play.{accepts→}
+use Rattle.rules.proofs.Endgame.{analysis-cases, evaluate-unsound, evaluate-refused, evaluate-judged}
 use Rattle.status.specs.Sets.{status-of}
 use Rattle.boards.specs.declared.moves.Move.{Move}
 use Rattle.boards.specs.declared.moves.MoveError.{MoveError}
@@ -22,12 +20,14 @@ use Rattle.boards.specs.Answers.{error-number}
 use Rattle.game.specs.declared.Game.{Game}
 use Rattle.game.specs.Meaning.{position-of}
 use Rattle.game.specs.After.{refusal}
+use Rattle.game.proofs.Answers.{first-is-refusal, nought-accepts, refused-not-accepts}
 use Rattle.endgame.specs.declared.Analysis.{Analysis}
 use Rattle.endgame.specs.declared.MoveStatus.{MoveStatus}
 use Rattle.endgame.specs.Means.{made-number, judging-number, stats-of, Analyses, Judges}
 
 -- ---- an unfinished sound position
-pub analysis-made : (p : Position) → T (going p) → T (sound p) → analysis p ≡ record { refusal = 0; status = or-unproven (merged p); stats = stats p }
+pub analysis-made : (p : Position) → T (going p) → T (sound p) →
+    analysis p ≡ record { refusal = 0; status = or-unproven (merged p); stats = stats p }
 analysis-made p t u = analysis-cases p (λ a. a ≡ record { refusal = 0; status = or-unproven (merged p); stats = stats p })
     (λ v. absurd (deny (going p) v t)) (λ _ _. refl) (λ _ v. absurd (deny (sound p) v u))
 
@@ -53,39 +53,22 @@ so b e = rw e tt
 -- ---- a move, tried
 module _ (p : Position) (m : ℕ) where
   pub tried-first : (going p && not (sound p)) ≡ true → evaluate-move p m ≡ record { refusal = 14; status = unproven }
-  unfolding evaluate-move if_then_else_
-  tried-first e = rw e
+  tried-first e = evaluate-unsound p m (so _ e)
 
   module _ (e : (going p && not (sound p)) ≡ false) where
-    evaluated : evaluate-move p m ≡ judge-tried p m (play p m)
-    unfolding evaluate-move if_then_else_
-    evaluated = rw e
-
-    accepted : refusal (play p m) ≡ 0 → T (accepts p m)
-    unfolding refusal
-    accepted z = elim (is (accepts p m)) [
-      | inl t ↦ t
-      | inr t ↦ (let q = play-refused p m t in absurd (omega (arith, refusal-is-first p m _ q .lowest, sym (ap refusal q) ∙ z)))
-    ]
+    fine : T (not (going p && not (sound p)))
+    fine = rw e tt
 
     pub may-judge : refusal (play p m) ≡ 0 → T (sound p) × (cell-of m < 9)
-    may-judge z = let l = accepts→ p m (accepted z) in (elim (is (sound p)) [ inl s ↦ s | inr n ↦ absurd (never (going p) (sound p) (l .unfinished) n e) ], l .cell)
-      where
-        never : (g s : Bool) → T g → T (not s) → (g && not s) ≡ false → ⊥
-        never true false t n f = let z : _≡_ {A = ℕ} 0 1 = cc in omega arith
-        never true true t n f = n
-        never false s t n f = t
+    may-judge z = let l = accepts→ p m (nought-accepts p m z) in
+        (not-not (sound p) (→not (not (sound p)) (λ n. deny (going p && not (sound p)) fine (→and (going p) _ (l .unfinished) n))), l .cell)
 
     pub judged-played : refusal (play p m) ≡ 0 → evaluate-move p m ≡ record { refusal = 0; status = judge p m }
-    unfolding judge-tried
-    judged-played z = evaluated ∙ ap (judge-tried p m) (play-accepted p m (accepted z))
+    judged-played z = evaluate-judged p m fine (nought-accepts p m z)
 
     pub judged-refused : (n : ℕ) → 0 < n → n ≡ refusal (play p m) → evaluate-move p m ≡ record { refusal = n; status = unproven }
-    unfolding judge-tried refusal
-    judged-refused n h q = elim (is (accepts p m)) [
-      | inl t ↦ absurd (omega (arith, q ∙ ap refusal (play-accepted p m t)))
-      | inr t ↦ (let r = play-refused p m t in evaluated ∙ ap (judge-tried p m) (r ∙ ap refused (sym (q ∙ ap refusal r))))
-    ]
+    judged-refused n h q = evaluate-refused p m fine (refused-not-accepts p m (λ z. omega (arith, q ∙ z)))
+        ∙ ap (λ (k : ℕ). record { refusal = k; status = unproven }) (first-is-refusal p m ∙ sym q)
 
 pub error-some : (e : MoveError) → 0 < error-number e
 error-some WrongBoard = lit< tt

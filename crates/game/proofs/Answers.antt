@@ -9,25 +9,20 @@ use lib.Dec.{T, ltb}
 use borrow.Author.Tests.{lt-ltb, le-ltb, not-true, not-false}
 use Rattle.base.specs.Branch.{if_then_else_}
 use Rattle.base.specs.Lists.{all}
-use Rattle.base.proofs.Bool.{and→, deny, →not, is}
-use Rattle.base.proofs.Branch.{if-ind}
+use Rattle.base.specs.Checks.{first-failed}
+use Rattle.base.proofs.Bool.{is}
+use Rattle.base.proofs.Checks.{all-pass-0, 0-all-pass, some-failed}
 use Rattle.rules.specs.declared.CellState.{CellState}
 use Rattle.rules.specs.Board.{blank}
 use Rattle.rules.specs.Position.{Position, going, open-board, free-cell}
-use Rattle.base.specs.Checks.{all-pass, first-failed}
 use Rattle.rules.specs.Play.{board-of, cell-of, may, checks, accepts, play}
-use Rattle.rules.proofs.Play.{play-accepted, play-refused, refusal-is-first}
+use Rattle.rules.proofs.Play.{play-accepted, play-refused}
 use Rattle.game.specs.After.{refusal}
 
-passed : (ts : List (Bool × ℕ)) → T (all (λ (t : Bool × ℕ). t .0) ts) → first-failed ts ≡ 0
-unfolding first-failed all
-passed [] t = refl
-passed (u ∷ ts) t = let r = and→ (u .0) _ t in if-ind (λ (n : ℕ). n ≡ 0) (u .0) _ _ (λ _. passed ts (r .1)) (λ d. absurd (deny (u .0) d (r .0)))
-
 pub first-is-refusal : (p : Position) (m : ℕ) → first-failed (checks p (board-of m) (cell-of m)) ≡ refusal (play p m)
-unfolding refusal accepts all-pass
+unfolding refusal accepts
 first-is-refusal p m = elim (is (accepts p m)) [
-  | inl t ↦ passed (checks p (board-of m) (cell-of m)) t ∙ sym (ap refusal (play-accepted p m t))
+  | inl t ↦ all-pass-0 (checks p (board-of m) (cell-of m)) t ∙ sym (ap refusal (play-accepted p m t))
   | inr t ↦ sym (ap refusal (play-refused p m t))
 ]
 
@@ -80,14 +75,11 @@ module _ (p : Position) (m b c : ℕ) (eb : b ≡ board-of m) (ec : c ≡ cell-o
           looked true e = checked true true true true true ranged unfinished opened allowed (ap blank (sym es) ∙ e)
           looked false e = checked true true true true false ranged unfinished opened allowed (ap blank (sym es) ∙ e)
 
--- a refusal has a number from 9 on, so 0 is said of an accepted move alone
+-- no check has the number 0, so 0 is said of an accepted move alone
 pub nought-accepts : (p : Position) (m : ℕ) → refusal (play p m) ≡ 0 → T (accepts p m)
-unfolding refusal
-nought-accepts p m e = elim (is (accepts p m)) [
-  | inl t ↦ t
-  | inr t ↦ (let q = play-refused p m t in let z : first-failed (checks p (board-of m) (cell-of m)) ≡ 0 = sym (ap refusal q) ∙ e in absurd (omega (arith, refusal-is-first p m _ q .lowest)))
-]
+unfolding accepts all
+nought-accepts p m e = 0-all-pass (checks p (board-of m) (cell-of m)) tt (first-is-refusal p m ∙ e)
 
 pub refused-not-accepts : (p : Position) (m : ℕ) → (refusal (play p m) ≡ 0 → ⊥) → T (not (accepts p m))
-unfolding refusal
-refused-not-accepts p m h = →not (accepts p m) (λ t. h (ap refusal (play-accepted p m t)))
+unfolding accepts
+refused-not-accepts p m h = some-failed (checks p (board-of m) (cell-of m)) (λ e. h (sym (first-is-refusal p m) ∙ e))

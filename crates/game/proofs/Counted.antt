@@ -13,7 +13,7 @@ use Rattle.base.specs.Branch.{if_then_else_}
 use Rattle.base.specs.Bits.{bit, digits}
 use Rattle.base.specs.Lists.{all, keep, how-many, In, from, each, total}
 use Rattle.base.proofs.Agree.{same-by}
-use Rattle.base.proofs.Bool.{and→, →and, _⇒_, ⇒→, →⇒}
+use Rattle.base.proofs.Bool.{and→, →and, _⇒_, ⇒→, →⇒, is-true}
 use Rattle.base.proofs.Digits.{bit-shr}
 use Rattle.base.proofs.Lists.{all-each, each-all, in-from, from-in}
 use Rattle.base.proofs.Numbers.{digits-lt, bit-digits}
@@ -192,10 +192,6 @@ same-state-self InPlay = tt
 same-state-self Drawn = tt
 same-state-self (Won w) = same-self w
 
-truth : (b : Bool) → T b → b ≡ true
-truth true t = refl
-truth false t = absurd t
-
 module _ (p q : Position) (m n : ℕ) (em : m ≡ side-number (p .turn)) (en : n ≡ side-number (q .turn)) where
   sides : eqb m n ≡ same (p .turn) (q .turn)
   sides = rw (em, en) (same-number (p .turn) (q .turn))
@@ -222,4 +218,4 @@ module _ (p q : Position) (m n : ℕ) (em : m ≡ side-number (p .turn)) (en : n
 
       pub compared : not s ≡ false → (c : Bool) → c ≡ all (λ b. not (open-board p b) || all (λ c. same-cell (p .cells b c) (q .cells b c)) nine) nine → c ≡ equivalent p q
       unfolding equivalent
-      compared j c e = e ∙ sym (rw (turns, dues, sym es ∙ not-false s j, truth (all (λ b. same-state (p .states b) (p .states b)) nine) (each-all _ nine (λ b _. same-state-self (p .states b)))))
+      compared j c e = e ∙ sym (rw (turns, dues, sym es ∙ not-false s j, is-true (all (λ b. same-state (p .states b) (p .states b)) nine) (each-all _ nine (λ b _. same-state-self (p .states b)))))

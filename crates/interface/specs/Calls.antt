@@ -96,7 +96,7 @@ all-stats (s ∷ ss) = stats-words s ++ all-stats ss
 abbrev pub head-words : Reported → ℕ → ℕ → List ℕ
 head-words x refusal status = x .number ∷ cond (x .is-stopped) 1 0 ∷ x .depth ∷ word-of (x .score) ∷ x .count ∷ refusal ∷ status ∷ []
 
--- then 81 moves, and seven words for each of 81 depths
+-- then the line's moves, and seven words for each depth
 abbrev pub report-words : Reported → ℕ → ℕ → List ℕ
 report-words x refusal status = head-words x refusal status ++ (x .line ++ all-stats (x .stats))
 

@@ -5,6 +5,7 @@ ghost use mathlib.Core.List.{[], _++_, map};
 ghost use Prim.Native.Nat.{_+_, _≤_};
 ghost use lib.ListN.{length, take, drop};
 ghost use lib.Seq.{sets};
+ghost use Rattle.theory.specs.Limits.{console};
 ghost use Rattle.endgame.specs.Means.{made-number};
 ghost use Rattle.minimax.specs.State.{bytes-of};
 ghost use Rattle.minimax.specs.Report.{stats-of, is-spent, ending-stopped, report-of};
@@ -21,6 +22,7 @@ use minimax::Report;
 use minimax::SearchError;
 use minimax::Stats;
 use rules::DrawWinner;
+use table::PLACES;
 
 pub(crate) fn draws_from(w: u64) -> DrawWinner
     ensures { λ r. ⌜ r ≡ draws-from w ⌝ }
@@ -133,12 +135,12 @@ fn word(m: Move) -> u64
     m.bits as u64
 }
 
-// 81 moves, from a place on.
-fn put_line(out: &mut [u64], at: usize, line: [Move; 81])
-    requires { ⌜ at + 81 ≤ length (now out) ⌝ }
+// The moves of a line, from a place on.
+fn put_line(out: &mut [u64], at: usize, line: [Move; PLACES])
+    requires { ⌜ at + console .deepest ≤ length (now out) ⌝ }
     ensures { λ _. ⌜ now (out .exit) ≡ sets (now (out .entry)) at (bytes-of line) ⌝ }
 {
-    for i in 0..81 {
+    for i in 0..PLACES {
         let m = line[i];
         out[at + i] = word(m);
     }
@@ -158,12 +160,12 @@ fn stats_words(s: Stats) -> [u64; 7]
     ]
 }
 
-// Seven words for each of 81 depths, from a place on.
-fn put_stats(out: &mut [u64], at: usize, stats: [Stats; 81])
+// Seven words for each depth, from a place on.
+fn put_stats(out: &mut [u64], at: usize, stats: [Stats; PLACES])
     requires { ⌜ at + 567 ≤ length (now out) ⌝ }
     ensures { λ _. ⌜ now (out .exit) ≡ sets (now (out .entry)) at (all-stats (map stats-of stats)) ⌝ }
 {
-    for i in 0..81 {
+    for i in 0..PLACES {
         let words = stats_words(stats[i]);
         lent::put(out, at + 7 * i, &words);
     }

@@ -9,6 +9,7 @@ use lib.IntN.{ℤ, natAbs}
 use lib.ListN.{length, length-append, length-replicate}
 use lib.Signed.{_≤ℤ_}
 use Rattle.base.specs.Lists.{keep, each}
+use Rattle.base.specs.Checks.{first-failed}
 use Rattle.base.proofs.Branch.{if-ind}
 use Rattle.base.proofs.Integers.{hi, lo, zarith, hi-le, lo-le}
 use Rattle.rules.specs.declared.DrawWinner.the-variants.{Nobody}
@@ -16,6 +17,7 @@ use Rattle.rules.specs.Position.{Position}
 use Rattle.rules.specs.Play.{no-move, accepts}
 use Rattle.rules.specs.Moves.{places, moves}
 use Rattle.rules.proofs.Evaluation.{within-abs}
+use Rattle.theory.specs.Limits.{console}
 use Rattle.theory.specs.Game.{Game}
 use Rattle.theory.specs.PlainMinimax.{lowest, highest}
 use Rattle.theory.specs.Memory.{Memory, begin, fresh-memory}
@@ -73,17 +75,19 @@ module _ (G : Game) (values : (p : G .Pos) → (lowest ≤ℤ G .value p) × (G 
 -- ---- what is reported
 pub record Small (r : Reported) : Type 0 where
   pub number-small : r .number ≤ 18
-  pub depth-small : r .depth ≤ 81
+  pub depth-small : r .depth ≤ console .deepest
   pub score-small : natAbs (r .score) ≤ 2 ^ 60 + 1
   pub count-small : r .count ≤ 1000000
-  pub line-long : length (r .line) ≡ 81
+  pub line-long : length (r .line) ≡ console .deepest
 
 module _ (c : Settings) (words : ℕ) where
   entry-small : entry-refusal c words ≤ 18
-  unfolding entry-refusal
-  entry-small = if-ind (λ (n : ℕ). n ≤ 18) _ _ _ (λ _. omega arith) (λ _. if-ind (λ (n : ℕ). n ≤ 18) _ _ _ (λ _. omega arith) (λ _. if-ind (λ (n : ℕ). n ≤ 18) _ _ _ (λ _. omega arith) (λ _. omega arith)))
+  unfolding entry-refusal first-failed
+  entry-small = if-ind (λ (n : ℕ). n ≤ 18) _ _ _
+      (λ _. if-ind (λ (n : ℕ). n ≤ 18) _ _ _
+      (λ _. if-ind (λ (n : ℕ). n ≤ 18) _ _ _ (λ _. omega arith) (λ _. omega arith)) (λ _. omega arith)) (λ _. omega arith)
 
-report-small : (x : Answer) → Bounded 81 1000000 x → length (x .whole .line) ≡ x .whole .depth → Small (report x)
+report-small : (x : Answer) → Bounded (console .deepest) 1000000 x → length (x .whole .line) ≡ x .whole .depth → Small (report x)
 report-small x b e = record {
   number-small = if-ind (λ (n : ℕ). n ≤ 18) _ _ _ (λ _. omega arith) (λ _. omega arith);
   depth-small = b .deep;
@@ -93,7 +97,7 @@ report-small x b e = record {
 }
 
 refused-small : (n : ℕ) (xs os words : List ℕ) → n ≤ 18 → Small (refused-entry n xs os words)
-refused-small n xs os words h = record { number-small = h; depth-small = omega arith; score-small = omega arith; count-small = omega arith; line-long = length-replicate 81 no-move }
+refused-small n xs os words h = record { number-small = h; depth-small = omega arith; score-small = omega arith; count-small = omega arith; line-long = length-replicate (console .deepest) no-move }
 
 pub searched-small : (depth : ℕ) (p : Position) → Small (searched depth p)
 unfolding reported

@@ -1,6 +1,6 @@
 -- The entry's refusals, by the tests that the code makes.
 use mathlib.Core.Path.{_≡_, refl, sym}
-use mathlib.Core.Bool.{true, false, not, _&&_, _||_}
+use mathlib.Core.Bool.{true, false, _&&_}
 use mathlib.Core.List.{List}
 use Prim.Native.Nat.{ℕ, _%_, _≤_, _<_}
 use native.Mathlib.Omega.{arith}
@@ -8,8 +8,10 @@ use lib.Dec.{T, leb, eqb, leb→le}
 use lib.ListN.{length}
 use borrow.Author.Tests.{le-leb, lt-leb, eq-eqb, ne-eqb}
 use Rattle.base.specs.Branch.{if_then_else_}
+use Rattle.base.specs.Checks.{first-failed}
 use Rattle.base.proofs.Branch.{if-ind}
-use Rattle.base.proofs.Bool.{and→, not-not}
+use Rattle.base.proofs.Bool.{and→}
+use Rattle.theory.specs.Limits.{console}
 use Rattle.theory.specs.Game.{Game}
 use Rattle.theory.specs.Memory.{fresh-memory}
 use Rattle.theory.specs.OrderedSearch.{at-most}
@@ -30,67 +32,70 @@ beyond : (n k : ℕ) → (n ≡ 0 → ⊥) → k < n → (leb 1 n && leb n k) �
 beyond n k h g = rw (le-leb 1 n (omega arith), lt-leb n k g)
 
 module _ (c : Settings) (words : ℕ) where
-  refused-15 : (leb 1 (c .max-depth) && leb (c .max-depth) 81) ≡ false → _≡_ {A = ℕ} 15 (entry-refusal c words)
-  unfolding entry-refusal if_then_else_
+  refused-15 : (leb 1 (c .max-depth) && leb (c .max-depth) (console .deepest)) ≡ false → _≡_ {A = ℕ} 15 (entry-refusal c words)
+  unfolding entry-refusal first-failed if_then_else_
   refused-15 e = rw e
 
   pub no-depth : c .max-depth ≡ 0 → _≡_ {A = ℕ} 15 (entry-refusal c words)
-  no-depth h = refused-15 (none _ 81 h)
+  no-depth h = refused-15 (none _ (console .deepest) h)
 
   module _ (d : c .max-depth ≡ 0 → ⊥) where
-    pub too-deep : 81 < c .max-depth → _≡_ {A = ℕ} 15 (entry-refusal c words)
-    too-deep h = refused-15 (beyond _ 81 d h)
+    pub too-deep : console .deepest < c .max-depth → _≡_ {A = ℕ} 15 (entry-refusal c words)
+    too-deep h = refused-15 (beyond _ (console .deepest) d h)
 
-    module _ (k : c .max-depth ≤ 81) where
-      refused-16 : (leb 1 (c .allowance) && leb (c .allowance) 1000000000) ≡ false → _≡_ {A = ℕ} 16 (entry-refusal c words)
-      unfolding entry-refusal if_then_else_
-      refused-16 e = rw (within _ 81 d k, e)
+    module _ (k : c .max-depth ≤ console .deepest) where
+      refused-16 : (leb 1 (c .allowance) && leb (c .allowance) (console .positions)) ≡ false → _≡_ {A = ℕ} 16 (entry-refusal c words)
+      unfolding entry-refusal first-failed if_then_else_
+      refused-16 e = rw (within _ (console .deepest) d k, e)
 
       pub no-allowance : c .allowance ≡ 0 → _≡_ {A = ℕ} 16 (entry-refusal c words)
-      no-allowance h = refused-16 (none _ 1000000000 h)
+      no-allowance h = refused-16 (none _ (console .positions) h)
 
       module _ (a : c .allowance ≡ 0 → ⊥) where
-        pub too-many : 1000000000 < c .allowance → _≡_ {A = ℕ} 16 (entry-refusal c words)
-        too-many h = refused-16 (beyond _ 1000000000 a h)
+        pub too-many : console .positions < c .allowance → _≡_ {A = ℕ} 16 (entry-refusal c words)
+        too-many h = refused-16 (beyond _ (console .positions) a h)
 
-        module _ (b : c .allowance ≤ 1000000000) where
+        module _ (b : c .allowance ≤ console .positions) where
           pub not-threes : (words % 3 ≡ 0 → ⊥) → _≡_ {A = ℕ} 17 (entry-refusal c words)
-          unfolding entry-refusal if_then_else_
-          not-threes h = rw (within _ 81 d k, within _ 1000000000 a b, ne-eqb (words % 3) 0 h)
+          unfolding entry-refusal first-failed if_then_else_
+          not-threes h = rw (within _ (console .deepest) d k, within _ (console .positions) a b, ne-eqb (words % 3) 0 h)
 
           module _ (z : words % 3 ≡ 0) where
-            pub too-long : 196608 < words → _≡_ {A = ℕ} 17 (entry-refusal c words)
-            unfolding entry-refusal if_then_else_
-            too-long h = rw (within _ 81 d k, within _ 1000000000 a b, eq-eqb (words % 3) 0 z, lt-leb words 196608 h)
+            pub too-long : console .words < words → _≡_ {A = ℕ} 17 (entry-refusal c words)
+            unfolding entry-refusal first-failed if_then_else_
+            too-long h = rw (within _ (console .deepest) d k, within _ (console .positions) a b, eq-eqb (words % 3) 0 z, lt-leb words (console .words) h)
 
-            pub none-refused : words ≤ 196608 → _≡_ {A = ℕ} 0 (entry-refusal c words)
-            unfolding entry-refusal if_then_else_
-            none-refused h = rw (within _ 81 d k, within _ 1000000000 a b, eq-eqb (words % 3) 0 z, le-leb words 196608 h)
+            pub none-refused : words ≤ console .words → _≡_ {A = ℕ} 0 (entry-refusal c words)
+            unfolding entry-refusal first-failed if_then_else_
+            none-refused h = rw (within _ (console .deepest) d k, within _ (console .positions) a b, eq-eqb (words % 3) 0 z, le-leb words (console .words) h)
 
-at-most-is : (n k : ℕ) → T (not (not (leb 1 n && leb n k))) → n ≤ k
-at-most-is n k t = leb→le n k (and→ (leb 1 n) (leb n k) (not-not (leb 1 n && leb n k) t) .1)
+at-most-is : (n k : ℕ) → T (leb 1 n && leb n k) → n ≤ k
+at-most-is n k t = leb→le n k (and→ (leb 1 n) (leb n k) t .1)
 
-at-least-one : (n k : ℕ) → T (not (not (leb 1 n && leb n k))) → 1 ≤ n
-at-least-one n k t = leb→le 1 n (and→ (leb 1 n) (leb n k) (not-not (leb 1 n && leb n k) t) .0)
+at-least-one : (n k : ℕ) → T (leb 1 n && leb n k) → 1 ≤ n
+at-least-one n k t = leb→le 1 n (and→ (leb 1 n) (leb n k) t .0)
 
 -- ---- what an answer of it means
 module _ (c : Settings) (words : ℕ) where
-  pub limits : 0 ≡ entry-refusal c words → (c .max-depth ≤ 81) × (c .allowance ≤ 1000000000)
-  unfolding entry-refusal
-  limits = if-ind (λ (n : ℕ). 0 ≡ n → (c .max-depth ≤ 81) × (c .allowance ≤ 1000000000)) _ _ _ (λ _ e. absurd (omega arith))
-      (λ t. if-ind (λ (n : ℕ). 0 ≡ n → (c .max-depth ≤ 81) × (c .allowance ≤ 1000000000)) _ _ _ (λ _ e. absurd (omega arith))
-      (λ u _. (at-most-is (c .max-depth) 81 t, at-most-is (c .allowance) 1000000000 u)))
+  pub limits : 0 ≡ entry-refusal c words → (c .max-depth ≤ console .deepest) × (c .allowance ≤ console .positions)
+  unfolding entry-refusal first-failed
+  limits = if-ind (λ (n : ℕ). 0 ≡ n → (c .max-depth ≤ console .deepest) × (c .allowance ≤ console .positions)) _ _ _
+      (λ t. if-ind (λ (n : ℕ). 0 ≡ n → (c .max-depth ≤ console .deepest) × (c .allowance ≤ console .positions)) _ _ _
+      (λ u _. (at-most-is (c .max-depth) (console .deepest) t, at-most-is (c .allowance) (console .positions) u)) (λ _ e. absurd (omega arith)))
+      (λ _ e. absurd (omega arith))
 
   pub some-depth : 0 ≡ entry-refusal c words → 1 ≤ c .max-depth
-  unfolding entry-refusal
-  some-depth = if-ind (λ (n : ℕ). 0 ≡ n → 1 ≤ c .max-depth) _ _ _ (λ _ e. absurd (omega arith)) (λ t _. at-least-one (c .max-depth) 81 t)
+  unfolding entry-refusal first-failed
+  some-depth = if-ind (λ (n : ℕ). 0 ≡ n → 1 ≤ c .max-depth) _ _ _ (λ t _. at-least-one (c .max-depth) (console .deepest) t) (λ _ e. absurd (omega arith))
 
   -- it is never 18
   not-18 : 18 ≡ entry-refusal c words → ⊥
-  unfolding entry-refusal
-  not-18 = if-ind (λ (n : ℕ). 18 ≡ n → ⊥) _ _ _ (λ _ e. omega arith)
-      (λ _. if-ind (λ (n : ℕ). 18 ≡ n → ⊥) _ _ _ (λ _ e. omega arith)
-      (λ _. if-ind (λ (n : ℕ). 18 ≡ n → ⊥) _ _ _ (λ _ e. omega arith) (λ _ e. omega arith)))
+  unfolding entry-refusal first-failed
+  not-18 = if-ind (λ (n : ℕ). 18 ≡ n → ⊥) _ _ _
+      (λ _. if-ind (λ (n : ℕ). 18 ≡ n → ⊥) _ _ _
+      (λ _. if-ind (λ (n : ℕ). 18 ≡ n → ⊥) _ _ _ (λ _ e. omega arith) (λ _ e. omega arith))
+      (λ _ e. omega arith))
+      (λ _ e. omega arith)
 
   not-spent : (e : SearchError) → error-number e ≡ entry-refusal c words → is-spent e ≡ false
   not-spent Depth q = refl

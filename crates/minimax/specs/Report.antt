@@ -6,6 +6,7 @@ use Prim.Native.Nat.{ℕ, _-_, _≤_}
 use lib.IntN.{pos}
 use lib.ListN.{take, drop, replicate}
 use Rattle.rules.specs.Play.{no-move}
+use Rattle.theory.specs.Limits.{console}
 use Rattle.theory.specs.Memory.{Tally, fresh-memory}
 use Rattle.theory.specs.OrderedSearch.{at-most}
 use Rattle.theory.specs.Deepening.{Stats as Meant, Whole, Answer, analyze}
@@ -85,8 +86,8 @@ refused-with e xs os words = record {
   is-stopped = is-spent e;
   depth = 0;
   score = pos 0;
-  line = replicate 81 no-move;
-  stats = replicate 81 no-stats;
+  line = replicate (console .deepest) no-move;
+  stats = replicate (console .deepest) no-stats;
   count = 0;
   answers-x = xs;
   answers-o = os;
@@ -103,9 +104,9 @@ whole-of d = record { depth = d .depth; score = d .score; line = line-of (d .lin
 
 -- the places after the last whole depth are empty
 pub record Empty-on (d : Depths) : Type 0 where
-  pub most : d .depth ≤ 81
-  pub line-empty : drop (d .depth) (d .line .moves) ≡ replicate (81 - d .depth) (record { bits = no-move })
-  pub stats-empty : drop (d .depth) (map stats-of (d .stats)) ≡ replicate (81 - d .depth) no-stats
+  pub most : d .depth ≤ console .deepest
+  pub line-empty : drop (d .depth) (d .line .moves) ≡ replicate (console .deepest - d .depth) (record { bits = no-move })
+  pub stats-empty : drop (d .depth) (map stats-of (d .stats)) ≡ replicate (console .deepest - d .depth) no-stats
 
 abbrev pub empty-answers : Minimax
 empty-answers = record { «answers_x» = replicate 256 (record { bits = no-move }); «answers_o» = replicate 256 (record { bits = no-move }) }

@@ -8,6 +8,7 @@ use lib.ListN.{take, drop, replicate, set}
 use lib.Signed.{_≤ℤ_}
 use Rattle.base.specs.Branch.{if_then_else_}
 use Rattle.rules.specs.Play.{board-of, no-move}
+use Rattle.theory.specs.Limits.{console}
 use Rattle.theory.specs.Game.{Game as Searched}
 use Rattle.theory.specs.PlainMinimax.{lowest, highest}
 use Rattle.theory.specs.Memory.{Memory, some-move}
@@ -45,7 +46,7 @@ abbrev pub line-of : Line → ℕ → List ℕ
 line-of l d = take d (bytes-of (l .moves))
 
 abbrev pub empty-line : Line
-empty-line = record { moves = replicate 81 (record { bits = no-move }) }
+empty-line = record { moves = replicate (console .deepest) (record { bits = no-move }) }
 
 -- ---- what is asked and found
 abbrev pub asked-game : Ask → Searched
@@ -92,13 +93,13 @@ pub record Within (z : ℤ) : Type 0 where
 abbrev pub Valued : Ask → Type 0
 Valued a = a .values .boards ≡ values-of (position-of (a .game))
 
--- a depth of at most 81, a window within the root's, and an allowance that a count of 64 bits holds with room
+-- a depth of at most the deepest, a window within the root's, and an allowance that a count of 64 bits holds with room
 pub record Asked (a : Ask) : Type 0 where
   pub valued : Valued a
-  pub deep : a .depth ≤ 81
+  pub deep : a .depth ≤ console .deepest
   pub alpha-within : Within (a .alpha)
   pub beta-within : Within (a .beta)
-  pub allowed : a .allowance ≤ 1000000000
+  pub allowed : a .allowance ≤ console .positions
 
 -- no count is beyond the positions entered, so none wraps
 pub record Counted (a : Ask) (s : Search) : Type 0 where

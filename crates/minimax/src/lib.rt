@@ -11,6 +11,7 @@ ghost use lib.Dec.{eqb};
 ghost use lib.ListN.{drop};
 ghost use Rattle.base.specs.Branch.{if_then_else_};
 ghost use Rattle.rules.specs.Play.{no-move};
+ghost use Rattle.theory.specs.Limits.{console};
 ghost use Rattle.theory.specs.PlainMinimax.{lowest, highest};
 ghost use Rattle.theory.specs.Memory.{fresh-memory};
 ghost use Rattle.theory.specs.Deepening.{nothing-yet, one-deeper, decided};
@@ -27,8 +28,8 @@ use search::Ask;
 use search::Found;
 use search::Line;
 use search::Search;
-
-pub const DEEPEST: u64 = 81;
+use table::DEEPEST;
+use table::PLACES;
 
 pub const MOST_POSITIONS: u64 = 1000000000;
 
@@ -77,8 +78,8 @@ pub struct Report {
     pub depth: u64,
     pub score: i64,
     pub count: u64,
-    pub line: [Move; 81],
-    pub stats: [Stats; 81],
+    pub line: [Move; PLACES],
+    pub stats: [Stats; PLACES],
 }
 
 // Whether a search may begin.
@@ -90,7 +91,7 @@ enum Entry {
 // What the whole depths have come to: the last one, its score and line, and the stats of each.
 struct Depths {
     pub line: Line,
-    pub stats: [Stats; 81],
+    pub stats: [Stats; PLACES],
     pub depth: u8,
     pub score: i64,
 }
@@ -150,7 +151,7 @@ impl Config {
 
     // What is asked of the root, one depth after the last whole one.
     fn ask(self, game: Game, values: Values, whole: Depths) -> Ask
-        requires { ⌜ whole .depth < 81 ⌝ }
+        requires { ⌜ whole .depth < console .deepest ⌝ }
         ensures { λ r. ⌜ r ≡ record { game = game; depth = whole .depth + 1; alpha = lowest; beta = highest; prev = record { bits = no-move }; «draw_winner» = self .«draw_winner»; allowance = self .allowance; values = values } ⌝ }
     {
         let draw_winner = self.draw_winner;
@@ -173,7 +174,7 @@ impl Depths {
     {
         Depths {
             line: Line::empty(),
-            stats: [Stats::NONE; 81],
+            stats: [Stats::NONE; PLACES],
             depth: 0,
             score: 0,
         }
@@ -181,7 +182,7 @@ impl Depths {
 
     // One depth more.
     fn deeper(self, r: Found) -> Depths
-        requires { ⌜ (self .depth < 81) × Empty-on self × (drop (self .depth + 1) (r .line .moves) ≡ drop (self .depth + 1) (self .line .moves)) ⌝ }
+        requires { ⌜ (self .depth < console .deepest) × Empty-on self × (drop (self .depth + 1) (r .line .moves) ≡ drop (self .depth + 1) (self .line .moves)) ⌝ }
         ensures { λ x. ⌜ (whole-of x ≡ one-deeper (whole-of self) (r .score) (line-of (r .line) (self .depth + 1)) (tally-of (r .state))) × Empty-on x × (x .line ≡ r .line) ⌝ }
     {
         let mut stats = self.stats;
@@ -263,8 +264,8 @@ impl Minimax {
             depth: 0,
             score: 0,
             count: 0,
-            line: [Move::NONE; 81],
-            stats: [Stats::NONE; 81],
+            line: [Move::NONE; PLACES],
+            stats: [Stats::NONE; PLACES],
         }
     }
 
@@ -287,7 +288,7 @@ impl Minimax {
     }
 
     fn deepen(self, game: Game, config: Config, words: &mut [u64]) -> Report
-        requires { ⌜ (config .«max_depth» ≤ 81) × (config .allowance ≤ 1000000000) ⌝ }
+        requires { ⌜ (config .«max_depth» ≤ console .deepest) × (config .allowance ≤ console .positions) ⌝ }
         ensures { λ r. ⌜ report-of r (now (words .exit)) ≡ report (answer-of self game config (now (words .entry))) ⌝ }
     {
         let values = Values::new(game);

@@ -1,7 +1,7 @@
 // The ordered search: of a position, and over its remaining moves. Its state goes in and comes back by value; only the table's words
 // are lent.
 // Ported from src/lib/minimax.rs of nelhage/ultimattt at commit 87ef0d9c7c (Apache-2.0, see NOTICE), changed: `minimax` is two functions that
-// call each other, lines have 81 places, and an allowance counts the positions entered.
+// call each other, lines have a place for each depth, and an allowance counts the positions entered.
 ghost use mathlib.Core.Path.{_≡_};
 ghost use mathlib.Core.Bool.{true, false, not, _||_};
 ghost use mathlib.Core.List.{List, _∷_};
@@ -15,6 +15,7 @@ ghost use Rattle.rules.specs.Board.{other};
 ghost use Rattle.rules.specs.Position.{going};
 ghost use Rattle.rules.specs.Play.{no-move};
 ghost use Rattle.rules.specs.Evaluation.{evaluate};
+ghost use Rattle.theory.specs.Limits.{console};
 ghost use Rattle.theory.specs.Memory.{some-move, begin, enter, leaf, hit, answered, answers-to, cut};
 ghost use Rattle.theory.specs.Table.{suffices, bound-of};
 ghost use Rattle.theory.specs.OrderedSearch.{candidates};
@@ -32,6 +33,7 @@ use rules::Player;
 use table::Bound;
 use table::Entry;
 use table::Held;
+use table::PLACES;
 
 // The search's state: the remembered answers to X's moves and to O's, the positions entered over all depths, and the counts of `Stats`.
 pub(crate) struct Search {
@@ -46,7 +48,7 @@ pub(crate) struct Search {
 }
 
 pub(crate) struct Line {
-    pub moves: [Move; 81],
+    pub moves: [Move; PLACES],
 }
 
 // What the search of a position is asked; the values are those of its nine boards.
@@ -80,7 +82,7 @@ impl Line {
         ensures { λ r. ⌜ r ≡ empty-line ⌝ }
     {
         Line {
-            moves: [Move::NONE; 81],
+            moves: [Move::NONE; PLACES],
         }
     }
 
@@ -101,7 +103,7 @@ impl Line {
 
     // A move and the line below it, in so many places; the others stay.
     fn with_line(self, m: Move, below: Line, depth: u8) -> Line
-        requires { ⌜ (0 < depth) × (depth ≤ 81) ⌝ }
+        requires { ⌜ (0 < depth) × (depth ≤ console .deepest) ⌝ }
         ensures { λ r. ⌜ (line-of r depth ≡ m .bits ∷ line-of below (depth - 1)) × (drop depth (r .moves) ≡ drop depth (self .moves)) ⌝ }
     {
         let mut line = self;
@@ -130,7 +132,7 @@ impl Search {
 
     // A position is entered.
     fn enter(self) -> Search
-        requires { ⌜ (self .count < 1000000000) × (self .visited < 1000000000) ⌝ }
+        requires { ⌜ (self .count < console .positions) × (self .visited < console .positions) ⌝ }
         ensures { λ r. ⌜ ((words : List ℕ) → memory-of r words ≡ enter (memory-of self words)) ⌝ }
     {
         let mut s = self;
@@ -141,7 +143,7 @@ impl Search {
 
     // It is not searched further.
     fn leaf(self) -> Search
-        requires { ⌜ self .terminal < 1000000000 ⌝ }
+        requires { ⌜ self .terminal < console .positions ⌝ }
         ensures { λ r. ⌜ ((words : List ℕ) → memory-of r words ≡ leaf (memory-of self words)) ⌝ }
     {
         let mut s = self;
@@ -151,7 +153,7 @@ impl Search {
 
     // The table has an entry for it.
     fn hit(self) -> Search
-        requires { ⌜ self .«tt_hit» < 1000000000 ⌝ }
+        requires { ⌜ self .«tt_hit» < console .positions ⌝ }
         ensures { λ r. ⌜ ((words : List ℕ) → memory-of r words ≡ hit (memory-of self words)) ⌝ }
     {
         let mut s = self;
@@ -161,7 +163,7 @@ impl Search {
 
     // Which suffices.
     fn suffice(self) -> Search
-        requires { ⌜ self .«tt_suffice» < 1000000000 ⌝ }
+        requires { ⌜ self .«tt_suffice» < console .positions ⌝ }
         ensures { λ r. ⌜ ((words : List ℕ) → memory-of r words ≡ answered (memory-of self words)) ⌝ }
     {
         let mut s = self;
@@ -182,7 +184,7 @@ impl Search {
 
     // A cut by a move, which is remembered as the answer to the previous one.
     fn cut(self, turn: Player, prev: Move, m: Move) -> Search
-        requires { ⌜ self .cuts < 1000000000 ⌝ }
+        requires { ⌜ self .cuts < console .positions ⌝ }
         ensures { λ r. ⌜ ((words : List ℕ) → memory-of r words ≡ cut turn (memory-of self words) (prev .bits) (m .bits)) ⌝ }
     {
         let at = prev.bits as usize;
@@ -257,7 +259,7 @@ impl Best {
 
     // It becomes that edge, and the line is its move and the line below.
     fn raise(self, m: Move, score: i64, below: Line, depth: u8) -> Best
-        requires { ⌜ Within score × (0 < depth) × (depth ≤ 81) ⌝ }
+        requires { ⌜ Within score × (0 < depth) × (depth ≤ console .deepest) ⌝ }
         ensures { λ b. ⌜ (b .score ≡ negℤ score) × (line-of (b .line) depth ≡ m .bits ∷ line-of below (depth - 1)) × (drop depth (b .line .moves) ≡ drop depth (self .line .moves)) ⌝ }
     {
         let old = self.line;
@@ -334,7 +336,7 @@ impl Ask {
 
     // Stores what the search over the moves found, unless it was stopped.
     fn leave(self, found: Found, words: &mut [u64])
-        requires { ⌜ (0 < self .depth) × (self .depth ≤ 81) ⌝ }
+        requires { ⌜ (0 < self .depth) × (self .depth ≤ console .deepest) ⌝ }
         ensures { λ _. ⌜ outcome-of self found (now (words .exit)) ≡ then-told self (outcome-of self found (now (words .entry))) ⌝ }
     {
         if found.stopped {
@@ -355,7 +357,7 @@ impl Ask {
 
     // The cursor over the moves: the table's move; the remembered answer, or lacking one the line's move; then the list.
     fn walk(self, first: Move, state: Search, line: Line) -> Walk
-        requires { ⌜ (0 < self .depth) × (self .depth ≤ 81) ⌝ }
+        requires { ⌜ (0 < self .depth) × (self .depth ≤ console .deepest) ⌝ }
         ensures { λ r. ⌜ ((words : List ℕ) → walk-left (self .game) r ≡ candidates (asked-game self) (some-move (first .bits)) (memory-of state words) (self .game) (self .prev .bits) (line-of line (self .depth))) ⌝ }
     {
         let game = self.game;
@@ -404,7 +406,7 @@ impl Ask {
     }
 
     fn cut(self, state: Search, m: Move) -> Search
-        requires { ⌜ state .cuts < 1000000000 ⌝ }
+        requires { ⌜ state .cuts < console .positions ⌝ }
         ensures { λ r. ⌜ ((words : List ℕ) → memory-of r words ≡ cut (self .game .«next_player») (memory-of state words) (self .prev .bits) (m .bits)) ⌝ }
     {
         let game = self.game;

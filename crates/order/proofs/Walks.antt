@@ -10,7 +10,7 @@ use Rattle.base.specs.Checks.{all-pass}
 use Rattle.base.specs.Branch.{if_then_else_}
 use Rattle.base.specs.Lists.{all, elem}
 use Rattle.base.proofs.Agree.{false-by}
-use Rattle.base.proofs.Bool.{deny}
+use Rattle.base.proofs.Bool.{deny, is-true}
 use Rattle.base.proofs.Branch.{if-ind, if-both}
 use Rattle.rules.specs.Position.{Position}
 use Rattle.rules.specs.Play.{accepts, no-move}
@@ -59,10 +59,6 @@ module _ (ok : ℕ → Bool) (seen : ℕ → Bool) (m : ℕ) (ms : List ℕ) whe
 
 abbrev ok : Game → ℕ → Bool
 ok g = accepts (position-of g)
-
-is-true : (b : Bool) → T b → b ≡ true
-is-true true t = refl
-is-true false t = absurd t
 
 pub shorter : (ms : List ℕ) (m : ℕ) (rest : List ℕ) → ms ≡ m ∷ rest → length rest < length ms
 shorter ms m rest e = rw e (omega arith)

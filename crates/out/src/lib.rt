@@ -8,6 +8,7 @@ ghost use Rattle.out.specs.OutBytes.{new-out, added, added-all, move-byt
 use boards::Move;
 use rules::Player;
 use status::Status;
+use table::PLACES;
 
 // The longest answer has 201 bytes.
 pub const ROOM: usize = 224;
@@ -96,7 +97,7 @@ impl Out {
     }
 
     // Moves up to the first empty one, joined; `-` if there is none.
-    pub fn moves(self, line: [Move; 81]) -> Out
+    pub fn moves(self, line: [Move; PLACES]) -> Out
         ensures { λ r. ⌜ r ≡ added-all self (joined (move-bytes line)) ⌝ }
     {
         let first = line[0];
@@ -105,7 +106,7 @@ impl Out {
         }
         let mut out = self;
         let mut i: usize = 0;
-        while i < 81 {
+        while i < PLACES {
             let m = line[i];
             if m.is_none() {
                 return out;
@@ -130,7 +131,7 @@ impl Out {
         depth: u64,
         score: i64,
         count: u64,
-        line: [Move; 81],
+        line: [Move; PLACES],
     ) -> Out
         ensures { λ r. ⌜ r ≡ out-of (answer-text (set-of status) legal depth score count (move-bytes line)) ⌝ }
     {

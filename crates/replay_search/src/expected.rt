@@ -1,6 +1,7 @@
 // What a record expects of a search. The numbers are, from 0 on: ending, count, depth, the score's sign and size, the digest and the number of
 // the remembered answers and of the table's entries, the line, and eight numbers of each depth (tools/lists.py).
 ghost use Prim.Native.Nat.{_<_, _≤_};
+ghost use Rattle.theory.specs.Limits.{console};
 use crate::digest;
 use boards::Move;
 use decimals::Signed;
@@ -8,6 +9,7 @@ use minimax::Ending;
 use minimax::Report;
 use minimax::SearchError;
 use minimax::Stats;
+use table::PLACES;
 
 // The numbers before the line.
 const HEAD: usize = 9;
@@ -73,8 +75,8 @@ fn same_depth(numbers: &[u64], at: usize, stats: Stats) -> bool
     stats.tt_suffice == decimals::at(numbers, at + 7)
 }
 
-fn same_depths(numbers: &[u64], depth: usize, stats: [Stats; 81]) -> bool
-    requires { ⌜ depth ≤ 81 ⌝ }
+fn same_depths(numbers: &[u64], depth: usize, stats: [Stats; PLACES]) -> bool
+    requires { ⌜ depth ≤ console .deepest ⌝ }
 {
     let mut i: usize = 0;
     while i < depth {
@@ -86,8 +88,8 @@ fn same_depths(numbers: &[u64], depth: usize, stats: [Stats; 81]) -> bool
     true
 }
 
-fn same_line(numbers: &[u64], depth: usize, line: [Move; 81]) -> bool
-    requires { ⌜ depth ≤ 81 ⌝ }
+fn same_line(numbers: &[u64], depth: usize, line: [Move; PLACES]) -> bool
+    requires { ⌜ depth ≤ console .deepest ⌝ }
 {
     let mut i: usize = 0;
     while i < depth {
@@ -130,7 +132,7 @@ fn same_memory(numbers: &[u64], r: Report, table: &[u64]) -> bool {
 
 fn same_walk(numbers: &[u64], r: Report) -> bool {
     let depth = decimals::at(numbers, 2) as usize;
-    if depth > 81 {
+    if depth > PLACES {
         return false;
     }
     if numbers.len() != HEAD + 9 * depth {

@@ -1,6 +1,7 @@
 -- Laws of the endgame analysis. A side that is proved to win has a critical board, so it can still win, and no merge is empty.
-use mathlib.Core.Path.{_≡_, refl, sym, ap, subst}
+use mathlib.Core.Path.{_≡_, refl, sym, ap, _∙_, subst}
 use mathlib.Core.Bool.{Bool, true, false, not, _||_, _&&_}
+use mathlib.Core.List.{List, [], _∷_}
 use mathlib.Core.Logic.{_↔_, _⊎_, inl, inr}
 use mathlib.Core.Option.{Option, none, some}
 use Prim.Native.Nat.{ℕ, _<_}
@@ -9,9 +10,11 @@ use lib.Dec.{T, eqb, eqb→eq, eqb-refl}
 use Rattle.base.specs.Branch.{if_then_else_}
 use Rattle.base.specs.Lists.{any, all}
 use Rattle.base.specs.Change.{put}
-use Rattle.base.proofs.Bool.{and→, →and, or→, →or-l, →or-r, deny, →not, not-not, is, always, _⇒_, ⇒→, →⇒}
+use Rattle.base.specs.Checks.{all-pass, first-failed}
+use Rattle.base.proofs.Bool.{and→, →and, or→, →or-l, →or-r, deny, →not, is, is-true, is-false, always, _⇒_, ⇒→, →⇒}
 use Rattle.base.proofs.Branch.{if-ind}
 use Rattle.base.proofs.Lists.{any-some, some-any, all-each, each-all}
+use Rattle.base.proofs.Checks.{all-pass-0}
 use Rattle.base.proofs.Change.{put-ind, put-off, put-ind₂}
 use Rattle.rules.specs.declared.Player.{Player}
 use Rattle.rules.specs.declared.Player.the-variants.{X, O}
@@ -21,10 +24,10 @@ use Rattle.rules.specs.declared.GameState.{GameState}
 use Rattle.rules.specs.declared.GameState.the-variants.{Won}
 use Rattle.rules.specs.Board.{other, same, sides, blank, mine, in-play, won-by, nine, has-line}
 use Rattle.rules.specs.Position.{Due, free, at, Position, going, open-board, won-boards, free-cell}
-use Rattle.rules.specs.Play.{board-of, cell-of, may, accepts, after, Tried, played, refused, play}
+use Rattle.rules.specs.Play.{board-of, cell-of, may, checks, accepts, after, Tried, played, refused, play}
 use Rattle.rules.specs.Sound.{sound}
 use Rattle.rules.specs.Status.{Status, unproven, for-player, allows, alone, from-byte, merge}
-use Rattle.rules.specs.Endgame.{completes, winning, critical, has-critical, suits, all-suit, lure, attack, prove-attacker, forced, forced-loss, winnable, proven, narrow, combine, merged, no-stats, stats, Analysis, or-unproven, analysis, Judged, judge, judge-tried, evaluate-move}
+use Rattle.rules.specs.Endgame.{completes, winning, critical, has-critical, suits, all-suit, lure, attack, prove-attacker, forced, forced-loss, winnable, proven, narrow, combine, merged, no-stats, stats, Analysis, or-unproven, analysis, Judged, judge, evaluate-move}
 use Rattle.rules.proofs.Board.{same-self, same→eq, side, in-sides, in-nine, open-not-won, won-by-is, line-mono, no-line-mono, result-line, result-left, result-other, result-won}
 use Rattle.rules.proofs.Play.{Legal, accepts→, play-accepted, play-refused, refusal-is-first}
 use Rattle.rules.proofs.Sound.{Fair, row, made, states-other}
@@ -263,18 +266,12 @@ undecided t false false false false n m = refl
 undecided t true loses x o n m = absurd n
 undecided t false true x o n m = absurd m
 
-yes : (b : Bool) → T b → b ≡ true
-yes true t = refl
-yes false t = absurd t
-
-no : (b : Bool) → T (not b) → b ≡ false
-no true t = absurd t
-no false t = refl
-
 -- a side alone is one set
 alone-is : (s : Status) (w : Player) → T (alone s w) → s ≡ for-player w
-alone-is s X t = let a = and→ (s .x) _ t in let b = and→ (not (s .o)) _ (a .1) in λ i. record { x = yes (s .x) (a .0) i; o = no (s .o) (b .0) i; draw = no (s .draw) (b .1) i }
-alone-is s O t = let a = and→ (s .o) _ t in let b = and→ (not (s .x)) _ (a .1) in λ i. record { x = no (s .x) (b .0) i; o = yes (s .o) (a .0) i; draw = no (s .draw) (b .1) i }
+alone-is s X t = let a = and→ (s .x) _ t in let b = and→ (not (s .o)) _ (a .1) in
+    λ i. record { x = is-true (s .x) (a .0) i; o = is-false (s .o) (b .0) i; draw = is-false (s .draw) (b .1) i }
+alone-is s O t = let a = and→ (s .o) _ t in let b = and→ (not (s .x)) _ (a .1) in
+    λ i. record { x = is-false (s .x) (b .0) i; o = is-true (s .o) (a .0) i; draw = is-false (s .draw) (b .1) i }
 
 module _ (p : Position) where
   proved : Player → Bool
@@ -355,8 +352,16 @@ nothing-said n = record { refusal = n; status = unproven; stats = no-stats }
 pub analysis-cases {κ} : (p : Position) (P : Analysis → Type κ) → (T (not (going p)) → P (nothing-said 0)) →
     (T (going p) → T (sound p) → P (record { refusal = 0; status = or-unproven (merged p); stats = stats p })) →
     (T (going p) → T (not (sound p)) → P (nothing-said 14)) → P (analysis p)
-unfolding analysis
-analysis-cases p P a b c = if-ind P (not (going p)) _ _ a (λ t. if-ind P (sound p) _ _ (b (not-not (going p) t)) (c (not-not (going p) t)))
+unfolding analysis first-failed if_then_else_
+analysis-cases p P a b c = by (going p) (sound p) a b c
+  where
+    by : (g s : Bool) → (T (not g) → P (nothing-said 0)) →
+        (T g → T s → P (record { refusal = 0; status = or-unproven (merged p); stats = stats p })) → (T g → T (not s) → P (nothing-said 14)) →
+        P (if g && s then (λ _. record { refusal = 0; status = or-unproven (merged p); stats = stats p }) else
+        λ _. nothing-said (first-failed ((not (g && not s), 14) ∷ [])))
+    by false s a b c = a tt
+    by true true a b c = b tt tt
+    by true false a b c = c tt tt
 
 -- a finished game gives the full set and no counts
 pub analysis-finished : (p : Position) → T (not (going p)) → analysis p ≡ nothing-said 0
@@ -404,33 +409,57 @@ module _ (p : Position) (m : ℕ) where
   lost-test : Bool
   lost-test = has-critical p v && (not (critical p v (board-of m)) && suits p v (cell-of m))
 
+  -- refused as unsound, refused by play, or judged
+  pub evaluate-unsound : T (going p && not (sound p)) → evaluate-move p m ≡ record { refusal = 14; status = unproven }
+  unfolding evaluate-move all-pass all first-failed if_then_else_
+  evaluate-unsound t = rw (is-true (going p && not (sound p)) t)
+
+  module _ (fine : T (not (going p && not (sound p)))) where
+    abbrev cs : List (Bool × ℕ)
+    cs = checks p (board-of m) (cell-of m)
+
+    by-play : evaluate-move p m ≡ record { refusal = first-failed cs; status = if all-pass cs then (λ _. judge p m) else λ _. unproven }
+    unfolding evaluate-move all-pass all first-failed if_then_else_
+    by-play = rw (is-false (going p && not (sound p)) fine)
+
+    pub evaluate-refused : T (not (accepts p m)) → evaluate-move p m ≡ record { refusal = first-failed cs; status = unproven }
+    unfolding accepts
+    evaluate-refused t = by-play ∙ if-ind
+        (λ (s : Status). _≡_ {A = Judged} (record { refusal = first-failed cs; status = s }) (record { refusal = first-failed cs; status = unproven }))
+        (all-pass cs) _ _ (λ u. absurd (deny (all-pass cs) t u)) (λ _. refl)
+
+    pub evaluate-judged : T (accepts p m) → evaluate-move p m ≡ record { refusal = 0; status = judge p m }
+    unfolding accepts
+    evaluate-judged t = by-play ∙ if-ind
+        (λ (s : Status). _≡_ {A = Judged} (record { refusal = first-failed cs; status = s }) (record { refusal = 0; status = judge p m }))
+        (all-pass cs) _ _ (λ _ i. record { refusal = all-pass-0 cs t i; status = judge p m }) (λ u. absurd (deny (all-pass cs) u t))
+
   -- the four cases
   evaluate-cases {κ} : (P : Judged → Type κ) →
       (T (going p) → T (not (sound p)) → P (record { refusal = 14; status = unproven })) →
       ((n : ℕ) → play p m ≡ refused n → (T (going p) → T (sound p)) → P (record { refusal = n; status = unproven })) →
       (CalledLost p m v → P (record { refusal = 0; status = for-player v })) →
       (T (accepts p m) → T (sound p) → (CalledLost p m v → ⊥) → P (record { refusal = 0; status = unproven })) → P (evaluate-move p m)
-  unfolding evaluate-move judge-tried judge suits lost-test
-  evaluate-cases P a b c d = if-ind P (going p && not (sound p)) _ _ (λ t. let r = and→ (going p) _ t in a (r .0) (r .1)) (λ t. by-try (fine t) (play p m) refl)
+  unfolding judge suits lost-test
+  evaluate-cases P a b c d = elim (is (going p && not (sound p))) [
+    | inl t ↦ (let r = and→ (going p) _ t in subst P (sym (evaluate-unsound t)) (a (r .0) (r .1)))
+    | inr f ↦ elim (is (accepts p m)) [
+      | inr n ↦ subst P (sym (evaluate-refused f n)) (b _ (play-refused p m n) (fine f))
+      | inl t ↦ subst P (sym (evaluate-judged f t)) (if-ind (λ s. P (record { refusal = 0; status = s })) lost-test _ _
+          (λ u. let r = and→ (has-critical p v) _ u in let q = and→ (not (critical p v (board-of m))) _ (r .1) in c (record {
+            accepted = t;
+            sound-before = fine f (accepts→ p m t .unfinished);
+            threatened = r .0;
+            elsewhere = q .0;
+            sends = ⇒→ (open-board p (cell-of m)) _ (q .1);
+          }))
+          (λ n. d t (fine f (accepts→ p m t .unfinished)) (λ l. deny lost-test n (→and (has-critical p v) _ (l .threatened)
+          (→and (not (critical p v (board-of m))) _ (l .elsewhere) (→⇒ (open-board p (cell-of m)) _ (l .sends)))))))
+    ]
+  ]
     where
       fine : T (not (going p && not (sound p))) → T (going p) → T (sound p)
       fine t g = elim (is (sound p)) [ inl s ↦ s | inr n ↦ absurd (deny (going p && not (sound p)) t (→and (going p) _ g n)) ]
-
-      by-try : (T (going p) → T (sound p)) → (r : Tried) → play p m ≡ r → P (judge-tried p m r)
-      by-try f (refused n) e = b n e f
-      by-try f (played q) e = elim (is (accepts p m)) [
-        | inl t ↦ if-ind (λ s. P (record { refusal = 0; status = s })) lost-test _ _
-            (λ u. let r = and→ (has-critical p v) _ u in let q = and→ (not (critical p v (board-of m))) _ (r .1) in c (record {
-              accepted = t;
-              sound-before = f (accepts→ p m t .unfinished);
-              threatened = r .0;
-              elsewhere = q .0;
-              sends = ⇒→ (open-board p (cell-of m)) _ (q .1);
-            }))
-            (λ n. d t (f (accepts→ p m t .unfinished)) (λ l. deny lost-test n (→and (has-critical p v) _ (l .threatened)
-            (→and (not (critical p v (board-of m))) _ (l .elsewhere) (→⇒ (open-board p (cell-of m)) _ (l .sends))))))
-        | inr n ↦ (let x = play-refused p m n in let z : _≡_ {A = ℕ} 0 1 = cc in absurd (omega arith))
-      ]
 
   -- its number is 14 exactly for an unfinished unsound position
   pub evaluate-move-14 : (evaluate-move p m .refusal ≡ 14) ↔ (T (going p) × T (not (sound p)))

@@ -26,7 +26,7 @@ use Rattle.rules.specs.Keys.{x-cell-keys, o-cell-keys, drawn-keys, x-boa
 use Rattle.rules.specs.Hash.{cell-key, board-key, due-key, xors, cells-hash, board-hash, hash, with-turn, zobrist, hash-after}
 use Rattle.rules.specs.Evaluation.{won, lost, count, unless-both, board-line, board-score, overall-line, score, evaluate}
 use Rattle.rules.specs.Status.{unproven, for-player, as-byte, from-byte, merge}
-use Rattle.rules.specs.Endgame.{completes, winning, critical, has-critical, suits, all-suit, lure, attack, prove-attacker, forced, forced-loss, winnable, proven, narrow, combine, merged, stats, or-unproven, analysis, judge, judge-tried, evaluate-move}
+use Rattle.rules.specs.Endgame.{completes, winning, critical, has-critical, suits, all-suit, lure, attack, prove-attacker, forced, forced-loss, winnable, proven, narrow, combine, merged, stats, or-unproven, analysis, judge, evaluate-move}
 
 -- ---- what the facts compute with
 unfoldable pub playing : Unit {0}
@@ -234,5 +234,5 @@ pub judged-moves :
     × (evaluate-move race 0x60 ≡ record { refusal = 0; status = for-player X })  -- X may then choose
     × (evaluate-move race 0x50 ≡ record { refusal = 0; status = for-player X })  -- called lost, though it wins at once
     × (tried race 0x50 .state ≡ Won O)
-unfolding unseen second race position evaluate-move judge judge-tried analysing
+unfolding unseen second race position evaluate-move judge analysing
 judged-moves = (refl, refl, refl, refl, refl, refl)

@@ -1,16 +1,15 @@
 -- Laws of playing a move: what an accepted one meets, the order of the refusals, and where a try leaves the position.
 use mathlib.Core.Path.{_≡_, refl, sym, ap, _∙_, subst}
-use mathlib.Core.Bool.{Bool, not, _||_, _&&_}
+use mathlib.Core.Bool.{Bool, not, _&&_}
 use mathlib.Core.List.{List, [], _∷_}
 use mathlib.Core.Logic.{inl, inr}
 use Prim.Native.Nat.{ℕ, _≤_, _<_}
 use native.Mathlib.Omega.{arith}
-use lib.Dec.{T, eqb, ltb, eqb-refl, ltb→lt, lt→ltb}
-use Rattle.base.specs.Branch.{if_then_else_}
-use Rattle.base.specs.Lists.{all, In}
-use Rattle.base.proofs.Bool.{and→, →and, or→, deny, is, always, _⇒_, ⇒→}
+use lib.Dec.{T, ltb, ltb→lt, lt→ltb}
+use Rattle.base.specs.Lists.{all}
+use Rattle.base.proofs.Bool.{and→, →and, deny, is}
 use Rattle.base.proofs.Branch.{if-ind}
-use Rattle.base.proofs.Lists.{all-each}
+use Rattle.base.proofs.Checks.{failed-number, rising, InOrder, first-in-order}
 use Rattle.rules.specs.Position.{Position, going, open-board, free-cell}
 use Rattle.base.specs.Checks.{all-pass, first-failed}
 use Rattle.rules.specs.Play.{move-of, board-of, cell-of, may, checks, accepts, after, played, refused, play, left-by, tried}
@@ -68,11 +67,13 @@ pub →accepts-at : (p : Position) (b c : ℕ) → Legal p b c → T (accepts p 
 -- ---- a move, tried
 pub play-accepted : (p : Position) (m : ℕ) → T (accepts p m) → play p m ≡ played (after p (board-of m) (cell-of m))
 unfolding play
-play-accepted p m t = if-ind (λ r. r ≡ played (after p (board-of m) (cell-of m))) (accepts p m) _ _ (λ _. refl) (λ u. absurd (deny (accepts p m) u t))
+play-accepted p m t = if-ind (λ r. r ≡ played (after p (board-of m) (cell-of m))) (accepts p m) _ _
+    (λ _. refl) (λ u. absurd (deny (accepts p m) u t))
 
 pub play-refused : (p : Position) (m : ℕ) → T (not (accepts p m)) → play p m ≡ refused (first-failed (checks p (board-of m) (cell-of m)))
 unfolding play
-play-refused p m t = if-ind (λ r. r ≡ refused (first-failed (checks p (board-of m) (cell-of m)))) (accepts p m) _ _ (λ u. absurd (deny (accepts p m) t u)) (λ _. refl)
+play-refused p m t = if-ind (λ r. r ≡ refused (first-failed (checks p (board-of m) (cell-of m)))) (accepts p m) _ _
+    (λ u. absurd (deny (accepts p m) t u)) (λ _. refl)
 
 -- an accepted move gives the position after it
 pub tried-accepted : (p : Position) (m : ℕ) → T (accepts p m) → tried p m ≡ after p (board-of m) (cell-of m)
@@ -81,7 +82,8 @@ tried-accepted p m t = ap (left-by p) (play-accepted p m t)
 
 pub tried-at : (p : Position) (b c : ℕ) → Legal p b c → tried p (move-of b c) ≡ after p b c
 tried-at p b c l = tried-accepted p (move-of b c) (→accepts-at p b c l)
-    ∙ ap (λ (x : ℕ). after p x (cell-of (move-of b c))) (board-of-move b c (omega arith)) ∙ ap (λ (x : ℕ). after p b x) (cell-of-move b c (omega arith))
+    ∙ ap (λ (x : ℕ). after p x (cell-of (move-of b c))) (board-of-move b c (omega arith))
+    ∙ ap (λ (x : ℕ). after p b x) (cell-of-move b c (omega arith))
 
 -- a refused one changes nothing
 pub tried-refused : (p : Position) (m : ℕ) → T (not (accepts p m)) → tried p m ≡ p
@@ -93,41 +95,16 @@ tried-refused p m t = ap (left-by p) (play-refused p m t)
 pub record FirstFailing (n : ℕ) (ts : List (Bool × ℕ)) : Type 0 where
   pub lowest : 9 ≤ n
   pub highest : n ≤ 13
-  pub smaller-pass : (t : Bool × ℕ) → In t ts → t .1 < n → T (t .0)
-  pub this-fails : (t : Bool × ℕ) → In t ts → t .1 ≡ n → T (not (t .0))
+  pub in-order : InOrder n ts
 
-eq→eqb : (m n : ℕ) → m ≡ n → T (eqb m n)
-eq→eqb m n e = subst (λ (x : ℕ). T (eqb m x)) e (eqb-refl m)
-
--- the same as a test, of five checks in their order
-numbered : Bool → Bool → Bool → Bool → Bool → List (Bool × ℕ)
-numbered a b c d e = (a, 9) ∷ (b, 10) ∷ (c, 11) ∷ (d, 12) ∷ (e, 13) ∷ []
-
-at-number : ℕ → Bool × ℕ → Bool
-at-number n t = (ltb (t .1) n ⇒ t .0) && (eqb (t .1) n ⇒ not (t .0))
-
-first-is-right : List (Bool × ℕ) → Bool
-first-is-right ts = all (λ (t : Bool × ℕ). t .0) ts || (ltb 8 (first-failed ts) && (ltb (first-failed ts) 14 && all (at-number (first-failed ts)) ts))
-
--- all 32 cases, computed
-first-always-right : (a b c d e : Bool) → T (first-is-right (numbered a b c d e))
-unfolding first-is-right numbered at-number all first-failed if_then_else_
-first-always-right = always 5 (λ a b c d e. first-is-right (numbered a b c d e)) tt
-
-first-failing : (p : Position) (m : ℕ) → T (not (accepts p m)) → FirstFailing (first-failed (checks p (board-of m) (cell-of m))) (checks p (board-of m) (cell-of m))
-unfolding first-is-right numbered at-number accepts all-pass
-first-failing p m n =
-    let ts = checks p (board-of m) (cell-of m) in let k = first-failed ts in
-    elim (or→ (all (λ (t : Bool × ℕ). t .0) ts) _
-    (first-always-right (ltb (board-of m) 9 && ltb (cell-of m) 9) (going p) (open-board p (board-of m)) (may (p .due) (board-of m)) (free-cell p (board-of m) (cell-of m)))) [
-      | inl u ↦ absurd (deny (accepts p m) n u)
-      | inr u ↦ (let r = and→ (ltb 8 k) _ u in let s = and→ (ltb k 14) _ (r .1) in record {
-        lowest = ltb→lt 8 k (r .0);
-        highest = omega (arith, ltb→lt k 14 (s .0));
-        smaller-pass = λ t i h. ⇒→ (ltb (t .1) k) _ (and→ (ltb (t .1) k ⇒ t .0) _ (all-each (at-number k) t ts (s .1) i) .0) (lt→ltb (t .1) k h);
-        this-fails = λ t i h. ⇒→ (eqb (t .1) k) _ (and→ (ltb (t .1) k ⇒ t .0) _ (all-each (at-number k) t ts (s .1) i) .1) (eq→eqb (t .1) k h);
-      })
-    ]
+first-failing : (p : Position) (m : ℕ) → T (not (accepts p m)) →
+    FirstFailing (first-failed (checks p (board-of m) (cell-of m))) (checks p (board-of m) (cell-of m))
+unfolding accepts all rising
+first-failing p m t = let cs = checks p (board-of m) (cell-of m) in record {
+  lowest = ltb→lt 8 (first-failed cs) (failed-number (ltb 8) cs tt t);
+  highest = omega (arith, ltb→lt (first-failed cs) 14 (failed-number (λ k. ltb k 14) cs tt t));
+  in-order = first-in-order 8 cs tt t;
+}
 
 -- play refuses with the number of the first check that fails
 pub refusal-is-first : (p : Position) (m n : ℕ) → play p m ≡ refused n → FirstFailing n (checks p (board-of m) (cell-of m))

@@ -1,5 +1,6 @@
 -- The endgame analysis: critical boards, what they prove, and what can still be won.
 use mathlib.Core.Bool.{Bool, true, false, not, cond, _||_, _&&_}
+use mathlib.Core.List.{List, [], _∷_, _++_}
 use mathlib.Core.Option.{Option, none, some}
 use Prim.Native.Nat.{ℕ, _+_}
 use lib.Dec.{eqb}
@@ -8,10 +9,11 @@ use Rattle.rules.specs.declared.Player.the-variants.{X, O}
 use Rattle.rules.specs.declared.CellState.{CellState}
 use Rattle.base.specs.Branch.{if_then_else_}
 use Rattle.base.specs.Lists.{any, all}
+use Rattle.base.specs.Checks.{all-pass, first-failed}
 use Rattle.base.specs.Change.{put}
 use Rattle.rules.specs.Board.{other, blank, mine, nine, has-line}
 use Rattle.rules.specs.Position.{Due, free, at, Position, going, open-board, won-boards, free-cell}
-use Rattle.rules.specs.Play.{board-of, cell-of, Tried, played, refused, play}
+use Rattle.rules.specs.Play.{board-of, cell-of, checks}
 use Rattle.rules.specs.Sound.{sound}
 use Rattle.rules.specs.Status.{Status, unproven, for-player, draw-or-other, merge}
 
@@ -52,7 +54,8 @@ attack p w (at b) = critical p w b || any (lure p w b) nine
 unfoldable pub prove-attacker : Position → Bool
 prove-attacker p = has-critical p (p .turn) && attack p (p .turn) (p .due)
 
--- ---- the side to move loses: every cell of the board that is due sends the other side, v, where it suits, and v's critical boards are elsewhere
+-- ---- the side to move loses: every cell of the board that is due sends the other side, v, where it suits, and v's critical boards are
+-- elsewhere
 unfoldable pub forced : Position → Player → Due → Bool
 forced p v free = false
 forced p v (at b) = not (critical p v b) && all-suit p v b
@@ -88,7 +91,8 @@ pub record Stats : Type 0 where
   pub prove-defender : ℕ
 
 abbrev pub no-stats : Stats
-no-stats = record { attacker-critical = 0; defender-critical = 0; both-critical = 0; unwinnable = 0; prove-attacker = 0; prove-defender = 0 }
+no-stats =
+    record { attacker-critical = 0; defender-critical = 0; both-critical = 0; unwinnable = 0; prove-attacker = 0; prove-defender = 0 }
 
 unfoldable pub stats : Position → Stats
 stats p =
@@ -115,11 +119,14 @@ unfoldable pub or-unproven : Option Status → Status
 or-unproven none = unproven
 or-unproven (some s) = s
 
+-- what is asked of a position: that it is not unfinished and unsound
+abbrev pub analysis-checks : Position → List (Bool × ℕ)
+analysis-checks p = (not (going p && not (sound p)), 14) ∷ []
+
 unfoldable pub analysis : Position → Analysis
 analysis p =
-    if not (going p) then (λ _. record { refusal = 0; status = unproven; stats = no-stats }) else
-    λ _. if sound p then (λ _. record { refusal = 0; status = or-unproven (merged p); stats = stats p }) else
-    λ _. record { refusal = 14; status = unproven; stats = no-stats }
+    if going p && sound p then (λ _. record { refusal = 0; status = or-unproven (merged p); stats = stats p }) else
+    λ _. record { refusal = first-failed (analysis-checks p); status = unproven; stats = no-stats }
 
 -- ---- a move, judged: 14 first, then what play refuses. The Rust's answer, which calls some moves lost that win at once
 pub record Judged : Type 0 where
@@ -132,11 +139,11 @@ judge p m =
     let v = other (p .turn) in
     if has-critical p v && (not (critical p v (board-of m)) && suits p v (cell-of m)) then (λ _. for-player v) else λ _. unproven
 
-unfoldable pub judge-tried : Position → ℕ → Tried → Judged
-judge-tried p m (played q) = record { refusal = 0; status = judge p m }
-judge-tried p m (refused n) = record { refusal = n; status = unproven }
+abbrev pub judging-checks : Position → ℕ → List (Bool × ℕ)
+judging-checks p m = analysis-checks p ++ checks p (board-of m) (cell-of m)
 
 unfoldable pub evaluate-move : Position → ℕ → Judged
-evaluate-move p m =
-    if going p && not (sound p) then (λ _. record { refusal = 14; status = unproven }) else
-    λ _. judge-tried p m (play p m)
+evaluate-move p m = record {
+  refusal = first-failed (judging-checks p m);
+  status = if all-pass (judging-checks p m) then (λ _. judge p m) else λ _. unproven;
+}

@@ -29,7 +29,10 @@ pub enum Held {
 // The largest value of an entry, either way.
 const WIDEST: i64 = 1152921504606846977;
 
-const DEEPEST: u64 = 81;
+// The deepest search, and so the places of a line.
+pub const DEEPEST: u64 = 81;
+
+pub const PLACES: usize = DEEPEST as usize;
 
 // A word as a number in two's complement.
 fn from_word(w: u64) -> i64

@@ -1,17 +1,18 @@
 -- The allowance: a search that may enter n positions is the unlimited one if that one enters no more, and else stops with n counted, at what the
 -- unlimited one answers for the last depth that n positions reach. Both take the same steps up to the position that is one too many.
 use mathlib.Core.Path.{_≡_, refl, sym, ap, _∙_, subst}
-use mathlib.Core.Bool.{true, false, not}
+use mathlib.Core.Bool.{Bool, true, false, not, _&&_}
 use mathlib.Core.List.{List, [], _∷_, _++_}
 use mathlib.Core.Logic.{_⊎_, inl, inr}
 use Prim.Native.Nat.{ℕ, zero, suc, _+_, _≤_, _<_}
 use native.Mathlib.Omega.{arith}
-use lib.Dec.{T, ltb, ltb→lt, nltb→le}
+use lib.Dec.{T, eqb, ltb, eqb→eq, ltb→lt, lt→ltb, nltb→le}
 use lib.ListN.{replicate}
 use lib.IntN.{ℤ, negℤ}
 use lib.Signed.{leZ, ltZ}
 use Rattle.base.specs.Branch.{if_then_else_}
-use Rattle.base.proofs.Bool.{deny, is}
+use Rattle.base.proofs.Agree.{same-by}
+use Rattle.base.proofs.Bool.{and→, →and, deny, is}
 use Rattle.base.proofs.Branch.{if-ind, if-both}
 use Rattle.rules.specs.Play.{no-move}
 use Rattle.theory.specs.Game.{Game}
@@ -20,7 +21,7 @@ use Rattle.theory.specs.Memory.{Memory, begin, enter, leaf, cut}
 use Rattle.theory.specs.OrderedSearch.{Allowance, unlimited, at-most, Outcome, stopped, found, unless-stopped, entering, Probed, known, missed, probe, on-probe, set-first, told, candidates, Search, over-moves, search}
 use Rattle.theory.specs.Deepening.{Whole, nothing-yet, one-deeper, Answer, decided, on-outcome, deepen, analyze}
 use Rattle.theory.specs.Line.{Right}
-use Rattle.theory.specs.Allowance.{Limited}
+use Rattle.theory.specs.Allowance.{Spent, Limited}
 use Rattle.theory.proofs.Plain.{Lawful}
 use Rattle.theory.proofs.Memory.{Leaves, count-enter, count-begin, count-leaf, count-cut, count-probe, count-told, Off}
 use Rattle.theory.proofs.Deepening.{analyze-right}
@@ -239,6 +240,63 @@ module _ (G : Game) (n limit : ℕ) (p : G .Pos) (s : Memory) where
   -- and where it is spent, the answer is marked
   pub spent-means-mark : s .count ≤ n → n < analyze G unlimited limit p s .memory .count → T (analyze G (at-most n) limit p s .is-stopped)
   spent-means-mark le h = allowance-limits le .spent h .marked
+
+-- ---- refusal 18: a search without a whole depth
+-- a deeper search enters no less
+depth-1-least : (G : Game) (p : G .Pos) (s : Memory) (k : ℕ) →
+    analyze G unlimited 1 p s .memory .count ≤ analyze G unlimited (suc k) p s .memory .count
+unfolding analyze deepen on-outcome
+depth-1-least G p s k = least (search G unlimited 1 p lowest highest ([] ++ (no-move ∷ [])) no-move (begin s))
+  where
+    least : (o : Outcome) →
+        next-depth 0 G p unlimited 0 nothing-yet o .memory .count ≤ next-depth 0 G p unlimited k nothing-yet o .memory .count
+    least (stopped z) = omega arith
+    least (found r line z) = if-both (λ (x y : Answer). x .memory .count ≤ y .memory .count) (decided r) _ _ _ _ (λ _. omega arith)
+        (λ _. beside 0 G p k (one-deeper nothing-yet r line (z .tally)) z .x-grows)
+
+module _ (G : Game) (n limit : ℕ) (p : G .Pos) (s : Memory) (le : s .count ≤ n) where
+  abbrev x : Answer
+  x = analyze G (at-most n) limit p s
+
+  -- stopped without a whole depth
+  abbrev pub none-whole : Bool
+  none-whole = x .is-stopped && eqb (x .whole .depth) 0
+
+  module _ (t : T none-whole) where
+    pub none-whole-marked : T (x .is-stopped)
+    none-whole-marked = and→ (x .is-stopped) _ t .0
+
+    spent : Spent G n limit p s
+    spent = allowance-limits G n limit p s le .spent (mark-means-spent G n limit p s le none-whole-marked)
+
+    no-depth : x .whole .depth ≡ 0
+    no-depth = eqb→eq (x .whole .depth) 0 (and→ (x .is-stopped) _ t .1)
+
+    pub none-whole-counted : x .memory .count ≡ n
+    none-whole-counted = spent .counted
+
+    pub none-whole-nothing : x .whole ≡ nothing-yet
+    unfolding analyze deepen
+    none-whole-nothing = spent .whole-is ∙ ap (λ (j : ℕ). analyze G unlimited j p s .whole) no-depth
+
+    depth-1-more : n < analyze G unlimited 1 p s .memory .count
+    depth-1-more = subst (λ (j : ℕ). n < analyze G unlimited (suc j) p s .memory .count) no-depth (spent .next-too-many)
+
+  -- it is one whose allowance depth 1 alone exceeds
+  pub none-whole-is : 1 ≤ limit → none-whole ≡ ltb n (analyze G unlimited 1 p s .memory .count)
+  none-whole-is h = same-by none-whole (ltb n (analyze G unlimited 1 p s .memory .count))
+      (λ t. lt→ltb n _ (depth-1-more t)) (λ t. stops limit h (ltb→lt n _ t))
+    where
+      depth-0 : (d : ℕ) → n < analyze G unlimited 1 p s .memory .count → analyze G unlimited d p s .memory .count ≤ n → T (eqb d 0)
+      depth-0 zero i f = tt
+      depth-0 (suc j) i f = absurd (omega (arith, depth-1-least G p s j))
+
+      stops : (k : ℕ) → 1 ≤ k → n < analyze G unlimited 1 p s .memory .count →
+          let y = analyze G (at-most n) k p s in T (y .is-stopped && eqb (y .whole .depth) 0)
+      stops zero h i = absurd (omega arith)
+      stops (suc k) h i =
+          let z = allowance-limits G n (suc k) p s le .spent (omega (arith, depth-1-least G p s k)) in
+          →and (analyze G (at-most n) (suc k) p s .is-stopped) _ (z .marked) (depth-0 _ i (z .fits))
 
 -- with the table off a stopped answer is right for its last whole depth
 pub stopped-right : (G : Game) (L : Lawful G) (n limit : ℕ) (p : G .Pos) → L .Good p → (s : Memory) → Off s → s .count ≤ n → T (analyze G (at-most n) limit p s .is-stopped) →

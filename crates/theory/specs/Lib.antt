@@ -1,3 +1,4 @@
+pub mod Limits
 pub mod Game
 pub mod PlainMinimax
 pub mod Table

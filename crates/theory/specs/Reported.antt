@@ -1,12 +1,14 @@
 -- The entry point of the search: its settings, what it refuses, and what it reports.
-use mathlib.Core.Bool.{Bool, true, false, not, _&&_, _||_}
-use mathlib.Core.List.{List, _++_}
+use mathlib.Core.Bool.{Bool, false, _&&_}
+use mathlib.Core.List.{List, [], _∷_, _++_}
 use Prim.Native.Nat.{ℕ, _-_, _%_}
 use lib.Dec.{eqb, leb}
 use lib.IntN.{ℤ, pos}
 use lib.ListN.{length, replicate}
 use Rattle.base.specs.Branch.{if_then_else_}
+use Rattle.base.specs.Checks.{first-failed}
 use Rattle.rules.specs.Play.{no-move}
+use Rattle.theory.specs.Limits.{Limits, console}
 use Rattle.theory.specs.Game.{Game}
 use Rattle.theory.specs.Memory.{no-tally, fresh-memory}
 use Rattle.theory.specs.OrderedSearch.{at-most}
@@ -16,13 +18,16 @@ pub record Settings : Type 0 where
   pub max-depth : ℕ
   pub allowance : ℕ
 
--- 15, 16, 17 in this order, by the settings and the number of the table's words; 0 where nothing is refused
+-- what is asked of the settings and of the number of the table's words, each with the number of its refusal, in order
+abbrev pub entry-checks : Limits → Settings → ℕ → List (Bool × ℕ)
+entry-checks l c words =
+    (leb 1 (c .max-depth) && leb (c .max-depth) (l .deepest), 15) ∷
+    (leb 1 (c .allowance) && leb (c .allowance) (l .positions), 16) ∷
+    (eqb (words % 3) 0 && leb words (l .words), 17) ∷ []
+
+-- 0 where nothing is refused
 unfoldable pub entry-refusal : Settings → ℕ → ℕ
-entry-refusal c words =
-    if not (leb 1 (c .max-depth) && leb (c .max-depth) 81) then (λ _. 15) else
-    λ _. if not (leb 1 (c .allowance) && leb (c .allowance) 1000000000) then (λ _. 16) else
-    λ _. if not (eqb (words % 3) 0) || not (leb words 196608) then (λ _. 17) else
-    λ _. 0
+entry-refusal c words = first-failed (entry-checks console c words)
 
 pub record Reported : Type 0 where
   -- 15 to 18, or 0 where nothing is refused
@@ -44,9 +49,9 @@ pub record Reported : Type 0 where
 abbrev pub no-stats : Stats
 no-stats = record { depth = 0; score = pos 0; tally = no-tally }
 
--- 81 places, those after the last whole depth's empty
+-- as many places as the deepest search has, those after the last whole depth's empty
 abbrev pub filled : {A : Type 0} → A → List A → List A
-filled x xs = xs ++ replicate (81 - length xs) x
+filled x xs = xs ++ replicate (console .deepest - length xs) x
 
 -- refused at the entry: nothing is changed, and nothing is said
 abbrev pub refused-entry : ℕ → List ℕ → List ℕ → List ℕ → Reported
@@ -55,8 +60,8 @@ refused-entry n xs os words = record {
   is-stopped = false;
   depth = 0;
   score = pos 0;
-  line = replicate 81 no-move;
-  stats = replicate 81 no-stats;
+  line = replicate (console .deepest) no-move;
+  stats = replicate (console .deepest) no-stats;
   count = 0;
   answers-x = xs;
   answers-o = os;

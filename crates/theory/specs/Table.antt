@@ -8,6 +8,7 @@ use lib.IntN.{ℤ, pos, negsuc}
 use lib.ListN.{length, getD, set}
 use lib.Signed.{leZ}
 use Rattle.base.specs.Branch.{if_then_else_}
+use Rattle.theory.specs.Limits.{console}
 use Rattle.theory.specs.PlainMinimax.{lowest, highest}
 
 pub record Entry : Type 0 where
@@ -29,14 +30,14 @@ word-of (negsuc n) = 0xffff_ffff_ffff_ffff - n
 abbrev pub rest-of : Entry → ℕ
 rest-of e = e .depth + 256 * e .bound + 65536 * e .move
 
--- an entry is absent unless depth is 1 to 81, bound 0 to 2, the value from -2^60 - 1 to 2^60 + 1, and all higher bits zero
+-- an entry is absent unless depth is 1 to the deepest, bound 0 to 2, the value from -2^60 - 1 to 2^60 + 1, and all higher bits zero
 unfoldable pub entry-of : ℕ → ℕ → Option Entry
 entry-of value rest =
     let v = value-of value in
     let depth = rest % 256 in
     let bound = rest / 256 % 256 in
     let move = rest / 65536 in
-    if ltb 0 depth && (leb depth 81 && (leb bound 2 && (leb move 255 && (leZ lowest v && leZ v highest))))
+    if ltb 0 depth && (leb depth (console .deepest) && (leb bound 2 && (leb move 255 && (leZ lowest v && leZ v highest))))
     then (λ _. some (record { value = v; depth = depth; bound = bound; move = move }))
     else λ _. none
 
