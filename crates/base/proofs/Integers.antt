@@ -1,14 +1,16 @@
 -- The order of the integers, read by omega: z is hi z - lo z, so each fact of order is a linear one in ℕ.
 use mathlib.Core.Path.{_≡_, refl, sym, ap, _∙_, subst}
 use mathlib.Core.Bool.{Bool, true, false, not, cond}
+use mathlib.Core.List.{List, [], _∷_}
 use Prim.Native.Nat.{ℕ, zero, suc, _+_, _-_, _≤_, _<_, zero-le, suc-le-suc}
 use native.Mathlib.Omega.{arith}
 use native.Mathlib.Nat.{lt-of-not-le}
-use lib.IntN.{ℤ, pos, negsuc, negℤ, negℤ-negℤ, _+ℤ_}
+use lib.IntN.{ℤ, pos, negsuc, natAbs, negℤ, negℤ-negℤ, _+ℤ_, _-ℤ_, +ℤ-idr, +ℤ-assoc}
+use lib.ListN.{length}
 use mathlib.Core.Logic.{_⊎_, inl, inr}
 use lib.Signed.{leZ, ltZ, _≤ℤ_, _<ℤ_, leZ-yes, ltZ-yes, ltZ-no}
 use lib.Dec.{T, leb, ltb, leb→le, le→leb, ltb→lt, lt→ltb, nltb→le}
-use Rattle.base.specs.Integers.{maxZ}
+use Rattle.base.specs.Integers.{maxZ, sum}
 
 unfoldable pub hi : ℤ → ℕ
 hi (pos n) = n
@@ -154,3 +156,60 @@ sm (pos a) (pos b) = omega arith
 sm (pos a) (negsuc b) = omega (arith, sub-of (ltb a (suc b)) a (suc b) (ltb→lt a (suc b)) (nltb→le a (suc b)))
 sm (negsuc a) (pos b) = omega (arith, sub-of (ltb b (suc a)) b (suc a) (ltb→lt b (suc a)) (nltb→le b (suc a)))
 sm (negsuc a) (negsuc b) = omega arith
+
+-- ---- within k of zero, as omega reads it
+abbrev pub Within : ℕ → ℤ → Type 0
+Within k z = (hi z ≤ k) × (lo z ≤ k)
+
+pub within-abs : (k : ℕ) (z : ℤ) → Within k z → natAbs z ≤ k
+unfolding hi lo
+within-abs k (pos n) h = h .0
+within-abs k (negsuc n) h = h .1
+
+pub within-of : (k : ℕ) (z : ℤ) → natAbs z ≤ k → Within k z
+unfolding hi lo
+within-of k (pos n) h = (h, omega arith)
+within-of k (negsuc n) h = (omega arith, h)
+
+-- z as a difference a - b is within a and b
+halves-within : (z : ℤ) (a b : ℕ) → hi z + b ≡ lo z + a → (hi z ≤ a) × (lo z ≤ b)
+unfolding hi lo
+halves-within (pos n) a b e = (omega arith, omega arith)
+halves-within (negsuc n) a b e = (omega arith, omega arith)
+
+pub within-+ : (j k : ℕ) (a b : ℤ) → Within j a → Within k b → Within (j + k) (a +ℤ b)
+within-+ j k a b h q = let u = halves-within (a +ℤ b) (hi a + hi b) (lo a + lo b) (omega (arith, sm a b)) in (omega arith, omega arith)
+
+pub within-neg : (k : ℕ) (z : ℤ) → Within k z → Within k (negℤ z)
+within-neg k z h = (omega (arith, hi-neg z), omega (arith, lo-neg z))
+
+pub within-pos : (k n : ℕ) → n ≤ k → Within k (pos n)
+unfolding hi lo
+within-pos k n h = (h, omega arith)
+
+pub within-minus : (k a b : ℕ) → a ≤ k → b ≤ k → Within k (pos a -ℤ pos b)
+unfolding hi lo
+within-minus k a b h q =
+    let u = halves-within (pos a -ℤ pos b) a b (omega (arith, sm (pos a) (negℤ (pos b)), hi-neg (pos b), lo-neg (pos b))) in
+    (omega arith, omega arith)
+
+-- n times k
+unfoldable pub times : ℕ → ℕ → ℕ
+times zero k = 0
+times (suc n) k = k + times n k
+
+pub within-sum :
+    {A : Type 0} (k : ℕ) (f : A → ℤ) → ((x : A) → Within k (f x)) → (xs : List A) → Within (times (length xs) k) (sum f xs)
+unfolding sum times
+within-sum k f h [] = within-pos 0 0 (omega arith)
+within-sum k f h (x ∷ xs) = within-+ k (times (length xs) k) (f x) (sum f xs) (h x) (within-sum k f h xs)
+
+-- ---- a sum from the left is the sum
+abbrev left : ℤ → List ℤ → ℤ
+left a [] = a
+left a (b ∷ bs) = left (a +ℤ b) bs
+
+pub left-sum : (a : ℤ) (bs : List ℤ) → left a bs ≡ a +ℤ sum (λ z. z) bs
+unfolding sum
+left-sum a [] = sym (+ℤ-idr a)
+left-sum a (b ∷ bs) = left-sum (a +ℤ b) bs ∙ +ℤ-assoc a b (sum (λ z. z) bs)

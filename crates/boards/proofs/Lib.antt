@@ -3,3 +3,4 @@ pub mod Rows
 pub mod Cells
 pub mod Hashes
 pub mod Cursors
+pub mod Answers

@@ -8,7 +8,7 @@ ghost use lib.Bits.{bitAnd};
 ghost use lib.Dec.{eqb};
 ghost use lib.ListN.{length};
 ghost use Rattle.rules.specs.Play.{board-of, cell-of, no-move};
-ghost use Rattle.boards.specs.Answers.{Builds};
+ghost use Rattle.boards.specs.Answers.{error-number, answer-number, Builds};
 ghost use Rattle.boards.specs.Cursor.{move-at, moves-left, listed};
 
 pub enum MoveError {
@@ -19,9 +19,35 @@ pub enum MoveError {
     GameOver,
 }
 
+impl MoveError {
+    pub fn number(self) -> u64
+        ensures { λ r. ⌜ r ≡ error-number self ⌝ }
+    {
+        match self {
+            MoveError::OutOfBounds => 9,
+            MoveError::GameOver => 10,
+            MoveError::WonBoard => 11,
+            MoveError::WrongBoard => 12,
+            MoveError::NotEmpty => 13,
+        }
+    }
+}
+
 pub enum Answer {
     Accepted,
     Refused(MoveError),
+}
+
+impl Answer {
+    // 0 where nothing is refused.
+    pub fn number(self) -> u64
+        ensures { λ r. ⌜ r ≡ answer-number self ⌝ }
+    {
+        match self {
+            Answer::Accepted => 0,
+            Answer::Refused(why) => why.number(),
+        }
+    }
 }
 
 // 16 times board plus cell; 0xff is the empty move.

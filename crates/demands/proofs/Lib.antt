@@ -1,5 +1,4 @@
 pub mod Claims
-pub mod Lists
 pub mod AfterMoves
 pub mod Demand2
 pub mod AskingLines

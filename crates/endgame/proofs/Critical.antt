@@ -25,9 +25,8 @@ use Rattle.rules.specs.Endgame.{critical}
 use Rattle.rules.proofs.Board.{in-nine}
 use Rattle.rules.proofs.Sound.{Fair}
 use Rattle.rules.proofs.Critical.{on, sole-empty, rust-critical, rust-critical-board, critical-is-rusts}
-use Rattle.lines.specs.Masks.{mask-of}
-use Rattle.evaluation.specs.Values.{line-at}
-use Rattle.evaluation.proofs.Lines.{mask-at}
+use Rattle.lines.specs.Masks.{mask-of, line-at}
+use Rattle.lines.proofs.Masks.{mask-at}
 use Rattle.endgame.specs.Parts.{lacks-one, critical-by}
 use Rattle.endgame.proofs.Walk.{any-so-far}
 use Rattle.endgame.proofs.Sets.{set-lt, set-bit, no-digits, joined}

@@ -17,9 +17,8 @@ use Rattle.base.proofs.Every.{upTo, upTo-at, sameB, sameB-eq}
 use Rattle.base.proofs.Ones.{how-many-ones, lowest-first}
 use Rattle.rules.specs.Board.{Line, lines, whole}
 use Rattle.rules.specs.Evaluation.{count}
-use Rattle.lines.proofs.Masks.{covers}
-use Rattle.evaluation.specs.Values.{line-at}
-use Rattle.evaluation.proofs.Lines.{mask-at, low}
+use Rattle.lines.specs.Masks.{line-at}
+use Rattle.lines.proofs.Masks.{mask-at, low, covers}
 use Rattle.endgame.specs.Parts.{lacks-one}
 
 -- ---- a single bit

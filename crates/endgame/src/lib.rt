@@ -16,9 +16,9 @@ ghost use Rattle.rules.specs.Status.{unproven};
 ghost use Rattle.rules.specs.Endgame.{critical, prove-attacker, forced-loss, winnable, proven, combine, no-stats, or-unproven, judge};
 ghost use Rattle.status.specs.Sets.{status-of};
 ghost use Rattle.game.specs.Meaning.{position-of};
-ghost use Rattle.evaluation.specs.Values.{line-at};
+ghost use Rattle.lines.specs.Masks.{line-at};
 ghost use Rattle.endgame.specs.Parts.{live, lacks-one, critical-by};
-ghost use Rattle.endgame.specs.Means.{stats-of, Analyses, Judges, Limits, Agrees};
+ghost use Rattle.endgame.specs.Means.{made-number, judging-number, stats-of, Analyses, Judges, Limits, Agrees};
 use boards::Answer;
 use boards::Move;
 use boards::MoveError;
@@ -46,6 +46,17 @@ pub enum Made {
     Unsound,
 }
 
+impl Made {
+    pub fn number(self) -> u64
+        ensures { λ r. ⌜ r ≡ made-number self ⌝ }
+    {
+        match self {
+            Made::Analysed => 0,
+            Made::Unsound => 14,
+        }
+    }
+}
+
 // Not made, or of a finished game: the full set and no counts.
 pub struct Analysis {
     pub made: Made,
@@ -58,6 +69,18 @@ pub enum Judging {
     Judged,
     Refused(MoveError),
     Unsound,
+}
+
+impl Judging {
+    pub fn number(self) -> u64
+        ensures { λ r. ⌜ r ≡ judging-number self ⌝ }
+    {
+        match self {
+            Judging::Judged => 0,
+            Judging::Refused(why) => why.number(),
+            Judging::Unsound => 14,
+        }
+    }
 }
 
 // What judging a move gives: refused, the full set.

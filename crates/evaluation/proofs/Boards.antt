@@ -11,14 +11,14 @@ use Rattle.base.specs.Branch.{if_then_else_}
 use Rattle.base.specs.Bits.{bit, digits}
 use Rattle.base.specs.Integers.{sum}
 use Rattle.base.specs.Lists.{from}
-use Rattle.base.proofs.Integers.{hi, lo}
+use Rattle.base.proofs.Integers.{hi, lo, Within, within-pos}
 use Rattle.rules.specs.declared.Player.the-variants.{X, O}
 use Rattle.rules.specs.declared.GameState.{GameState}
 use Rattle.rules.specs.declared.GameState.the-variants.{InPlay, Drawn, Won}
 use Rattle.rules.specs.Board.{in-play, won-by, lines}
 use Rattle.rules.specs.Position.{Position, has, won-boards}
 use Rattle.rules.specs.Evaluation.{board-line, board-score}
-use Rattle.rules.proofs.Evaluation.{Within, within-pos, board-score-within}
+use Rattle.rules.proofs.Evaluation.{board-score-within}
 use Rattle.evaluation.specs.Values.{value-in, board-value, values-of, value-at}
 use Rattle.evaluation.proofs.Lines.{count-digits, sum-same}
 

@@ -1,4 +1,3 @@
-pub mod Signed
 pub mod Lines
 pub mod Boards
 pub mod Overall

@@ -1,59 +1,24 @@
 -- A line's three places in the digits of a number: its mask finds them, and only the nine low digits count.
 use mathlib.Core.Path.{_≡_, sym, ap, _∙_}
 use mathlib.Core.Bool.{Bool, _&&_, and-false}
-use mathlib.Core.List.{[], _∷_, map}
+use mathlib.Core.List.{[], _∷_}
 use Prim.Native.Nat.{ℕ, _-_, _%_, _<_}
 use native.Mathlib.Nat.{mod-lt}
 use native.Mathlib.Omega.{arith}
 use lib.Bits.{bitAnd, and-mask, and-mod, and-le-r}
 use lib.Dec.{eqb, eqb→eq, ltb, ltb→lt, lit<}
 use lib.IntN.{ℤ, pos, negℤ, _+ℤ_, _-ℤ_, +ℤ-idl, +ℤ-idr}
-use lib.ListN.{getD}
 use borrow.Author.Tests.{eq-eqb, ne-eqb, eqb-true, eqb-false, lt-ltb}
 use Rattle.base.specs.Branch.{if_then_else_}
 use Rattle.base.specs.Bits.{bit, digits}
 use Rattle.base.specs.Integers.{sum}
-use Rattle.base.proofs.Bool.{and→}
+use Rattle.base.proofs.Integers.{left-sum}
 use Rattle.base.proofs.Every.{upTo, upTo-at, sameB, sameB-eq}
 use Rattle.base.proofs.Numbers.{bit-masked, bit-digits}
 use Rattle.rules.specs.Board.{Line, lines}
 use Rattle.rules.specs.Evaluation.{count, unless-both, worth, board-line}
-use Rattle.boards.specs.Masks.{masks, indices}
-use Rattle.evaluation.specs.Values.{line-at}
-use Rattle.evaluation.proofs.Signed.{left-sum}
-
--- ---- the two tables at line i
-abbrev pub mask-at : ℕ → ℕ
-mask-at i = getD masks i 0
-
-abbrev pub place-at : ℕ → ℕ → ℕ
-place-at i j = getD (getD (map indices lines) i []) j 0
-
-abbrev pub Low : Line → Type 0
-Low l = (l .i < 9) × (l .j < 9) × (l .k < 9)
-
-low-test : ℕ → Bool
-low-test i = ltb (line-at i .i) 9 && (ltb (line-at i .j) 9 && ltb (line-at i .k) 9)
-
-pub low : (i : ℕ) → i < 8 → Low (line-at i)
-unfolding low-test
-low i h =
-    let t = and→ (ltb (line-at i .i) 9) _ (upTo-at low-test 8 tt i h) in
-    let u = and→ (ltb (line-at i .j) 9) _ (t .1) in
-    (ltb→lt _ 9 (t .0), ltb→lt _ 9 (u .0), ltb→lt _ 9 (u .1))
-
-place-test : ℕ → Bool
-place-test i = eqb (place-at i 0) (line-at i .i) && (eqb (place-at i 1) (line-at i .j) && eqb (place-at i 2) (line-at i .k))
-
-pub places : (i : ℕ) → i < 8 → (place-at i 0 ≡ line-at i .i) × (place-at i 1 ≡ line-at i .j) × (place-at i 2 ≡ line-at i .k)
-unfolding place-test
-places i h =
-    let t = and→ (eqb (place-at i 0) (line-at i .i)) _ (upTo-at place-test 8 tt i h) in
-    let u = and→ (eqb (place-at i 1) (line-at i .j)) _ (t .1) in
-    (eqb→eq _ _ (t .0), eqb→eq _ _ (u .0), eqb→eq _ _ (u .1))
-
-pub place-low : (i : ℕ) → i < 8 → (place-at i 0 < 9) × (place-at i 1 < 9) × (place-at i 2 < 9)
-place-low i h = let e = places i h in let l = low i h in (omega arith, omega arith, omega arith)
+use Rattle.lines.specs.Masks.{line-at}
+use Rattle.lines.proofs.Masks.{mask-at, Low, low}
 
 -- ---- only the nine low digits count
 count-same : (f g : ℕ → Bool) → ((k : ℕ) → k < 9 → f k ≡ g k) → (l : Line) → Low l → count f l ≡ count g l

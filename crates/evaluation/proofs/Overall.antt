@@ -16,8 +16,10 @@ use Rattle.rules.specs.declared.DrawWinner.{DrawWinner}
 use Rattle.rules.specs.Board.{in-play, Line, lines}
 use Rattle.rules.specs.Position.{Position, going, won-boards}
 use Rattle.rules.specs.Evaluation.{count, board-score, overall-line, score, seen-by, value-of, evaluate}
-use Rattle.evaluation.specs.Values.{line-at, board-value, values-of, value-at, overall-value, score-by, evaluate-by}
-use Rattle.evaluation.proofs.Lines.{mask-at, place-at, places, low, count-digits, sum-same, none-there, some-there, both-sides, no-x, no-o}
+use Rattle.lines.specs.Masks.{line-at}
+use Rattle.lines.proofs.Masks.{mask-at, place-at, places, low}
+use Rattle.evaluation.specs.Values.{board-value, values-of, value-at, overall-value, score-by, evaluate-by}
+use Rattle.evaluation.proofs.Lines.{count-digits, sum-same, none-there, some-there, both-sides, no-x, no-o}
 use Rattle.evaluation.proofs.Boards.{value-parts, nine-values}
 
 -- ---- as the code finds it

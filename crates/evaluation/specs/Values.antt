@@ -10,13 +10,9 @@ use Rattle.rules.specs.declared.GameState.the-variants.{InPlay, Drawn, Won}
 use Rattle.rules.specs.declared.DrawWinner.{DrawWinner}
 use Rattle.base.specs.Branch.{if_then_else_}
 use Rattle.base.specs.Integers.{sum}
-use Rattle.rules.specs.Board.{nine, Line, line, lines}
+use Rattle.rules.specs.Board.{nine, Line, lines}
 use Rattle.rules.specs.Position.{Position, going, won-boards}
 use Rattle.rules.specs.Evaluation.{count, unless-both, board-score, seen-by, evaluate}
-
--- line i of the eight
-abbrev pub line-at : ℕ → Line
-line-at i = getD lines i (line 0 0 0)
 
 -- 20 for a board that a side has won, and the score of one in play
 abbrev pub value-in : Position → ℕ → GameState → ℤ

@@ -16,7 +16,7 @@ ghost use Rattle.rules.specs.Hash.{with-turn};
 ghost use Rattle.boards.specs.Answers.{answer-number};
 ghost use Rattle.boards.specs.Cursor.{cursor-over};
 ghost use Rattle.game.specs.Meaning.{due-of, position-of};
-ghost use Rattle.game.specs.After.{after-move, refusal, Plays};
+ghost use Rattle.game.specs.After.{after-move, games-after, refusal, Plays};
 ghost use Rattle.game.specs.Built.{new-game, packed, recalculated};
 ghost use Rattle.game.specs.Look.{Looks-cell, Looks-state};
 use boards::Answer;
@@ -203,6 +203,18 @@ impl Game {
                 answer: Answer::Refused(why),
             },
         }
+    }
+
+    // The game after a list of moves, tried one after the other.
+    pub fn play_all(self, moves: &[u8]) -> Game
+        ensures { λ r. ⌜ r ≡ games-after self (now (moves .entry)) ⌝ }
+    {
+        let mut game = self;
+        for i in 0..moves.len() {
+            let made = game.make_move(Move { bits: moves[i] });
+            game = made.game;
+        }
+        game
     }
 
     // The game after a move that is accepted.

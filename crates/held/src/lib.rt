@@ -3,10 +3,8 @@ ghost use mathlib.Core.Path.{_≡_};
 ghost use Prim.Native.Nat.{min};
 ghost use lib.Dec.{eqb};
 ghost use Rattle.text.specs.ProgramLine.{is-digit};
-ghost use Rattle.notation.specs.Parsed.{Parses};
-ghost use Rattle.held.specs.HeldLine.{longer, depth-after, DepthIs, new-held, pushed, held-text};
+ghost use Rattle.held.specs.HeldLine.{longer, depth-after, DepthIs, new-held, pushed};
 ghost use Rattle.held.specs.TakenLine.{Takes};
-use notation::Parsed;
 
 // One more than the longest text that is read: a longer one is refused by its first 257 bytes.
 pub const KEPT: usize = 257;
@@ -171,14 +169,5 @@ impl Held {
     {
         let text = self.text;
         if text < KEPT { text } else { KEPT }
-    }
-
-    // What the held text is read as.
-    pub fn parse(self) -> Parsed
-        ensures { λ r. ⌜ Parses (held-text self) r ⌝ }
-    {
-        let bytes = self.bytes;
-        let n = self.text_len();
-        notation::parse(&bytes[..n])
     }
 }

@@ -1,6 +1,6 @@
 -- Demand 3 of a report with the table off: its list is what was tried by calls of ultimattt_play since the empty board, then the report's own moves.
 use mathlib.Core.Path.{_≡_, refl, sym, ap, _∙_, subst}
-use mathlib.Core.List.{List, [], _∷_, _++_}
+use mathlib.Core.List.{List, [], _++_}
 use Prim.Native.Nat.{ℕ}
 use native.Mathlib.Omega.{arith}
 use lib.Dec.{T, ltb→lt}
@@ -16,12 +16,12 @@ use Rattle.reference.specs.Reference.{game}
 use Rattle.game.specs.declared.Game.{Game}
 use Rattle.game.specs.Meaning.{position-of}
 use Rattle.game.specs.Built.{new-game}
-use Rattle.game.specs.After.{game-after, games-after}
+use Rattle.game.specs.After.{games-after}
 use Rattle.game.specs.declared.NextBoard.{NextBoard}
 use Rattle.game.specs.declared.NextBoard.the-variants.{Any, Only}
 use Rattle.game.specs.Neat.{neat-next}
 use Rattle.game.proofs.Neat.{neat→}
-use Rattle.game.proofs.Played.{new-played-neat, new-played-means, new-played-hash}
+use Rattle.game.proofs.Played.{games-joined, new-played-neat, new-played-means, new-played-hash}
 use Rattle.minimax.specs.Structs.{structs}
 use Rattle.minimax.proofs.Rules.{reported-rules}
 use Rattle.demands.specs.Claims.{NotStopped, MarkSays, Right, StatusHolds}
@@ -29,11 +29,6 @@ use Rattle.demands.proofs.Claims.{reported-marks, reported-right, reported-hold
 use Rattle.interface.specs.Position.{words-of, game-from}
 use Rattle.interface.specs.Calls.{draws-from, found}
 use Rattle.interface.proofs.PositionWords.{Byte, slice-comes-back}
-
-joined : (g : Game) (ns ms : List ℕ) → games-after (games-after g ns) ms ≡ games-after g (ns ++ ms)
-unfolding games-after
-joined g [] ms = refl
-joined g (n ∷ ns) ms = joined (game-after g n) ns ms
 
 module _ (p ns ms : List ℕ) (depth allowance draws : ℕ) (answers report : List ℕ) (from : game-from p ≡ games-after new-game ns) where
   abbrev q : Position
@@ -52,7 +47,7 @@ module _ (p ns ms : List ℕ) (depth allowance draws : ℕ) (answers report : Li
   x = found p ms depth allowance draws answers [] report
 
   game-is : games-after (game-from p) ms ≡ games-after new-game (ns ++ ms)
-  game-is = ap (λ (g : Game). games-after g ms) from ∙ joined new-game ns ms
+  game-is = ap (λ (g : Game). games-after g ms) from ∙ games-joined new-game ns ms
 
   pub reached-is : position-of (games-after (game-from p) ms) ≡ q
   reached-is = ap position-of game-is ∙ new-played-means (ns ++ ms)

@@ -21,8 +21,10 @@ use Rattle.game.specs.declared.Game.{Game}
 use Rattle.game.specs.Meaning.{position-of}
 use Rattle.game.specs.Built.{new-game}
 use Rattle.game.specs.After.{games-after}
+use Rattle.notation.specs.declared.ParseAnswer.{ParseAnswer}
+use Rattle.notation.specs.declared.ParseAnswer.the-variants.{Accepted, Refused}
 use Rattle.notation.specs.declared.Parsed.{Parsed}
-use Rattle.notation.specs.Parsed.{reading-of, game-for, Parses}
+use Rattle.notation.specs.Parsed.{parse-number, reading-of, game-for, Parses}
 use Rattle.endgame.specs.declared.Analysis.{Analysis}
 use Rattle.endgame.specs.Means.{made-number, Analyses}
 use Rattle.minimax.specs.declared.Minimax.{Minimax}
@@ -102,6 +104,11 @@ place-length : (x : Reading) → length (read-place x) ≡ 2
 place-length (reads p) = refl
 place-length (refuses n offset size) = refl
 
+-- the number in the answer's code is the reading's
+answer-reads : (a : ParseAnswer) (g : Game) → parse-number a ≡ read-number (reading-of a g)
+answer-reads Accepted g = refl
+answer-reads (Refused e) g = refl
+
 module _ (text p q : List ℕ) where
   reads-wrongly : (leb 12 (length p) && leb 2 (length q)) ≡ false → Reads text p q p q 255
   reads-wrongly bad = record { returns = returned-bad _ _ bad; position-is = left-kept _ p _ bad; place-is = left-kept _ q _ bad }
@@ -114,11 +121,11 @@ module _ (text p q : List ℕ) where
 
   pub reads-well : (r : Parsed) (p-after q-after : List ℕ) (n : ℕ) → Parses text r → 12 ≤ length p → 2 ≤ length q
       → Puts p (words-of (r .game)) 12 p-after → q-after ≡ sets q 0 (read-place (reading-of (r .answer) (r .game)))
-      → n ≡ read-number (reading-of (r .answer) (r .game)) → Reads text p q p-after q-after n
+      → n ≡ parse-number (r .answer) → Reads text p q p-after q-after n
   reads-well r p-after q-after n is h k e f g =
       let ok = both _ _ (le-leb 12 (length p) h) (le-leb 2 (length q) k) in
       record {
-        returns = returned-well n (read-number (read text)) _ ok (g ∙ ap read-number (is .says));
+        returns = returned-well n (read-number (read text)) _ ok (g ∙ answer-reads (r .answer) (r .game) ∙ ap read-number (is .says));
         position-is =
             left-written (words-of (game-for (read text))) p p-after _ ok
             (omega (arith, sym (ap (λ (x : Game). length (words-of x)) (is .game-is)) ∙ e .many)) (e .stored ∙ ap (λ (x : Game). sets p 0 (words-of x)) (is .game-is));

@@ -17,13 +17,12 @@ use Rattle.rules.specs.declared.Player.{Player}
 use Rattle.rules.specs.declared.Player.the-variants.{X, O}
 use Rattle.rules.specs.declared.GameState.{GameState}
 use Rattle.rules.specs.declared.GameState.the-variants.{InPlay, Drawn, Won}
-use Rattle.rules.specs.Board.{side-number}
-use Rattle.records.specs.States.{state-number}
+use Rattle.rules.specs.Board.{side-number, state-number}
 use Rattle.boards.specs.declared.local.Row.{Row}
 use Rattle.game.specs.declared.NextBoard.{NextBoard}
 use Rattle.game.specs.declared.NextBoard.the-variants.{Any, Only}
 use Rattle.game.specs.declared.Game.{Game}
-use Rattle.interface.specs.Position.{due-word, row-words, words-of, side-from, due-from, state-from, game-from, within, is-position}
+use Rattle.interface.specs.Position.{due-word, row-words, words-of, side-from, due-from, state-from, row-from, game-from, most, within, is-position}
 
 pub within-short : (bs ws : List ℕ) → length ws < length bs → false ≡ within bs ws
 unfolding within
@@ -74,6 +73,14 @@ within-long [] ws t = omega arith
 within-long (b ∷ bs) [] t = absurd t
 within-long (b ∷ bs) (w ∷ ws) t = let h : length bs ≤ length ws = within-long bs ws (and→ (leb w b) (within bs ws) t .1) in omega arith
 
+-- ---- the twelve words of a position
+module _ (ws : List ℕ) (t : T (is-position ws)) where
+  pub twelve : 12 ≤ length ws
+  twelve = within-long most ws t
+
+  pub word-most : (k : ℕ) → k < 12 → getD ws k 0 ≤ getD most k 0
+  word-most = within-at most ws t
+
 -- ---- the words of a game, and a game of words, from their parts
 abbrev row-at : List Row → ℕ → Row
 row-at rs k = getD rs k (record { x = 0; o = 0 })
@@ -105,14 +112,19 @@ module _ (g : Game) where
       ∙ ap (λ (k : ℕ). row-words rs ++ last (side-number (g .«next_player»)) k state) w
       ∙ ap (λ (k : ℕ). row-words rs ++ last (side-number (g .«next_player»)) (due-word (g .«next_board»)) k) x
 
-pub game-made : (ws : List ℕ) (w₀ w₁ w₂ w₃ w₄ w₅ w₆ w₇ w₈ w₉ w₁₀ w₁₁ : ℕ) (who : Player) (next : NextBoard) (a b c : Row) (state : GameState)
-    → w₀ ≡ getD ws 0 0 → w₁ ≡ getD ws 1 0 → w₂ ≡ getD ws 2 0 → w₃ ≡ getD ws 3 0 → w₄ ≡ getD ws 4 0 → w₅ ≡ getD ws 5 0
-    → w₆ ≡ getD ws 6 0 → w₇ ≡ getD ws 7 0 → w₈ ≡ getD ws 8 0 → w₉ ≡ getD ws 9 0 → w₁₀ ≡ getD ws 10 0 → w₁₁ ≡ getD ws 11 0
-    → who ≡ side-from w₈ → next ≡ due-from w₉ → a ≡ record { x = w₀; o = w₁ } → b ≡ record { x = w₂; o = w₃ } → c ≡ record { x = w₄; o = w₅ } → state ≡ state-from w₁₀
-    → _≡_ {A = Game} (record { «next_player» = who; «next_board» = next; «local_boards» = record { rows = a ∷ b ∷ c ∷ [] }; «global_states» = record { x = w₆; o = w₇ }; «game_state» = state; hash = w₁₁ }) (game-from ws)
+pub game-made : (ws : List ℕ) (who : Player) (next : NextBoard) (a b c : Row) (state : GameState)
+    → who ≡ side-from (getD ws 8 0) → next ≡ due-from (getD ws 9 0) → state ≡ state-from (getD ws 10 0)
+    → a ≡ row-from ws 0 → b ≡ row-from ws 2 → c ≡ row-from ws 4
+    → _≡_ {A = Game} (record {
+      «next_player» = who;
+      «next_board» = next;
+      «local_boards» = record { rows = a ∷ b ∷ c ∷ [] };
+      «global_states» = record { x = getD ws 6 0; o = getD ws 7 0 };
+      «game_state» = state;
+      hash = getD ws 11 0;
+    }) (game-from ws)
 unfolding game-from
-game-made ws w₀ w₁ w₂ w₃ w₄ w₅ w₆ w₇ w₈ w₉ w₁₀ w₁₁ who next a b c state e₀ e₁ e₂ e₃ e₄ e₅ e₆ e₇ e₈ e₉ e₁₀ e₁₁ p q r s t u =
-    simp (p, q, r, s, t, u, e₀, e₁, e₂, e₃, e₄, e₅, e₆, e₇, e₈, e₉, e₁₀, e₁₁)
+game-made ws who next a b c state p q r s t u = simp (p, q, r, s, t, u)
 
 -- ---- a game comes back from its words: three rows, and a due board that is a byte
 side-back : (w : Player) → side-from (side-number w) ≡ w

@@ -8,8 +8,7 @@ use Rattle.rules.specs.declared.Player.{Player}
 use Rattle.rules.specs.declared.Player.the-variants.{X, O}
 use Rattle.rules.specs.declared.GameState.{GameState}
 use Rattle.rules.specs.declared.GameState.the-variants.{InPlay, Drawn, Won}
-use Rattle.rules.specs.Board.{side-number}
-use Rattle.records.specs.States.{state-number}
+use Rattle.rules.specs.Board.{side-number, state-number}
 use Rattle.boards.specs.declared.local.Row.{Row}
 use Rattle.game.specs.declared.NextBoard.{NextBoard}
 use Rattle.game.specs.declared.NextBoard.the-variants.{Any, Only}

@@ -52,7 +52,8 @@ pub extern "C" fn ultimattt_read(text: &[u8], position: &mut [u64], place: &mut 
     let parsed = notation::parse(text);
     position::put(position, parsed.game);
     lent::put(place, 0, &position::place(parsed));
-    position::read_number(parsed)
+    let answer = parsed.answer;
+    answer.number()
 }
 
 // A position's text of 101 bytes.
@@ -73,7 +74,8 @@ pub extern "C" fn ultimattt_render(position: &[u64], out: &mut [u8]) -> u64
 // Tries moves one after the other, and answers each with 0 or refusal 9 to 13. A refused one changes nothing.
 #[no_mangle]
 pub extern "C" fn ultimattt_play(position: &mut [u64], moves: &[u8], answers: &mut [u8]) -> u64
-    ensures { λ r. ⌜ PlaysAll (now (position .entry)) (now (moves .entry)) (now (answers .entry)) (now (position .exit)) (now (answers .exit)) r ⌝ }
+    ensures { λ r. ⌜ PlaysAll (now (position .entry)) (now (moves .entry)) (now (answers .entry))
+        (now (position .exit)) (now (answers .exit)) r ⌝ }
 {
     if !position::is_position(position) {
         return BAD_ARGUMENT;
@@ -86,8 +88,9 @@ pub extern "C" fn ultimattt_play(position: &mut [u64], moves: &[u8], answers: &m
     0
 }
 
-// The endgame analysis and the search, after moves tried from a position: 0, or refusal 15 to 18. The draw winner is 0 for nobody, 1 for X, 2 for O.
-// The 512 answers are those to X's moves, then those to O's, each by the move it answers; the table is in words, and off without any.
+// The endgame analysis and the search, after moves tried from a position: 0, or refusal 15 to 18.
+// The draw winner is 0 for nobody, 1 for X, 2 for O. The 512 answers are those to X's moves, then those to O's, each by the move it
+// answers; the table is in words, and off without any.
 #[no_mangle]
 pub extern "C" fn ultimattt_analyze(
     position: &[u64],
@@ -100,7 +103,8 @@ pub extern "C" fn ultimattt_analyze(
     report: &mut [u64],
 ) -> u64
     ensures { λ r. ⌜ Analyzes (now (position .entry)) (now (moves .entry)) depth allowance «draw_winner»
-        (now (answers .entry)) (now (words .entry)) (now (report .entry)) (now (answers .exit)) (now (words .exit)) (now (report .exit)) r ⌝ }
+        (now (answers .entry)) (now (words .entry)) (now (report .entry))
+        (now (answers .exit)) (now (words .exit)) (now (report .exit)) r ⌝ }
 {
     if !position::is_position(position) {
         return BAD_ARGUMENT;
@@ -114,7 +118,7 @@ pub extern "C" fn ultimattt_analyze(
     if report.len() < 655 {
         return BAD_ARGUMENT;
     }
-    let game = position::play_all(position::game_from(position), moves);
+    let game = position::game_from(position).play_all(moves);
     let config = Config {
         max_depth: depth,
         allowance,
@@ -124,5 +128,5 @@ pub extern "C" fn ultimattt_analyze(
     report::put_memory(answers, found.state);
     report::put(report, found, Analysis::new(game));
     let ending = found.ending;
-    line::ending_number(ending)
+    ending.number()
 }

@@ -7,16 +7,13 @@ ghost use lib.ListN.{length};
 ghost use lib.Seq.{sets};
 ghost use Rattle.game.specs.After.{games-after};
 ghost use Rattle.notation.specs.Parsed.{reading-of};
-ghost use Rattle.boards.specs.Answers.{error-number, answer-number};
 ghost use Rattle.interface.specs.Lent.{Puts};
 ghost use Rattle.interface.specs.Position.{due-word, words-of, side-from, due-from, state-from, game-from, is-position};
-ghost use Rattle.interface.specs.Calls.{read-number, read-place, answers-to};
+ghost use Rattle.interface.specs.Calls.{read-place, answers-to};
 use crate::lent;
-use boards::Answer;
 use boards::GlobalStates;
 use boards::LocalBoards;
 use boards::Move;
-use boards::MoveError;
 use boards::Row;
 use game::Game;
 use game::NextBoard;
@@ -77,7 +74,7 @@ fn words_of(game: Game) -> [u64; 12]
         states.o as u64,
         who.as_bit() as u64,
         due_word(next),
-        records::state_number(state),
+        state.number(),
         game.hash,
     ]
 }
@@ -148,34 +145,21 @@ pub(crate) fn game_from(words: &[u64]) -> Game
     ensures { λ r. ⌜ r ≡ game-from (now (words .entry)) ⌝ }
 {
     Game {
-        next_player: side_from(decimals::at(words, 8)),
-        next_board: due_from(decimals::at(words, 9)),
+        next_player: side_from(words[8]),
+        next_board: due_from(words[9]),
         local_boards: LocalBoards {
             rows: [
-                row(decimals::at(words, 0), decimals::at(words, 1)),
-                row(decimals::at(words, 2), decimals::at(words, 3)),
-                row(decimals::at(words, 4), decimals::at(words, 5)),
+                row(words[0], words[1]),
+                row(words[2], words[3]),
+                row(words[4], words[5]),
             ],
         },
         global_states: GlobalStates {
-            x: decimals::at(words, 6) as u16,
-            o: decimals::at(words, 7) as u16,
+            x: words[6] as u16,
+            o: words[7] as u16,
         },
-        game_state: state_from(decimals::at(words, 10)),
-        hash: decimals::at(words, 11),
-    }
-}
-
-pub(crate) fn read_number(parsed: Parsed) -> u64
-    ensures { λ r. ⌜ r ≡ read-number (reading-of (parsed .answer) (parsed .game)) ⌝ }
-{
-    let answer = parsed.answer;
-    match answer {
-        ParseAnswer::Accepted => 0,
-        ParseAnswer::Refused(error) => {
-            let why = error.why;
-            line::parse_number(why)
-        }
+        game_state: state_from(words[10]),
+        hash: words[11],
     }
 }
 
@@ -196,49 +180,17 @@ pub(crate) fn place(parsed: Parsed) -> [u64; 2]
     }
 }
 
-fn error_number(e: MoveError) -> u8
-    ensures { λ r. ⌜ r ≡ error-number e ⌝ }
-{
-    match e {
-        MoveError::OutOfBounds => 9,
-        MoveError::GameOver => 10,
-        MoveError::WonBoard => 11,
-        MoveError::WrongBoard => 12,
-        MoveError::NotEmpty => 13,
-    }
-}
-
-fn answer_number(a: Answer) -> u8
-    ensures { λ r. ⌜ r ≡ answer-number a ⌝ }
-{
-    match a {
-        Answer::Accepted => 0,
-        Answer::Refused(e) => error_number(e),
-    }
-}
-
 // The game after moves, and what each is answered.
 pub(crate) fn play(game: Game, moves: &[u8], answers: &mut [u8]) -> Game
     requires { ⌜ length (now moves) ≤ length (now answers) ⌝ }
-    ensures { λ r. ⌜ (r ≡ games-after game (now (moves .entry))) × (now (answers .exit) ≡ sets (now (answers .entry)) 0 (answers-to game (now (moves .entry)))) ⌝ }
+    ensures { λ r. ⌜ (r ≡ games-after game (now (moves .entry)))
+        × (now (answers .exit) ≡ sets (now (answers .entry)) 0 (answers-to game (now (moves .entry)))) ⌝ }
 {
     let mut game = game;
     for i in 0..moves.len() {
         let made = game.make_move(Move { bits: moves[i] });
         let answer = made.answer;
-        answers[i] = answer_number(answer);
-        game = made.game;
-    }
-    game
-}
-
-// The game after moves.
-pub(crate) fn play_all(game: Game, moves: &[u8]) -> Game
-    ensures { λ r. ⌜ r ≡ games-after game (now (moves .entry)) ⌝ }
-{
-    let mut game = game;
-    for i in 0..moves.len() {
-        let made = game.make_move(Move { bits: moves[i] });
+        answers[i] = answer.number() as u8;
         game = made.game;
     }
     game

@@ -15,7 +15,6 @@ use crate::lent;
 use crate::position::side_from;
 use boards::Move;
 use endgame::Analysis;
-use endgame::Made;
 use minimax::Ending;
 use minimax::Minimax;
 use minimax::Report;
@@ -49,7 +48,8 @@ fn moves_from(bytes: &[u8], at: usize) -> [Move; 256]
 
 pub(crate) fn memory(answers: &[u8]) -> Minimax
     requires { ⌜ 512 ≤ length (now answers) ⌝ }
-    ensures { λ r. ⌜ (bytes-of (r .«answers_x») ≡ take 256 (now (answers .entry))) × (bytes-of (r .«answers_o») ≡ take 256 (drop 256 (now (answers .entry)))) ⌝ }
+    ensures { λ r. ⌜ (bytes-of (r .«answers_x») ≡ take 256 (now (answers .entry)))
+        × (bytes-of (r .«answers_o») ≡ take 256 (drop 256 (now (answers .entry)))) ⌝ }
 {
     let answers_x = moves_from(answers, 0);
     let answers_o = moves_from(answers, 256);
@@ -72,7 +72,8 @@ fn put_moves(out: &mut [u8], at: usize, moves: [Move; 256])
 
 pub(crate) fn put_memory(answers: &mut [u8], state: Minimax)
     requires { ⌜ 512 ≤ length (now answers) ⌝ }
-    ensures { λ _. ⌜ Puts (now (answers .entry)) (bytes-of (state .«answers_x») ++ bytes-of (state .«answers_o»)) 512 (now (answers .exit)) ⌝ }
+    ensures { λ _. ⌜ Puts (now (answers .entry)) (bytes-of (state .«answers_x») ++ bytes-of (state .«answers_o»)) 512
+        (now (answers .exit)) ⌝ }
 {
     let answers_x = state.answers_x;
     let answers_o = state.answers_o;
@@ -102,15 +103,6 @@ fn stopped(ending: Ending) -> u64
     }
 }
 
-fn made_number(made: Made) -> u64
-    ensures { λ r. ⌜ r ≡ made-number made ⌝ }
-{
-    match made {
-        Made::Analysed => 0,
-        Made::Unsound => 14,
-    }
-}
-
 // The words before the moves.
 fn head(found: Report, analysis: Analysis) -> [u64; 7]
     ensures { λ r. ⌜ r ≡ head-words (report-of found []) (made-number (analysis .made)) (analysis .proven .bits) ⌝ }
@@ -119,12 +111,12 @@ fn head(found: Report, analysis: Analysis) -> [u64; 7]
     let made = analysis.made;
     let status = analysis.status();
     [
-        line::ending_number(ending),
+        ending.number(),
         stopped(ending),
         found.depth,
         table::to_word(found.score),
         found.count,
-        made_number(made),
+        made.number(),
         status.bits as u64,
     ]
 }
@@ -173,7 +165,8 @@ fn put_stats(out: &mut [u64], at: usize, stats: [Stats; PLACES])
 
 pub(crate) fn put(out: &mut [u64], found: Report, analysis: Analysis)
     requires { ⌜ 655 ≤ length (now out) ⌝ }
-    ensures { λ _. ⌜ Puts (now (out .entry)) (report-words (report-of found []) (made-number (analysis .made)) (analysis .proven .bits)) 655 (now (out .exit)) ⌝ }
+    ensures { λ _. ⌜ Puts (now (out .entry))
+        (report-words (report-of found []) (made-number (analysis .made)) (analysis .proven .bits)) 655 (now (out .exit)) ⌝ }
 {
     let line = found.line;
     let stats = found.stats;

@@ -89,9 +89,9 @@ set-again s = λ i. record { x = go (s .x) (s .o) (s .draw) .0 i; o = go (s .x) 
     go true true true = (refl, refl, refl)
 
 module _ (p : Position) (depth : ℕ) where
-  pub position-refused : 14 ≡ analysis p .refusal → refusal-text 14 ≡ position-text p depth
+  pub position-refused : (n : ℕ) → n ≡ analysis p .refusal → (n ≡ 0 → ⊥) → refusal-text n ≡ position-text p depth
   unfolding position-text if_then_else_
-  position-refused e = rw (sym e)
+  position-refused n e f = rw (sym e, ne-eqb n 0 f)
 
   pub position-searched : (s : Status) (r : Reported) → 0 ≡ analysis p .refusal → s ≡ status-of (analysis p .status) → r ≡ searched depth p → report-text (set-of s) (length (moves p)) r ≡ position-text p depth
   unfolding position-text if_then_else_

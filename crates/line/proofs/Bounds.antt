@@ -11,12 +11,11 @@ use lib.Signed.{_≤ℤ_}
 use Rattle.base.specs.Lists.{keep, each}
 use Rattle.base.specs.Checks.{first-failed}
 use Rattle.base.proofs.Branch.{if-ind}
-use Rattle.base.proofs.Integers.{hi, lo, zarith, hi-le, lo-le}
+use Rattle.base.proofs.Integers.{hi, lo, zarith, hi-le, lo-le, within-abs}
 use Rattle.rules.specs.declared.DrawWinner.the-variants.{Nobody}
 use Rattle.rules.specs.Position.{Position}
 use Rattle.rules.specs.Play.{no-move, accepts}
 use Rattle.rules.specs.Moves.{places, moves}
-use Rattle.rules.proofs.Evaluation.{within-abs}
 use Rattle.theory.specs.Limits.{console}
 use Rattle.theory.specs.Game.{Game}
 use Rattle.theory.specs.PlainMinimax.{lowest, highest}

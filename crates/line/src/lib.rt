@@ -10,63 +10,25 @@ ghost use Rattle.text.specs.Reading.{read};
 ghost use Rattle.status.specs.Sets.{set-of};
 ghost use Rattle.game.specs.Meaning.{position-of};
 ghost use Rattle.game.specs.Neat.{neat};
-ghost use Rattle.notation.specs.Parsed.{kind-number};
-ghost use Rattle.minimax.specs.Report.{error-number, ending-number, report-of};
+ghost use Rattle.notation.specs.Parsed.{Parses};
+ghost use Rattle.minimax.specs.Report.{report-of};
 ghost use Rattle.held.specs.HeldLine.{held-text, held-asks};
 ghost use Rattle.out.specs.OutBytes.{out-of};
 ghost use Rattle.line.specs.Answered.{searched, report-text, position-text, reading-text, asked-text};
 use endgame::Analysis;
-use endgame::Made;
 use game::Game;
 use held::Depth;
 use held::Held;
 use minimax::Config;
-use minimax::Ending;
 use minimax::Minimax;
 use minimax::Report;
-use minimax::SearchError;
-use notation::ErrorKind;
 use notation::ParseAnswer;
+use notation::Parsed;
 use out::Out;
 use rules::DrawWinner;
 use status::Status;
 
 pub const ALLOWANCE: u64 = 1000000;
-
-pub fn parse_number(why: ErrorKind) -> u64
-    ensures { λ r. ⌜ r ≡ kind-number why ⌝ }
-{
-    match why {
-        ErrorKind::TooLong => 1,
-        ErrorKind::MissingSection => 2,
-        ErrorKind::BadPlayer => 3,
-        ErrorKind::TooFewSquares => 4,
-        ErrorKind::BadBoard => 5,
-        ErrorKind::TooShort => 6,
-    }
-}
-
-fn search_number(why: SearchError) -> u64
-    ensures { λ r. ⌜ r ≡ error-number why ⌝ }
-{
-    match why {
-        SearchError::Depth => 15,
-        SearchError::Allowance => 16,
-        SearchError::Words => 17,
-        SearchError::Spent => 18,
-    }
-}
-
-// 0 where the search was not refused.
-pub fn ending_number(ending: Ending) -> u64
-    ensures { λ r. ⌜ r ≡ ending-number ending ⌝ }
-{
-    match ending {
-        Ending::Whole => 0,
-        Ending::Stopped => 0,
-        Ending::Refused(why) => search_number(why),
-    }
-}
 
 // From fresh memory, with the table off.
 fn search(game: Game, depth: u8) -> Report
@@ -87,7 +49,7 @@ fn reported(game: Game, status: Status, report: Report) -> Out
     ensures { λ r. ⌜ r ≡ out-of (report-text (set-of status) (length (moves (position-of game))) (report-of report [])) ⌝ }
 {
     let ending = report.ending;
-    let number = ending_number(ending);
+    let number = ending.number();
     if number != 0 {
         return Out::refused(number);
     }
@@ -110,22 +72,32 @@ fn position(game: Game, depth: u8) -> Out
 {
     let analysis = Analysis::new(game);
     let made = analysis.made;
-    let Made::Analysed = made else {
-        return Out::refused(14);
-    };
+    let number = made.number();
+    if number != 0 {
+        return Out::refused(number);
+    }
     reported(game, analysis.status(), search(game, depth))
+}
+
+// What the held text is read as.
+fn parse(line: Held) -> Parsed
+    ensures { λ r. ⌜ Parses (held-text line) r ⌝ }
+{
+    let bytes = line.bytes;
+    let n = line.text_len();
+    notation::parse(&bytes[..n])
 }
 
 // What the held text is answered as.
 fn text(line: Held, depth: u8) -> Out
     ensures { λ r. ⌜ r ≡ out-of (reading-text (read (held-text line)) depth) ⌝ }
 {
-    let parsed = line.parse();
+    let parsed = parse(line);
     let answer = parsed.answer;
     match answer {
         ParseAnswer::Refused(error) => {
             let why = error.why;
-            Out::refused(parse_number(why))
+            Out::refused(why.number())
         }
         ParseAnswer::Accepted => position(parsed.game, depth),
     }

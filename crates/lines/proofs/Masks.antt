@@ -1,6 +1,6 @@
 -- The lines: the two tables agree, the masks find a line wherever three digits make one, and what nine digits say of a board's state.
 use mathlib.Core.Path.{_≡_, refl, sym, ap, _∙_}
-use mathlib.Core.Bool.{Bool, true, false, not, _||_}
+use mathlib.Core.Bool.{Bool, true, false, not, _||_, _&&_}
 use mathlib.Core.List.{List, [], _∷_, map}
 use Prim.Native.Nat.{ℕ, zero, suc, _+_, _%_, _≤_, _<_}
 use native.Mathlib.Numerals.{add-one}
@@ -16,12 +16,13 @@ use Rattle.rules.specs.declared.GameState.the-variants.{InPlay, Drawn, Won}
 use Rattle.base.specs.Branch.{if_then_else_}
 use Rattle.base.specs.Bits.{bit, digits}
 use Rattle.base.specs.Lists.{any, all, In}
+use Rattle.base.proofs.Bool.{and→}
 use Rattle.base.proofs.Agree.{any-same}
 use Rattle.base.proofs.Every.{upTo-at, same-below}
 use Rattle.base.proofs.Lists.{all-each, from-in}
 use Rattle.base.proofs.Numbers.{bit-masked, bit-digits, digits-lt, not-twice}
-use Rattle.rules.specs.Board.{nine, lines, has-line, result}
-use Rattle.lines.specs.Masks.{masks, mask-of, indices, pattern-at}
+use Rattle.rules.specs.Board.{nine, Line, lines, has-line, result}
+use Rattle.lines.specs.Masks.{line-at, masks, mask-of, indices, pattern-at}
 
 -- each mask has the three places of its line
 pub tables-agree : masks ≡ map mask-of lines
@@ -50,6 +51,40 @@ module _ (i j : ℕ) where
   pub reads-place : i < 8 → j < 3 → getD (getD (map indices lines) i []) j 0 ≡ pattern-at i j
   reads-place h k = let e = three-places i h in any-default (getD (map indices lines) i []) j 0 9 (omega arith)
 
+-- ---- the two tables at line i
+abbrev pub mask-at : ℕ → ℕ
+mask-at i = getD masks i 0
+
+abbrev pub place-at : ℕ → ℕ → ℕ
+place-at i j = getD (getD (map indices lines) i []) j 0
+
+abbrev pub Low : Line → Type 0
+Low l = (l .i < 9) × (l .j < 9) × (l .k < 9)
+
+low-test : ℕ → Bool
+low-test i = ltb (line-at i .i) 9 && (ltb (line-at i .j) 9 && ltb (line-at i .k) 9)
+
+pub low : (i : ℕ) → i < 8 → Low (line-at i)
+unfolding low-test
+low i h =
+    let t = and→ (ltb (line-at i .i) 9) _ (upTo-at low-test 8 tt i h) in
+    let u = and→ (ltb (line-at i .j) 9) _ (t .1) in
+    (ltb→lt _ 9 (t .0), ltb→lt _ 9 (u .0), ltb→lt _ 9 (u .1))
+
+place-test : ℕ → Bool
+place-test i = eqb (place-at i 0) (line-at i .i) && (eqb (place-at i 1) (line-at i .j) && eqb (place-at i 2) (line-at i .k))
+
+pub places : (i : ℕ) → i < 8 → (place-at i 0 ≡ line-at i .i) × (place-at i 1 ≡ line-at i .j) × (place-at i 2 ≡ line-at i .k)
+unfolding place-test
+places i h =
+    let t = and→ (eqb (place-at i 0) (line-at i .i)) _ (upTo-at place-test 8 tt i h) in
+    let u = and→ (eqb (place-at i 1) (line-at i .j)) _ (t .1) in
+    (eqb→eq _ _ (t .0), eqb→eq _ _ (u .0), eqb→eq _ _ (u .1))
+
+pub place-low : (i : ℕ) → i < 8 → (place-at i 0 < 9) × (place-at i 1 < 9) × (place-at i 2 < 9)
+place-low i h = let e = places i h in let l = low i h in (omega arith, omega arith, omega arith)
+
+-- ---- the masks
 -- the mask lies in the bits
 abbrev pub covers : ℕ → ℕ → Bool
 covers n m = eqb (bitAnd n m) m

@@ -1,8 +1,12 @@
--- The eight lines as masks.
+-- The eight lines by their numbers, and as masks.
 use mathlib.Core.List.{List, [], _∷_, map}
 use Prim.Native.Nat.{ℕ, _+_, _^_}
 use lib.ListN.{getD}
-use Rattle.rules.specs.Board.{Line, lines}
+use Rattle.rules.specs.Board.{Line, line, lines}
+
+-- line i of the eight
+abbrev pub line-at : ℕ → Line
+line-at i = getD lines i (line 0 0 0)
 
 abbrev pub masks : List ℕ
 masks = 0x7 ∷ 0x38 ∷ 0x1c0 ∷ 0x49 ∷ 0x92 ∷ 0x124 ∷ 0x111 ∷ 0x54 ∷ []

@@ -8,7 +8,7 @@ use lib.Signed.{mag, leZ}
 use mir.Syntax.{w64}
 use mir.Val.{SFits, hbits}
 use Rattle.base.proofs.Integers.{hi, lo, zarith, ng, hi-le, lo-le}
-use Rattle.evaluation.proofs.Signed.{reads, back}
+use Rattle.base.proofs.Signed.{reads, back}
 use Rattle.minimax.specs.State.{Within}
 
 pub neg-within : (z : ℤ) → Within z → Within (negℤ z)

@@ -17,7 +17,9 @@ ghost use Rattle.theory.specs.Memory.{fresh-memory};
 ghost use Rattle.theory.specs.Deepening.{nothing-yet, one-deeper, decided};
 ghost use Rattle.theory.specs.Reported.{entry-refusal, report};
 ghost use Rattle.minimax.specs.State.{bytes-of, memory-of, line-of};
-ghost use Rattle.minimax.specs.Report.{tally-of, ending-number, ending-stopped, entry-number, stats-of, settings-of, whole-of, Empty-on, empty-answers, report-of, refused-with, answer-of, reported-of};
+ghost use Rattle.minimax.specs.Report.{error-number, ending-number, ending-stopped, entry-number};
+ghost use Rattle.minimax.specs.Report.{tally-of, stats-of, settings-of, whole-of, Empty-on, empty-answers};
+ghost use Rattle.minimax.specs.Report.{report-of, refused-with, answer-of, reported-of};
 use boards::Move;
 use evaluation::EVAL_LOST;
 use evaluation::EVAL_WON;
@@ -65,10 +67,36 @@ pub enum SearchError {
     Spent,
 }
 
+impl SearchError {
+    pub fn number(self) -> u64
+        ensures { λ r. ⌜ r ≡ error-number self ⌝ }
+    {
+        match self {
+            SearchError::Depth => 15,
+            SearchError::Allowance => 16,
+            SearchError::Words => 17,
+            SearchError::Spent => 18,
+        }
+    }
+}
+
 pub enum Ending {
     Whole,
     Stopped,
     Refused(SearchError),
+}
+
+impl Ending {
+    // 0 where the search was not refused.
+    pub fn number(self) -> u64
+        ensures { λ r. ⌜ r ≡ ending-number self ⌝ }
+    {
+        match self {
+            Ending::Whole => 0,
+            Ending::Stopped => 0,
+            Ending::Refused(why) => why.number(),
+        }
+    }
 }
 
 // The last whole depth with its score and line, the positions entered, and the stats of each whole depth.

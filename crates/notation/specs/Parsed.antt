@@ -27,6 +27,11 @@ kind-number TooFewSquares = 4
 kind-number BadBoard = 5
 kind-number TooShort = 6
 
+-- 0 where nothing is refused
+abbrev pub parse-number : ParseAnswer → ℕ
+parse-number Accepted = 0
+parse-number (Refused e) = kind-number (e .why)
+
 -- the answer, as the definition of reading says it
 abbrev pub reading-of : ParseAnswer → Game → Reading
 reading-of Accepted g = reads (position-of g)

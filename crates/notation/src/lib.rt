@@ -10,7 +10,7 @@ ghost use Rattle.text.specs.Reading.{side-of, overall-mark, cell-mark, fault-at
 ghost use Rattle.text.specs.Writing.{state-byte, cell-byte, text-of, byte-at};
 ghost use Rattle.text.specs.MoveText.{coordinate, move-text};
 ghost use Rattle.game.specs.Meaning.{due-of, position-of};
-ghost use Rattle.notation.specs.Parsed.{Parses, Parses-move};
+ghost use Rattle.notation.specs.Parsed.{kind-number, parse-number, move-number, Parses, Parses-move};
 ghost use Rattle.notation.specs.Parts.{refused, Gives, Finds, side-said, mark-said, due-by, due-or, Reads-overall, cell-said, with-mark, fault-number, Reads-cells};
 use boards::GlobalStates;
 use boards::LocalBoards;
@@ -33,6 +33,21 @@ pub enum ErrorKind {
     TooShort,
 }
 
+impl ErrorKind {
+    pub fn number(self) -> u64
+        ensures { λ r. ⌜ r ≡ kind-number self ⌝ }
+    {
+        match self {
+            ErrorKind::TooLong => 1,
+            ErrorKind::MissingSection => 2,
+            ErrorKind::BadPlayer => 3,
+            ErrorKind::TooFewSquares => 4,
+            ErrorKind::BadBoard => 5,
+            ErrorKind::TooShort => 6,
+        }
+    }
+}
+
 // Why a text is refused, and the part of it that is at fault.
 pub struct ParseError {
     pub why: ErrorKind,
@@ -43,6 +58,21 @@ pub struct ParseError {
 pub enum ParseAnswer {
     Accepted,
     Refused(ParseError),
+}
+
+impl ParseAnswer {
+    // 0 where nothing is refused.
+    pub fn number(self) -> u64
+        ensures { λ r. ⌜ r ≡ parse-number self ⌝ }
+    {
+        match self {
+            ParseAnswer::Accepted => 0,
+            ParseAnswer::Refused(error) => {
+                let why = error.why;
+                why.number()
+            }
+        }
+    }
 }
 
 // What reading a text gives: refused, the empty game.
@@ -391,6 +421,19 @@ pub enum MoveTextAnswer {
     Read,
     BadLength,
     BadCharacter(u8),
+}
+
+impl MoveTextAnswer {
+    // 0 where nothing is refused.
+    pub fn number(self) -> u64
+        ensures { λ r. ⌜ r ≡ move-number self ⌝ }
+    {
+        match self {
+            MoveTextAnswer::Read => 0,
+            MoveTextAnswer::BadLength => 7,
+            MoveTextAnswer::BadCharacter(_) => 8,
+        }
+    }
 }
 
 // What reading a move gives: refused, the empty move.

@@ -10,8 +10,7 @@ use lib.Signed.{mag, ltZ, _<ℤ_, _≤ℤ_}
 use mir.Syntax.{w64}
 use mir.Val.{SFits, toZ, ofZ}
 use Rattle.text.specs.ProgramLine.{decimal, signed}
-use Rattle.base.proofs.Signed.{back}
-use Rattle.table.proofs.Signed.{less, not-less}
+use Rattle.base.proofs.Signed.{back, less, not-less}
 use Rattle.out.specs.declared.Out.{Out}
 use Rattle.out.specs.OutBytes.{added, added-all}
 

@@ -1,8 +1,7 @@
-// Records, a line each: fields parted by tabs, lists of moves, draw winners and states, and how many of the records agree.
+// Records, a line each: fields parted by tabs, lists of moves and draw winners, and how many of the records agree.
 pub mod draws;
 pub mod fields;
 pub mod moves;
-pub mod states;
 pub mod totals;
 
 pub use draws::Draw;
@@ -11,6 +10,5 @@ pub use fields::field;
 pub use fields::tabs;
 pub use moves::Code;
 pub use moves::move_at;
-pub use states::state_number;
 pub use totals::Outcome;
 pub use totals::Totals;

@@ -2,40 +2,12 @@
 // three of each listed move: the move, how it is answered (0, 10 or 14), its status (tools/lists.py).
 ghost use Prim.Native.Nat.{_<_};
 use boards::Move;
-use boards::MoveError;
 use endgame::Analysis;
-use endgame::Judging;
-use endgame::Made;
 use endgame::Stats;
 use game::Game;
 
 // The numbers before the moves.
 const HEAD: usize = 8;
-
-fn made_number(made: Made) -> u64 {
-    match made {
-        Made::Analysed => 0,
-        Made::Unsound => 14,
-    }
-}
-
-fn error_number(e: MoveError) -> u64 {
-    match e {
-        MoveError::OutOfBounds => 9,
-        MoveError::GameOver => 10,
-        MoveError::WonBoard => 11,
-        MoveError::WrongBoard => 12,
-        MoveError::NotEmpty => 13,
-    }
-}
-
-fn judging_number(answer: Judging) -> u64 {
-    match answer {
-        Judging::Judged => 0,
-        Judging::Refused(why) => error_number(why),
-        Judging::Unsound => 14,
-    }
-}
 
 fn same_counts(numbers: &[u64], stats: Stats) -> bool {
     if stats.attacker_critical as u64 != decimals::at(numbers, 2) {
@@ -59,7 +31,7 @@ fn same_counts(numbers: &[u64], stats: Stats) -> bool {
 fn same_analysis(numbers: &[u64], game: Game) -> bool {
     let analysis = Analysis::new(game);
     let made = analysis.made;
-    if made_number(made) != decimals::at(numbers, 0) {
+    if made.number() != decimals::at(numbers, 0) {
         return false;
     }
     let status = analysis.status();
@@ -79,7 +51,7 @@ fn same_move(numbers: &[u64], at: usize, game: Game) -> bool
     };
     let judged = endgame::evaluate_move(game, m);
     let answer = judged.answer;
-    if judging_number(answer) != decimals::at(numbers, at + 1) {
+    if answer.number() != decimals::at(numbers, at + 1) {
         return false;
     }
     let status = judged.status;

@@ -1,12 +1,10 @@
 // Replays the Rust's answers on play, hash, list of moves and `equivalent`, and prints how many agree and each record that does not.
 // The records are made by tools/lists.py, which says what the numbers of a record are.
 ghost use Prim.Native.Nat.{_<_};
-use boards::Answer;
 use boards::GlobalStates;
 use boards::Listed;
 use boards::LocalBoards;
 use boards::Move;
-use boards::MoveError;
 use boards::MoveIterator;
 use boards::Row;
 use decimals::Count;
@@ -20,30 +18,6 @@ use rules::Player;
 
 // The most numbers of a record.
 const MOST: usize = 1024;
-
-fn error_number(e: MoveError) -> u64 {
-    match e {
-        MoveError::OutOfBounds => 9,
-        MoveError::GameOver => 10,
-        MoveError::WonBoard => 11,
-        MoveError::WrongBoard => 12,
-        MoveError::NotEmpty => 13,
-    }
-}
-
-fn answer_number(a: Answer) -> u64 {
-    match a {
-        Answer::Accepted => 0,
-        Answer::Refused(e) => error_number(e),
-    }
-}
-
-fn player_number(p: Player) -> u64 {
-    match p {
-        Player::X => 0,
-        Player::O => 1,
-    }
-}
 
 fn player_of(n: u64) -> Player {
     if n == 0 { Player::X } else { Player::O }
@@ -129,7 +103,7 @@ fn run_moves(words: &[u64], from: usize, count: usize, start: Game) -> Run
     while k < count {
         let made = game.make_move(move_of(decimals::at(words, from + k)));
         let answer = made.answer;
-        if answer_number(answer) != decimals::at(words, from + count + k) {
+        if answer.number() != decimals::at(words, from + count + k) {
             good = false;
         }
         game = made.game;
@@ -209,10 +183,10 @@ fn same_numbers(words: &[u64], i: usize, g: Game) -> bool
     if g.zobrist() != decimals::at(words, i + 2) {
         return false;
     }
-    if records::state_number(g.game_state()) != decimals::at(words, i + 3) {
+    if g.game_state().number() != decimals::at(words, i + 3) {
         return false;
     }
-    if player_number(g.player()) != decimals::at(words, i + 4) {
+    if g.player().as_bit() as u64 != decimals::at(words, i + 4) {
         return false;
     }
     if next_number(g.board_to_play()) != decimals::at(words, i + 5) {

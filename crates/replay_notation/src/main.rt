@@ -3,11 +3,9 @@
 ghost use mathlib.Core.Path.{_≡_};
 ghost use Prim.Native.Nat.{_<_};
 ghost use lib.ListN.{length};
-use boards::Move;
 use decimals::Count;
 use game::Game;
 use input::Input;
-use notation::ErrorKind;
 use notation::MoveTextAnswer;
 use notation::ParseAnswer;
 use records::Outcome;
@@ -17,17 +15,6 @@ use status::Status;
 
 // The most numbers of a record.
 const MOST: usize = 1024;
-
-fn kind_number(e: ErrorKind) -> u64 {
-    match e {
-        ErrorKind::TooLong => 1,
-        ErrorKind::MissingSection => 2,
-        ErrorKind::BadPlayer => 3,
-        ErrorKind::TooFewSquares => 4,
-        ErrorKind::BadBoard => 5,
-        ErrorKind::TooShort => 6,
-    }
-}
 
 // How many bytes of text, or moves, a record has: the number at place 1.
 fn text_length(words: &[u64]) -> usize
@@ -86,7 +73,7 @@ fn same_refusal(words: &[u64], n: usize, text: &[u8]) -> bool
         ParseAnswer::Accepted => false,
         ParseAnswer::Refused(e) => {
             let why = e.why;
-            if kind_number(why) != decimals::at(words, n + 2) {
+            if why.number() != decimals::at(words, n + 2) {
                 return false;
             }
             if e.offset as u64 != decimals::at(words, n + 3) {
@@ -109,7 +96,7 @@ fn same_game(words: &[u64], n: usize, g: Game) -> bool
     if g.zobrist() != decimals::at(words, n + 104) {
         return false;
     }
-    if records::state_number(g.game_state()) != decimals::at(words, n + 105) {
+    if g.game_state().number() != decimals::at(words, n + 105) {
         return false;
     }
     g.bound_depth() as u64 == decimals::at(words, n + 106)
@@ -135,15 +122,12 @@ fn same_move(words: &[u64], n: usize, text: &[u8]) -> bool
     if m.bits as u64 != decimals::at(words, n + 4) {
         return false;
     }
+    if answer.number() != decimals::at(words, n + 2) {
+        return false;
+    }
     match answer {
-        MoveTextAnswer::Read => decimals::at(words, n + 2) == 0,
-        MoveTextAnswer::BadLength => decimals::at(words, n + 2) == 7,
-        MoveTextAnswer::BadCharacter(c) => {
-            if decimals::at(words, n + 2) != 8 {
-                return false;
-            }
-            c as u64 == decimals::at(words, n + 3)
-        }
+        MoveTextAnswer::BadCharacter(c) => c as u64 == decimals::at(words, n + 3),
+        _ => true,
     }
 }
 
@@ -172,26 +156,10 @@ fn same_byte(words: &[u64]) -> bool {
     same_set(Status::from_byte(s.bits), decimals::at(words, 2))
 }
 
-// The game after the moves of a record, from place 2 on.
-fn after_moves(words: &[u64], count: usize) -> Game
-    requires { ⌜ count < 512 ⌝ }
-{
-    let mut game = Game::new();
-    let mut k: usize = 0;
-    while k < count {
-        let m = Move {
-            bits: (decimals::at(words, k + 2) % 256) as u8,
-        };
-        let made = game.make_move(m);
-        game = made.game;
-        k += 1;
-    }
-    game
-}
-
 fn same_text(words: &[u64]) -> bool {
     let n = text_length(words);
-    let g = after_moves(words, n);
+    let moves = text_bytes(words);
+    let g = Game::new().play_all(&moves[0..n]);
     if !reads_back(g) {
         return false;
     }

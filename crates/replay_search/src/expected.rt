@@ -7,27 +7,18 @@ use boards::Move;
 use decimals::Signed;
 use minimax::Ending;
 use minimax::Report;
-use minimax::SearchError;
 use minimax::Stats;
 use table::PLACES;
 
 // The numbers before the line.
 const HEAD: usize = 9;
 
-fn refusal_number(e: SearchError) -> u64 {
-    match e {
-        SearchError::Depth => 15,
-        SearchError::Allowance => 16,
-        SearchError::Words => 17,
-        SearchError::Spent => 18,
-    }
-}
-
+// 1 where the allowance stopped the search.
 fn ending_number(e: Ending) -> u64 {
     match e {
         Ending::Whole => 0,
         Ending::Stopped => 1,
-        Ending::Refused(why) => refusal_number(why),
+        Ending::Refused(why) => why.number(),
     }
 }
 

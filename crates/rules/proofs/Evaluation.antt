@@ -7,11 +7,11 @@ use Prim.Native.Nat.{ℕ, zero, suc, _+_, _*_, _^_, _≤_}
 use native.Mathlib.Omega.{arith}
 use lib.Dec.{T, ltb}
 use lib.ListN.{length}
-use lib.IntN.{ℤ, pos, negsuc, negℤ, negℤ-negℤ, _+ℤ_, _-ℤ_, natAbs}
+use lib.IntN.{ℤ, pos, negsuc, negℤ, negℤ-negℤ, natAbs}
 use lib.Signed.{_≤ℤ_, _<ℤ_}
 use Rattle.base.specs.Integers.{sum}
 use Rattle.base.proofs.Branch.{if-ind}
-use Rattle.base.proofs.Integers.{hi, lo, zarith, hi-neg, lo-neg, sm}
+use Rattle.base.proofs.Integers.{hi, lo, zarith, Within, within-abs, within-+, within-neg, within-pos, within-minus, times, within-sum}
 use Rattle.rules.specs.declared.Player.{Player}
 use Rattle.rules.specs.declared.Player.the-variants.{X, O}
 use Rattle.rules.specs.declared.GameState.{GameState}
@@ -49,44 +49,7 @@ pub other-side-negates : (draws : DrawWinner) (p : Position) → evaluate draws 
 unfolding evaluate
 other-side-negates draws p = ap (seen-by (other (p .turn))) (value-of-turned draws p (p .state)) ∙ seen-by-other (p .turn) (value-of draws p (p .state))
 
--- ---- within k of zero, as omega reads it
-abbrev pub Within : ℕ → ℤ → Type 0
-Within k z = (hi z ≤ k) × (lo z ≤ k)
-
-pub within-abs : (k : ℕ) (z : ℤ) → Within k z → natAbs z ≤ k
-unfolding hi lo
-within-abs k (pos n) h = h .0
-within-abs k (negsuc n) h = h .1
-
--- z as a difference a - b is within a and b
-halves-within : (z : ℤ) (a b : ℕ) → hi z + b ≡ lo z + a → (hi z ≤ a) × (lo z ≤ b)
-unfolding hi lo
-halves-within (pos n) a b e = (omega arith, omega arith)
-halves-within (negsuc n) a b e = (omega arith, omega arith)
-
-pub within-+ : (j k : ℕ) (a b : ℤ) → Within j a → Within k b → Within (j + k) (a +ℤ b)
-within-+ j k a b h q = let u = halves-within (a +ℤ b) (hi a + hi b) (lo a + lo b) (omega (arith, sm a b)) in (omega arith, omega arith)
-
-pub within-neg : (k : ℕ) (z : ℤ) → Within k z → Within k (negℤ z)
-within-neg k z h = (omega (arith, hi-neg z), omega (arith, lo-neg z))
-
-pub within-pos : (k n : ℕ) → n ≤ k → Within k (pos n)
-unfolding hi lo
-within-pos k n h = (h, omega arith)
-
-within-minus : (k a b : ℕ) → a ≤ k → b ≤ k → Within k (pos a -ℤ pos b)
-unfolding hi lo
-within-minus k a b h q = let u = halves-within (pos a -ℤ pos b) a b (omega (arith, sm (pos a) (negℤ (pos b)), hi-neg (pos b), lo-neg (pos b))) in (omega arith, omega arith)
-
-times : ℕ → ℕ → ℕ
-times zero k = 0
-times (suc n) k = k + times n k
-
-within-sum : {A : Type 0} (k : ℕ) (f : A → ℤ) → ((x : A) → Within k (f x)) → (xs : List A) → Within (times (length xs) k) (sum f xs)
-unfolding sum times
-within-sum k f h [] = within-pos 0 0 (omega arith)
-within-sum k f h (x ∷ xs) = within-+ k (times (length xs) k) (f x) (sum f xs) (h x) (within-sum k f h xs)
-
+-- ---- as a side sees it
 within-seen : (k : ℕ) (w : Player) (z : ℤ) → Within k z → Within k (seen-by w z)
 within-seen k X z h = h
 within-seen k O z h = within-neg k z h

@@ -1,7 +1,7 @@
 -- Sides, cells, the states of a board or of the game, and the eight lines.
 use mathlib.Core.Bool.{Bool, true, false, _&&_}
 use mathlib.Core.List.{List, [], _∷_}
-use Prim.Native.Nat.{ℕ}
+use Prim.Native.Nat.{ℕ, _+_}
 use Rattle.rules.specs.declared.Player.{Player}
 use Rattle.rules.specs.declared.Player.the-variants.{X, O}
 use Rattle.rules.specs.declared.CellState.{CellState}
@@ -65,6 +65,12 @@ abbrev pub same-state : GameState → GameState → Bool
 same-state InPlay g = in-play g
 same-state Drawn g = drawn g
 same-state (Won w) g = won-by w g
+
+-- the number that a list of numbers has for a state
+abbrev pub state-number : GameState → ℕ
+state-number InPlay = 0
+state-number Drawn = 1
+state-number (Won w) = 2 + side-number w
 
 -- ---- the numbers of the nine boards, and of the nine cells of a board, row by row
 abbrev pub nine : List ℕ

@@ -3,7 +3,7 @@
 // `self` by value, and the draw winner is an enum of its own.
 ghost use mathlib.Core.Path.{_≡_};
 ghost use mathlib.Core.Bool.{not};
-ghost use Rattle.rules.specs.Board.{other, side-number, in-play};
+ghost use Rattle.rules.specs.Board.{other, side-number, in-play, state-number};
 
 pub enum Player {
     X,
@@ -49,6 +49,20 @@ impl GameState {
             GameState::InPlay => false,
             GameState::Drawn => true,
             GameState::Won(_) => true,
+        }
+    }
+
+    // The number that a list of numbers has for it.
+    pub fn number(self) -> u64
+        ensures { λ r. ⌜ r ≡ state-number self ⌝ }
+    {
+        match self {
+            GameState::InPlay => 0,
+            GameState::Drawn => 1,
+            GameState::Won(who) => match who {
+                Player::X => 2,
+                Player::O => 3,
+            },
         }
     }
 }

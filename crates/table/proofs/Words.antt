@@ -1,16 +1,19 @@
 -- Words and what they say: a value is read back from its word, and an entry from its two words.
 use mathlib.Core.Path.{_≡_, refl, sym, ap, _∙_, subst}
-use mathlib.Core.Bool.{Bool, not, _&&_}
+use mathlib.Core.Bool.{Bool, true, false, not, _&&_}
 use mathlib.Core.Option.{Option, none, some}
 use Prim.Native.Nat.{ℕ, _+_, _-_, _/_, _%_, _≤_, _<_}
 use native.Mathlib.Omega.{arith}
 use lib.Dec.{T, leb, ltb, leb→le, le→leb, ltb→lt, lt→ltb, nltb→le}
-use lib.IntN.{ℤ, pos, negsuc}
-use lib.Signed.{leZ, _≤ℤ_, _<ℤ_, clashℤ}
+use lib.IntN.{ℤ, pos, negsuc, natAbs}
+use lib.Signed.{mag, leZ, ltZ, _≤ℤ_, _<ℤ_, clashℤ}
+use mir.Syntax.{w64}
+use mir.Val.{SFits}
 use Rattle.base.specs.Branch.{if_then_else_}
 use Rattle.base.proofs.Bool.{and→, →and, deny}
 use Rattle.base.proofs.Branch.{if-ind}
 use Rattle.base.proofs.Integers.{hi, lo, hi-le, lo-le, zarith}
+use Rattle.base.proofs.Signed.{reads, negative, natural}
 use Rattle.theory.specs.PlainMinimax.{lowest, highest}
 use Rattle.theory.specs.Table.{Entry, value-of, word-of, rest-of, entry-of}
 use Rattle.table.specs.declared.Bound.{Bound}
@@ -18,6 +21,13 @@ use Rattle.table.specs.declared.Bound.the-variants.{Exact, AtLeast, AtMo
 use Rattle.table.specs.Entries.{bound-number}
 
 -- ---- values
+module _ (z : ℤ) (f : SFits w64 z) where
+  pub negative-word : ltZ (reads z) (pos 0) ≡ true → 18446744073709551615 - mag z ≡ word-of z
+  negative-word e = subst (λ (y : ℤ). 18446744073709551615 - mag y ≡ word-of y) (sym (negative z f e)) refl
+
+  pub natural-word : ltZ (reads z) (pos 0) ≡ false → natAbs z ≡ word-of z
+  natural-word e = subst (λ (y : ℤ). natAbs y ≡ word-of y) (sym (natural z f e)) refl
+
 pub value-low : (w : ℕ) → w < 9223372036854775808 → value-of w ≡ pos w
 unfolding value-of
 value-low w h = if-ind (λ (z : ℤ). z ≡ pos w) (ltb w 9223372036854775808) _ _ (λ _. refl) (λ t. absurd (omega (arith, nltb→le w 9223372036854775808 t)))

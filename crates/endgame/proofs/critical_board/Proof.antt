@@ -5,7 +5,7 @@ use lib.Bits.{bitAnd}
 use lib.Count.{trailing-le}
 use borrow.Author.Tests.{not-true, not-false}
 use Rattle.game.specs.Meaning.{position-of}
-use Rattle.evaluation.proofs.Lines.{mask-at}
+use Rattle.lines.proofs.Masks.{mask-at}
 use Rattle.endgame.proofs.Sets.{set-lt, set-bit}
 use Rattle.endgame.proofs.Lacking.{any-lacks}
 use Rattle.endgame.proofs.Critical.{line-lacks-none, line-found, line-missed}

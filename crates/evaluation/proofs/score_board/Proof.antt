@@ -2,7 +2,7 @@
 use mathlib.Core.Path.{_∙_}
 use Rattle.rules.specs.Evaluation.{board-line}
 use Rattle.rules.proofs.Evaluation.{board-line-within}
-use Rattle.evaluation.proofs.Signed.{Held, held, held-fits, held-reads, plus}
+use Rattle.base.proofs.Signed.{Held, held, held-fits, held-reads, plus}
 use Rattle.evaluation.proofs.Lines.{eight}
 use Rattle.evaluation.proofs.Boards.{board-sum}
 use borrow.Author.Needs.{needs}

@@ -2,7 +2,7 @@
 use mathlib.Core.Path.{ap, _∙_}
 use lib.IntN.{negℤ}
 use Rattle.rules.proofs.Evaluation.{board-line-within}
-use Rattle.evaluation.proofs.Signed.{result, Held, held-fits, held-reads, minus}
+use Rattle.base.proofs.Signed.{result, Held, held-fits, held-reads, minus}
 use Rattle.evaluation.proofs.Lines.{line-x, line-o, line-both}
 use borrow.Author.Needs.{needs}
 use Rattle.evaluation.proofs.score_line.Statement.{statement}

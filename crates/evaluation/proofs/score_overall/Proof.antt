@@ -3,8 +3,8 @@ use mathlib.Core.Path.{_∙_}
 use mathlib.Core.Logic.{⊎-elim}
 use native.Mathlib.Omega.{arith}
 use Rattle.evaluation.specs.Values.{value-at}
-use Rattle.evaluation.proofs.Signed.{Held, held-wide, held-fits, held-reads, held-small, plus}
-use Rattle.evaluation.proofs.Lines.{place-at, place-low}
+use Rattle.base.proofs.Signed.{Held, held-wide, held-fits, held-reads, held-small, plus}
+use Rattle.lines.proofs.Masks.{place-at, place-low}
 use Rattle.evaluation.proofs.Overall.{overall-both, overall-x, overall-o}
 use borrow.Author.Needs.{needs}
 use Rattle.evaluation.proofs.score_overall.Statement.{statement}

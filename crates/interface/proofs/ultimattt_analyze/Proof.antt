@@ -52,8 +52,8 @@ new-requires c κs = search needs
 put-requires : tie.Need-put-requires
 put-requires c κs = c .before .before .before .before .before .before .before .before .before .before .before .before .before .before .before .if4 .left
 
-ending-number-requires : tie.Need-ending-number-requires
-ending-number-requires c κs = search needs
+number-requires : tie.Need-number-requires
+number-requires c κs = search needs
 
 same-length : tie.Need-same-length
 same-length c = search needs
@@ -85,7 +85,7 @@ returns-5 c =
     (play .play-all .result) (play .play-all .ensures ∙ ap (λ (g : Game). games-after g (s .moves .now)) (game .game-from .ensures))
     (draws .draws-from .result) (draws .draws-from .ensures) (memory .memory .result) (memory .memory .ensures .0) (memory .memory .ensures .1)
     (search .analyze .result) (search .analyze .last .1 .1 .1 .0) (search .analyze .ensures)
-    (new .new .result) (new .new .ensures) _ _ _ (kept .put-memory .ensures) (put .put .ensures) (c .ending-number .ensures)
+    (new .new .result) (new .new .ensures) _ _ _ (kept .put-memory .ensures) (put .put .ensures) (c .number .ensures)
 
 pub ultimattt-analyze-spec : {M : Type 1} → statement M
 ultimattt-analyze-spec =
@@ -104,7 +104,7 @@ ultimattt-analyze-spec =
     put-memory-requires
     new-requires
     put-requires
-    ending-number-requires
+    number-requires
     same-length
     same-length-2
     same-length-3

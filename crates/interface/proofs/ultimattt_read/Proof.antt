@@ -32,8 +32,8 @@ slice-aggregate-put c = search needs
 put-requires-2 : tie.Need-put-requires-2
 put-requires-2 c κs = search needs
 
-read-number-requires : tie.Need-read-number-requires
-read-number-requires c κs = search needs
+number-requires : tie.Need-number-requires
+number-requires c κs = search needs
 
 same-length : tie.Need-same-length
 same-length c = search needs
@@ -43,9 +43,15 @@ same-length-2 c = search needs
 
 returns-3 : tie.Need-returns-3
 returns-3 c =
-    let s = c .before .before .before .before .before .before .before .before .before .before .before .before .before .before .before .before .before .args in
-    reads-well (s .text .now) (s .position .now) (s .place .now) _ _ _ _ (c .before .before .before .before .before .before .before .before .before .before .before .parse .ensures) (c .before .before .before .before .before .before .before .before .before .before .before .before .before .if1 .left) (c .before .before .before .before .before .before .before .before .before .before .before .before .if2 .left) (c .before .before .before .before .before .before .before .before .before .put .ensures)
-    (c .before .before .before .put2 .ensures ∙ ap (sets (s .place .now) 0) (c .before .before .before .before .before .place .ensures)) (c .read-number .ensures)
+    let written = c .before .before .before in
+    let place = written .before .before in
+    let put = place .before .before .before .before in
+    let parse = put .before .before in
+    let i2 = parse .before in
+    let i1 = i2 .before in
+    let s = i1 .before .before .before .before .args in
+    reads-well (s .text .now) (s .position .now) (s .place .now) _ _ _ _ (parse .parse .ensures) (i1 .if1 .left) (i2 .if2 .left)
+    (put .put .ensures) (written .put2 .ensures ∙ ap (sets (s .place .now) 0) (place .place .ensures)) (c .number .ensures)
 
 pub ultimattt-read-spec : {M : Type 1} → statement M
 ultimattt-read-spec =
@@ -58,7 +64,7 @@ ultimattt-read-spec =
     place-requires
     slice-aggregate-put
     put-requires-2
-    read-number-requires
+    number-requires
     same-length
     same-length-2
     returns-3)

@@ -1,6 +1,5 @@
 -- 14 comes first; else the status is the analysis's, and the report the search's.
 use mathlib.Core.Path.{sym, ap, _∙_}
-use Rattle.endgame.specs.Means.{made-number}
 use Rattle.out.specs.OutBytes.{out-of}
 use Rattle.line.proofs.Answered.{position-refused, position-searched}
 use borrow.Author.Needs.{needs}
@@ -10,19 +9,18 @@ use Rattle.line.proofs.position.Tie as tie
 new-requires : tie.Need-new-requires
 new-requires c κs = search needs
 
-enum-told : tie.Need-enum-told
-enum-told c = search needs
-
-enum-told-2 : tie.Need-enum-told-2
-enum-told-2 c = search needs
+number-requires : tie.Need-number-requires
+number-requires c κs = search needs
 
 refused-requires : tie.Need-refused-requires
 refused-requires c κs = search needs
 
 returns : tie.Need-returns
 returns c =
-    let s = c .before .before .before .before in
-    c .refused .ensures ∙ ap out-of (position-refused _ (s .args .depth) (sym (ap made-number (c .before .enum-told2 .given .1)) ∙ c .before .before .before .new .ensures .refusal))
+    let made = c .before .before in
+    let s = made .before .before in
+    let is = made .number .ensures ∙ made .before .new .ensures .refusal in
+    c .refused .ensures ∙ ap out-of (position-refused _ (s .args .depth) _ is (c .before .if1 .taken))
 
 status-requires : tie.Need-status-requires
 status-requires c κs = search needs
@@ -35,17 +33,20 @@ reported-requires c κs = search needs
 
 returns-2 : tie.Need-returns-2
 returns-2 c =
-    let s = c .before .before .before .before .before .before in
-    let n = c .before .before .before .before .before .new .ensures in
-    c .reported .ensures ∙ ap out-of (position-searched _ (s .args .depth) _ _ (sym (ap made-number (c .before .before .before .enum-told .given .1)) ∙ n .refusal) (c .before .before .status .ensures ∙ n .status) (c .before .search .ensures))
+    let status = c .before .before in
+    let if-not = status .before in
+    let made = if-not .before in
+    let n = made .before .new .ensures in
+    let s = made .before .before in
+    let is-0 = sym (made .number .ensures ∙ n .refusal) ∙ if-not .if1 .left in
+    c .reported .ensures ∙ ap out-of (position-searched _ (s .args .depth) _ _ (sym is-0) (status .status .ensures ∙ n .status) (c .before .search .ensures))
 
 pub position-spec : {M : Type 1} → statement M
 position-spec =
     tie.close
     (tie.spec
     new-requires
-    enum-told
-    enum-told-2
+    number-requires
     refused-requires
     returns
     status-requires

@@ -11,8 +11,8 @@ use borrow.Author.Needs.{needs}
 use Rattle.line.proofs.reported.Statement.{statement}
 use Rattle.line.proofs.reported.Tie as tie
 
-ending-number-requires : tie.Need-ending-number-requires
-ending-number-requires c κs = search needs
+number-requires : tie.Need-number-requires
+number-requires c κs = search needs
 
 refused-requires : tie.Need-refused-requires
 refused-requires c κs = search needs
@@ -20,7 +20,9 @@ refused-requires c κs = search needs
 returns : tie.Need-returns
 returns c =
     let s = c .before .before .before in
-    c .refused .ensures ∙ ap out-of (ap refusal-text (c .before .before .ending-number .ensures) ∙ report-refused (set-of (s .args .status)) _ (report-of (s .args .report) []) (λ e. c .before .if1 .taken (c .before .before .ending-number .ensures ∙ e)))
+    let n = c .before .before .number .ensures in
+    c .refused .ensures ∙ ap out-of (ap refusal-text n
+    ∙ report-refused (set-of (s .args .status)) _ (report-of (s .args .report) []) (λ e. c .before .if1 .taken (n ∙ e)))
 
 legal-moves-requires : tie.Need-legal-moves-requires
 legal-moves-requires c κs = search needs
@@ -33,13 +35,14 @@ returns-2 c =
     let b = c .before .before .before .before .before in
     let a = b .before .args in
     report-answered (set-of (a .status)) _ (report-of (a .report) []) _ _ _ (c .before .before .before .legal-moves .ensures)
-    (back (a .report .score) (record { sfits = c .before .struct-told .given .1 .1 .1 .0 .1 })) (sym (b .ending-number .ensures) ∙ c .before .before .before .before .if1 .left) (c .answer .ensures)
+    (back (a .report .score) (record { sfits = c .before .struct-told .given .1 .1 .1 .0 .1 }))
+    (sym (b .number .ensures) ∙ c .before .before .before .before .if1 .left) (c .answer .ensures)
 
 pub reported-spec : {M : Type 1} → statement M
 reported-spec =
     tie.close
     (tie.spec
-    ending-number-requires
+    number-requires
     refused-requires
     returns
     legal-moves-requires

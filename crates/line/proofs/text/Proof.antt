@@ -14,8 +14,8 @@ parse-requires c κs = search needs
 enum-known-answer : tie.Need-enum-known-answer
 enum-known-answer c = search needs
 
-parse-number-requires : tie.Need-parse-number-requires
-parse-number-requires c κs = search needs
+number-requires : tie.Need-number-requires
+number-requires c κs = search needs
 
 refused-requires : tie.Need-refused-requires
 refused-requires c κs = search needs
@@ -28,7 +28,7 @@ position-requires c κs = text-game _ _ (c .before .before .parse .ensures) (c .
 
 returns : tie.Need-returns
 returns c =
-    c .refused .ensures ∙ ap (λ (n : ℕ). out-of (refusal-text n)) (c .before .parse-number .ensures)
+    c .refused .ensures ∙ ap (λ (n : ℕ). out-of (refusal-text n)) (c .before .number .ensures)
     ∙ ap out-of (text-refused _ _ (c .before .before .before .before .before .parse .ensures) _ (c .before .before .before .answer .given .1) _)
 
 returns-2 : tie.Need-returns-2
@@ -40,7 +40,7 @@ text-spec =
     (tie.spec
     parse-requires
     enum-known-answer
-    parse-number-requires
+    number-requires
     refused-requires
     enum-told
     position-requires

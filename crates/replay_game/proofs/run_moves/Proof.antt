@@ -25,8 +25,8 @@ move-of-requires c κs = search needs
 make-move-requires : tie.Need-make-move-requires Inv-loop μ-loop
 make-move-requires c κs = search needs
 
-answer-number-requires : tie.Need-answer-number-requires Inv-loop μ-loop
-answer-number-requires c κs = search needs
+number-requires : tie.Need-number-requires Inv-loop μ-loop
+number-requires c κs = search needs
 
 add-at-2 : tie.Need-add-at-2 Inv-loop μ-loop
 add-at-2 c = search needs
@@ -60,7 +60,7 @@ run-moves-spec =
     at-requires
     move-of-requires
     make-move-requires
-    answer-number-requires
+    number-requires
     add-at-2
     add-at-3
     at-requires-2

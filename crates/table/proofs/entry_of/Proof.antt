@@ -4,8 +4,7 @@ use native.Mathlib.Omega.{arith}
 use mir.Syntax.{w64}
 use mir.Val.{toZ, ofZ}
 use Rattle.theory.specs.Table.{value-of}
-use Rattle.base.proofs.Signed.{back}
-use Rattle.table.proofs.Signed.{less, not-less}
+use Rattle.base.proofs.Signed.{back, less, not-less}
 use Rattle.table.proofs.Words.{bound-number-most, absent, absent-low, absent-high, present, same-entry}
 use borrow.Author.Needs.{needs}
 use Rattle.table.proofs.entry_of.Statement.{statement}

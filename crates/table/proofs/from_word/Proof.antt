@@ -2,8 +2,7 @@
 use mathlib.Core.Path.{sym, _∙_}
 use Prim.Native.Nat.{_-_}
 use native.Mathlib.Omega.{arith}
-use Rattle.base.proofs.Signed.{back, low-word, minus-fits}
-use Rattle.table.proofs.Signed.{minus-one-more}
+use Rattle.base.proofs.Signed.{back, low-word, minus-fits, minus-one-more}
 use Rattle.table.proofs.Words.{value-low, value-high}
 use borrow.Author.Needs.{needs}
 use Rattle.table.proofs.from_word.Statement.{statement}

@@ -3,7 +3,7 @@ use mathlib.Core.Path.{_≡_, sym, ap}
 use native.Mathlib.Omega.{arith}
 use lib.ListN.{length, set, length-map}
 use lib.Seq.{set-out}
-use Rattle.evaluation.proofs.Signed.{result8}
+use Rattle.base.proofs.Signed.{result8}
 use borrow.Author.Needs.{needs}
 use Rattle.evaluation.proofs.Values.after.Statement.{statement}
 use Rattle.evaluation.proofs.Values.after.Tie as tie

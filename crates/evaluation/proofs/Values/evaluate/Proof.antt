@@ -2,9 +2,9 @@
 use mathlib.Core.Path.{ap, _∙_}
 use lib.IntN.{negℤ}
 use Rattle.rules.specs.declared.Player.the-variants.{X, O}
-use Rattle.rules.proofs.Evaluation.{within-neg}
+use Rattle.base.proofs.Integers.{within-neg}
 use Rattle.game.specs.Meaning.{position-of}
-use Rattle.evaluation.proofs.Signed.{result, Held, held-promised, held-fits, held-reads, minus}
+use Rattle.base.proofs.Signed.{result, Held, held-promised, held-fits, held-reads, minus}
 use Rattle.evaluation.proofs.Ends.{eval-ended, eval-open}
 use borrow.Author.Needs.{needs}
 use Rattle.evaluation.proofs.Values.evaluate.Statement.{statement}

@@ -2,7 +2,7 @@
 use mathlib.Core.Path.{refl, ap₂}
 use mathlib.Core.List.{_∷_}
 use Rattle.evaluation.specs.Values.{values-of}
-use Rattle.evaluation.proofs.Signed.{result8}
+use Rattle.base.proofs.Signed.{result8}
 use borrow.Author.Needs.{needs}
 use Rattle.evaluation.proofs.Values.new.Statement.{statement}
 use Rattle.evaluation.proofs.Values.new.Tie as tie

@@ -2,7 +2,7 @@
 use mathlib.Core.Path.{_∙_}
 use Rattle.game.specs.Meaning.{position-of}
 use Rattle.evaluation.specs.Values.{overall-value}
-use Rattle.evaluation.proofs.Signed.{Held, held-promised, held-fits, held-reads, held-small, plus}
+use Rattle.base.proofs.Signed.{Held, held-promised, held-fits, held-reads, held-small, plus}
 use Rattle.evaluation.proofs.Lines.{eight}
 use Rattle.evaluation.proofs.Overall.{score-bits}
 use borrow.Author.Needs.{needs}

@@ -1,12 +1,14 @@
 -- The moves left, tried from where the loop stands, lead where the whole list leads, and their answers complete the list's.
 use mathlib.Core.Path.{_≡_, refl, sym, ap, _∙_}
 use Prim.Native.Nat.{_+_, _-_}
+use native.Mathlib.Omega.{arith}
 use lib.ListN.{length, drop, length-set}
 use lib.Seq.{sets}
 use denote.Ref.{now}
 use Rattle.game.specs.declared.Game.{Game}
 use Rattle.game.specs.After.{games-after}
-use Rattle.demands.proofs.Lists.{games-more, games-all}
+use Rattle.boards.proofs.Answers.{answer-most}
+use Rattle.game.proofs.Played.{games-more, games-all}
 use Rattle.interface.specs.Calls.{answers-to}
 use Rattle.interface.proofs.TriedMoves.{answers-next, answers-end}
 use borrow.Author.Needs.{needs}
@@ -28,8 +30,11 @@ shared-slice-read-answers c = search needs
 make-move-requires : tie.Need-make-move-requires Inv-loop μ-loop
 make-move-requires c κs = search needs
 
-answer-number-requires : tie.Need-answer-number-requires Inv-loop μ-loop
-answer-number-requires c κs = search needs
+number-requires : tie.Need-number-requires Inv-loop μ-loop
+number-requires c κs = search needs
+
+cast-answers : tie.Need-cast-answers Inv-loop μ-loop
+cast-answers c = record { fits = omega (arith, c .number .ensures, answer-most (c .before .make-move .result .answer)) }
 
 slice-write-answers : tie.Need-slice-write-answers Inv-loop μ-loop
 slice-write-answers c = search needs
@@ -46,7 +51,13 @@ loop-again c =
     let ms = c .before .before .before .before .before .before .before .before .args .moves .now in
     let made = c .before .before .make-move in
     let h = c .before .before .before .before .loop-test .taken in
-    (refl, simp length-set (l .inv .1), ap (λ (g : Game). games-after g (drop (l .i + 1) ms)) (made .ensures .exact) ∙ games-more (l .game) ms (l .i) 0 h ∙ l .inv .2, answers-next (l .answers) ms (l .game) _ (l .i) _ h (c .before .answer-number .ensures ∙ made .ensures .number) (made .ensures .exact) ∙ l .inv .3)
+    let more = games-more (l .game) ms (l .i) 0 h in
+    let said = c .before .number .ensures ∙ made .ensures .number in (
+      refl,
+      simp length-set (l .inv .1),
+      ap (λ (g : Game). games-after g (drop (l .i + 1) ms)) (made .ensures .exact) ∙ more ∙ l .inv .2,
+      answers-next (l .answers) ms (l .game) _ (l .i) _ h said (made .ensures .exact) ∙ l .inv .3,
+    )
 
 same-length : tie.Need-same-length Inv-loop μ-loop
 same-length c = search needs
@@ -66,7 +77,8 @@ play-spec =
     loop-holds
     shared-slice-read-answers
     make-move-requires
-    answer-number-requires
+    number-requires
+    cast-answers
     slice-write-answers
     add-i
     loop-less

@@ -54,14 +54,14 @@ as-bit-requires c κs = search needs
 due-word-requires : tie.Need-due-word-requires
 due-word-requires c κs = search needs
 
-state-number-requires : tie.Need-state-number-requires
-state-number-requires c κs = search needs
+number-requires : tie.Need-number-requires
+number-requires c κs = search needs
 
 returns : tie.Need-returns
 returns c =
     let s = c .before .before .before .before .before .before .before .before .before .before .before .before .before .before in
     let n : length (s .args .game .«local_boards» .rows) ≡ 3 = simp length-map at (s .good .0 .1 .1 .1 .1 .0 .1 .1 .0 .1 .0 .1) in
-    words-made (s .args .game) _ _ _ _ _ _ _ _ _ n (c .before .before .before .before .before .before .before .before .before .before .wide .ensures) (c .before .before .before .before .before .before .before .before .before .wide2 .ensures) (c .before .before .before .before .before .before .before .before .wide3 .ensures) (c .before .before .before .before .before .before .before .wide4 .ensures) (c .before .before .before .before .before .before .wide5 .ensures) (c .before .before .before .before .before .wide6 .ensures) (c .before .before .as-bit .ensures) (c .before .due-word .ensures) (c .state-number .ensures)
+    words-made (s .args .game) _ _ _ _ _ _ _ _ _ n (c .before .before .before .before .before .before .before .before .before .before .wide .ensures) (c .before .before .before .before .before .before .before .before .before .wide2 .ensures) (c .before .before .before .before .before .before .before .before .wide3 .ensures) (c .before .before .before .before .before .before .before .wide4 .ensures) (c .before .before .before .before .before .before .wide5 .ensures) (c .before .before .before .before .before .wide6 .ensures) (c .before .before .as-bit .ensures) (c .before .due-word .ensures) (c .number .ensures)
 
 pub words-of-spec : {M : Type 1} → statement M
 words-of-spec =
@@ -83,5 +83,5 @@ words-of-spec =
     cast-t33
     as-bit-requires
     due-word-requires
-    state-number-requires
+    number-requires
     returns)

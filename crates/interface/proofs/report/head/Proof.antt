@@ -11,8 +11,8 @@ use Rattle.interface.proofs.report.head.Tie as tie
 status-requires : tie.Need-status-requires
 status-requires c κs = search needs
 
-ending-number-requires : tie.Need-ending-number-requires
-ending-number-requires c κs = search needs
+number-requires : tie.Need-number-requires
+number-requires c κs = search needs
 
 stopped-requires : tie.Need-stopped-requires
 stopped-requires c κs = search needs
@@ -20,8 +20,8 @@ stopped-requires c κs = search needs
 to-word-requires : tie.Need-to-word-requires
 to-word-requires c κs = search needs
 
-made-number-requires : tie.Need-made-number-requires
-made-number-requires c κs = search needs
+number-requires-2 : tie.Need-number-requires-2
+number-requires-2 c κs = search needs
 
 cast-t10 : tie.Need-cast-t10
 cast-t10 c = search needs
@@ -29,18 +29,18 @@ cast-t10 c = search needs
 returns : tie.Need-returns
 returns c =
     let s = c .before .before .before .before .before .before .before .args .found .score in
-    seven _ _ _ _ _ _ _ _ _ _ _ _ (c .before .before .before .before .before .ending-number .ensures) (c .before .before .before .before .stopped .ensures)
+    seven _ _ _ _ _ _ _ _ _ _ _ _ (c .before .before .before .before .before .number .ensures) (c .before .before .before .before .stopped .ensures)
     (c .before .before .to-word .ensures ∙ ap word-of (back s (record { sfits = c .before .before .before .struct-told .given .1 .1 .1 .0 .1 })))
-    (c .before .made-number .ensures) (ap (λ (s : Status). s .bits) (c .before .before .before .before .before .before .status .ensures))
+    (c .before .number2 .ensures) (ap (λ (s : Status). s .bits) (c .before .before .before .before .before .before .status .ensures))
 
 pub head-spec : {M : Type 1} → statement M
 head-spec =
     tie.close
     (tie.spec
     status-requires
-    ending-number-requires
+    number-requires
     stopped-requires
     to-word-requires
-    made-number-requires
+    number-requires-2
     cast-t10
     returns)

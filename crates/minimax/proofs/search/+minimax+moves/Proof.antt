@@ -11,7 +11,7 @@ use mir.Val.{toZ}
 use denote.Ref.{now}
 use Rattle.order.specs.Order.{walk-left}
 use Rattle.minimax.specs.declared.search.Found.{Found}
-use Rattle.evaluation.proofs.Signed.{result}
+use Rattle.base.proofs.Signed.{result}
 use Rattle.minimax.proofs.Scores.{told}
 use Rattle.minimax.proofs.Entering.{Begun as Entering, Looked, Knows, Goes, may-enter, may-leaf, may-hit, may-suffice, stop-gives, leaf-gives, none-goes, known-gives, some-goes, goes-gives, goes-on}
 use Rattle.minimax.proofs.Turns.{stand, Turn, Begun, Held, Met, Brought, Raised, walk-shorter, words-long, may-raise, turn-first, turn-done, may-count, may-tell-leaf, leaf-below, stop-below, by-parts, under-asked, under-counted, under-lower, turn-stopped, score-within, cut-room, turn-not, turn-better, turn-cut}

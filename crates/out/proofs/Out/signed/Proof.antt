@@ -2,8 +2,7 @@
 use mathlib.Core.Path.{ap}
 use native.Mathlib.Omega.{arith}
 use lib.IntN.{natAbs}
-use Rattle.base.proofs.Signed.{back}
-use Rattle.table.proofs.Signed.{next-in, minus-next-in, minus-next-is, natural-word}
+use Rattle.base.proofs.Signed.{back, next-in, minus-next-in, minus-next-is, natural-fits}
 use Rattle.out.proofs.Signs.{negative-added, natural-added}
 use borrow.Author.Needs.{needs}
 use Rattle.out.proofs.Out.signed.Statement.{statement}
@@ -34,7 +33,7 @@ returns c =
     (c .before .push .ensures) (c .decimal .ensures)
 
 cast-decimal : tie.Need-cast-decimal
-cast-decimal c = rw (back (c .before .args .n) (c .before .fits .n)) (natural-word (c .before .args .n) (c .before .fits .n) (c .if1 .left) .0)
+cast-decimal c = rw (back (c .before .args .n) (c .before .fits .n)) (natural-fits (c .before .args .n) (c .before .fits .n) (c .if1 .left))
 
 decimal-requires-2 : tie.Need-decimal-requires-2
 decimal-requires-2 c κs = search needs

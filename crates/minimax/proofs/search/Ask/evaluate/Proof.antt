@@ -2,7 +2,7 @@
 use mathlib.Core.Path.{ap, _∙_}
 use Rattle.game.specs.Meaning.{position-of}
 use Rattle.evaluation.specs.Values.{evaluate-by}
-use Rattle.evaluation.proofs.Signed.{result}
+use Rattle.base.proofs.Signed.{result}
 use Rattle.evaluation.proofs.Overall.{by-values}
 use borrow.Author.Needs.{needs}
 use Rattle.minimax.proofs.search.Ask.evaluate.Statement.{statement}

@@ -2,7 +2,7 @@
 use mathlib.Core.Path.{ap}
 use lib.IntN.{ℤ}
 use mathlib.Core.Bool.{false}
-use Rattle.evaluation.proofs.Signed.{result}
+use Rattle.base.proofs.Signed.{result}
 use borrow.Author.Needs.{needs}
 use Rattle.minimax.proofs.search.Ask.evaluated.Statement.{statement}
 use Rattle.minimax.proofs.search.Ask.evaluated.Tie as tie

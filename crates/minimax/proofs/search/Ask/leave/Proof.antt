@@ -1,7 +1,7 @@
 -- Nothing is stored after a stop; else the entry has the score, its bound and the line's first move.
 use mathlib.Core.Path.{refl}
 use Rattle.minimax.proofs.Outcomes.{told-nothing, told-found}
-use Rattle.evaluation.proofs.Signed.{reads}
+use Rattle.base.proofs.Signed.{reads}
 use Rattle.minimax.proofs.Scores.{told}
 use borrow.Author.Needs.{needs}
 use Rattle.minimax.proofs.search.Ask.leave.Statement.{statement}

@@ -3,12 +3,12 @@ use mathlib.Core.Path.{_≡_, refl, sym, ap, _∙_}
 use Prim.Native.Nat.{_+_, _-_}
 use lib.ListN.{length, drop}
 use denote.Ref.{now}
 use Rattle.game.specs.declared.Game.{Game}
 use Rattle.game.specs.After.{games-after}
-use Rattle.demands.proofs.Lists.{games-more, games-all}
+use Rattle.game.proofs.Played.{games-more, games-all}
 use borrow.Author.Needs.{needs}
-use Rattle.interface.proofs.position.play_all.Statement.{statement}
-use Rattle.interface.proofs.position.play_all.Tie as tie
+use Rattle.game.proofs.Game.play_all.Statement.{statement}
+use Rattle.game.proofs.Game.play_all.Tie as tie
 
 abbrev Inv-loop : tie.InvT-loop
 Inv-loop moves game₀ i₀ i-end game i = (i-end ≡ length moves) × (games-after game (drop i moves) ≡ games-after game₀ moves)
@@ -35,7 +35,8 @@ loop-again : tie.Need-loop-again Inv-loop μ-loop
 loop-again c =
     let l = c .before .before .before .before .loop in
     let ms = c .before .before .before .before .before .before .args .moves .now in
-    (refl, ap (λ (g : Game). games-after g (drop (l .i + 1) ms)) (c .before .make-move .ensures .exact) ∙ games-more (l .game) ms (l .i) 0 (c .before .before .before .loop-test .taken) ∙ l .inv .1)
+    let more = games-more (l .game) ms (l .i) 0 (c .before .before .before .loop-test .taken) in
+    (refl, ap (λ (g : Game). games-after g (drop (l .i + 1) ms)) (c .before .make-move .ensures .exact) ∙ more ∙ l .inv .1)
 
 returns : tie.Need-returns Inv-loop μ-loop
 returns c =
