@@ -15,8 +15,9 @@ use Rattle.base.proofs.Agree.{any-same, all-same, false-by}
 use Rattle.base.proofs.Bool.{deny, always}
 use Rattle.base.proofs.Every.{sameB, sameB-eq}
 use Rattle.rules.specs.declared.Player.{Player}
+use Rattle.rules.specs.declared.NextBoard.the-variants.{Any, Only}
 use Rattle.rules.specs.Board.{other, nine, has-line}
-use Rattle.rules.specs.Position.{free, at, Position, open-board, won-boards, free-cell}
+use Rattle.rules.specs.Position.{Position, open-board, won-boards, free-cell}
 use Rattle.rules.specs.Play.{board-of, cell-of}
 use Rattle.rules.specs.Sound.{sound}
 use Rattle.rules.specs.Status.{unproven, for-player}
@@ -72,11 +73,11 @@ module _ (p : Position) where
   no-attack e = rw e
 
   module _ (e : has-critical p (p .turn) ≡ true) where
-    pub attack-free : p .due ≡ free → true ≡ prove-attacker p
+    pub attack-free : p .due ≡ Any → true ≡ prove-attacker p
     unfolding prove-attacker attack
     attack-free d = rw (e, d)
 
-    module _ (b : ℕ) (d : p .due ≡ at b) where
+    module _ (b : ℕ) (d : p .due ≡ Only b) where
       attack-at : (r : Bool) → critical p (p .turn) b ≡ r → (r || any (lure p (p .turn) b) nine) ≡ prove-attacker p
       unfolding prove-attacker attack
       attack-at r c = sym (rw e (ap (attack p (p .turn)) d) ∙ ap (λ (x : Bool). x || any (lure p (p .turn) b) nine) c)
@@ -112,11 +113,11 @@ module _ (p : Position) where
   no-threat e = rw e
 
   module _ (e : has-critical p (other (p .turn)) ≡ true) where
-    pub not-forced : p .due ≡ free → false ≡ forced-loss p
+    pub not-forced : p .due ≡ Any → false ≡ forced-loss p
     unfolding forced-loss forced
     not-forced d = rw (e, d)
 
-    module _ (b : ℕ) (d : p .due ≡ at b) where
+    module _ (b : ℕ) (d : p .due ≡ Only b) where
       forced-at : (r : Bool) → critical p (other (p .turn)) b ≡ r → (not r && all-suit p (other (p .turn)) b) ≡ forced-loss p
       unfolding forced-loss forced
       forced-at r c = sym (rw e (ap (forced p (other (p .turn))) d) ∙ ap (λ (x : Bool). not x && all-suit p (other (p .turn)) b) c)

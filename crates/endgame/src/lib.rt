@@ -25,7 +25,7 @@ use boards::MoveError;
 use boards::WIN_MASKS;
 use boards::has_line;
 use game::Game;
-use game::NextBoard;
+use rules::NextBoard;
 use rules::Player;
 use status::Read;
 use status::Status;

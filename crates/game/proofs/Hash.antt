@@ -8,6 +8,8 @@ use Rattle.base.specs.Branch.{if_then_else_}
 use Rattle.base.proofs.Bool.{is}
 use Rattle.rules.specs.declared.Player.{Player}
 use Rattle.rules.specs.declared.GameState.{GameState}
+use Rattle.rules.specs.declared.NextBoard.{NextBoard}
+use Rattle.rules.specs.declared.NextBoard.the-variants.{Any, Only}
 use Rattle.rules.specs.Play.{board-of, cell-of, accepts}
 use Rattle.rules.specs.Hash.{cell-key, due-key, player-key, xors, cells-hash, board-hash, hash, hash-after, with-turn, zobrist}
 use Rattle.rules.specs.Keys.{due-keys}
@@ -16,19 +18,17 @@ use Rattle.rules.proofs.Play.{accepts→}
 use Rattle.boards.specs.declared.local.LocalBoards.{LocalBoards}
 use Rattle.boards.specs.declared.states.GlobalStates.{GlobalStates}
 use Rattle.game.specs.declared.Game.{Game}
-use Rattle.game.specs.declared.NextBoard.{NextBoard}
-use Rattle.game.specs.declared.NextBoard.the-variants.{Any, Only}
-use Rattle.game.specs.Meaning.{due-of, position-of}
+use Rattle.game.specs.Meaning.{position-of}
 use Rattle.game.specs.After.{after-move, game-after}
 use Rattle.game.specs.Built.{new-game, packed, recalculated}
 use Rattle.game.proofs.Meaning.{after-move-means, game-accepted, game-refused, new-game-means}
 
 module _ (n : NextBoard) (w : Player) (k : ℕ) (e : k ≡ player-key w) where
-  pub turn-any : n ≡ Any → k ≡ bitXor (due-key (due-of n)) (player-key w)
+  pub turn-any : n ≡ Any → k ≡ bitXor (due-key n) (player-key w)
   unfolding due-key
   turn-any f = rw f (e ∙ sym (xor-zero-l (player-key w)))
 
-  pub turn-only : (b j : ℕ) → n ≡ Only b → j ≡ getD due-keys b 0 → bitXor j k ≡ bitXor (due-key (due-of n)) (player-key w)
+  pub turn-only : (b j : ℕ) → n ≡ Only b → j ≡ getD due-keys b 0 → bitXor j k ≡ bitXor (due-key n) (player-key w)
   unfolding due-key
   turn-only b j f d = rw f (ap₂ bitXor d e)
 

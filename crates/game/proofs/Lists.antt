@@ -15,8 +15,9 @@ use Rattle.base.proofs.Agree.{same-by}
 use Rattle.base.proofs.Bool.{and→, →and}
 use Rattle.base.proofs.Digits.{bit-and, bit-shr, bit-nought, bit-pow}
 use Rattle.base.proofs.Numbers.{digits-lt, bit-digits, is-digits, digits-same, shl-one}
+use Rattle.rules.specs.declared.NextBoard.the-variants.{Any, Only}
 use Rattle.rules.specs.Board.{blank}
-use Rattle.rules.specs.Position.{free, at, Position, going, open-board, free-cell}
+use Rattle.rules.specs.Position.{Position, going, open-board, free-cell}
 use Rattle.rules.specs.Play.{move-of, may, accepts}
 use Rattle.rules.specs.Moves.{places, moves}
 use Rattle.rules.proofs.Play.{board-of-move, cell-of-move, Legal, accepts→, →accepts-at}
@@ -48,11 +49,11 @@ module _ (p : Position) where
   pub none-over : going p ≡ false → 0 ≡ digits playable 9
   none-over e = none (λ b h. ap (λ (s : Bool). s && (open-board p b && may (p .due) b)) e)
 
-  pub none-due : (d : ℕ) → p .due ≡ at d → 9 ≤ d → 0 ≡ digits playable 9
+  pub none-due : (d : ℕ) → p .due ≡ Only d → 9 ≤ d → 0 ≡ digits playable 9
   none-due d e h = none (λ b i. rw (e, ne-eqb d b (λ q. omega arith), and-false (open-board p b)) (and-false (going p)))
 
   module _ (n : ℕ) (o : going p ≡ true) (e : n ≡ digits (open-board p) 9) where
-    pub all-open : p .due ≡ free → n ≡ digits playable 9
+    pub all-open : p .due ≡ Any → n ≡ digits playable 9
     all-open f = e ∙ digits-same (open-board p) playable 9 (λ b i. rw (o, f) (sym (and-true (open-board p b))))
 
     one-digit : (d k : ℕ) → d < 9 → bit (1 * 2 ^ d % 4294967296) k ≡ eqb d k
@@ -62,7 +63,7 @@ module _ (p : Position) where
         go (yes q) = eq-eqb k d q ∙ sym (eq-eqb d k (sym q))
         go (no q) = ne-eqb k d q ∙ sym (ne-eqb d k (λ z. q (sym z)))
 
-    pub one-open : (d : ℕ) → p .due ≡ at d → d ≤ 8 → bitAnd n (1 * 2 ^ d % 4294967296) ≡ digits playable 9
+    pub one-open : (d : ℕ) → p .due ≡ Only d → d ≤ 8 → bitAnd n (1 * 2 ^ d % 4294967296) ≡ digits playable 9
     one-open d f h = is-digits playable 9 _
         (lt-of-le-of-lt (and-le-l n (1 * 2 ^ d % 4294967296)) (rw e (digits-lt (open-board p) 9)))
         (λ k i. bit-and n (1 * 2 ^ d % 4294967296) k ∙ ap₂ _&&_ (ap (λ (m : ℕ). bit m k) e ∙ bit-digits (open-board p) 9 k i) (one-digit d k (omega arith)) ∙ sym (rw (o, f)))

@@ -19,8 +19,10 @@ use Rattle.rules.specs.declared.CellState.{CellState}
 use Rattle.rules.specs.declared.CellState.the-variants.{Empty}
 use Rattle.rules.specs.declared.GameState.{GameState}
 use Rattle.rules.specs.declared.GameState.the-variants.{InPlay, Drawn, Won}
+use Rattle.rules.specs.declared.NextBoard.{NextBoard}
+use Rattle.rules.specs.declared.NextBoard.the-variants.{Any, Only}
 use Rattle.rules.specs.Board.{other, mine, blank, in-play, won-by, result}
-use Rattle.rules.specs.Position.{Due, free, at, Position, start, open-board, free-cell}
+use Rattle.rules.specs.Position.{Position, start, open-board, free-cell}
 use Rattle.rules.specs.Play.{board-of, cell-of, accepts, after, tried}
 use Rattle.rules.specs.Hash.{cell-keys, cell-key, board-key, cells-hash, hash-after}
 use Rattle.rules.proofs.Play.{same-position, accepts→, tried-accepted, tried-refused}
@@ -33,24 +35,18 @@ use Rattle.boards.specs.With.{with-cell, with-state}
 use Rattle.boards.specs.Rows.{row-cell, closing}
 use Rattle.boards.proofs.Cells.{cell-after, state-after}
 use Rattle.boards.proofs.Packed.{cell-in, cell-past-board, cell-past-cell, state-in, state-past}
-use Rattle.game.specs.declared.NextBoard.{NextBoard}
-use Rattle.game.specs.declared.NextBoard.the-variants.{Any, Only}
 use Rattle.game.specs.declared.Game.{Game}
-use Rattle.game.specs.Meaning.{due-of, position-of}
-use Rattle.game.specs.After.{next-board, after-move, game-after}
+use Rattle.game.specs.Meaning.{position-of}
+use Rattle.game.specs.After.{after-move, game-after}
 use Rattle.game.specs.Built.{no-boards, no-states, new-game, recalculated}
-
-pub due-again : (d : Due) → due-of (next-board d) ≡ d
-due-again free = refl
-due-again (at b) = refl
 
 -- the cell's board is due if it is in play
 module _ (s : GlobalStates) (c : ℕ) (ok : Bool) (e : ok ≡ in-play (state-at s c)) where
-  pub next-only : ok ≡ true → Only c ≡ next-board (if in-play (state-at s c) then (λ _. at c) else λ _. free)
+  pub next-only : ok ≡ true → Only c ≡ (if in-play (state-at s c) then (λ _. Only c) else λ _. Any)
   unfolding if_then_else_
   next-only f = rw (sym e ∙ f)
 
-  pub next-any : ok ≡ false → Any ≡ next-board (if in-play (state-at s c) then (λ _. at c) else λ _. free)
+  pub next-any : ok ≡ false → Any ≡ (if in-play (state-at s c) then (λ _. Only c) else λ _. Any)
   unfolding if_then_else_
   next-any f = rw (sym e ∙ f)
 
@@ -106,7 +102,7 @@ module _ (g : Game) (b c : ℕ) (n : length (g .«local_boards» .rows) ≡ 3) (
   unfolding after-move
   after-move-means = λ i. record {
     turn = after p b c .turn;
-    due = due-again (after p b c .due) i;
+    due = after p b c .due;
     cells = cells-made i;
     states = states-made i;
     state = after p b c .state;
@@ -115,7 +111,7 @@ module _ (g : Game) (b c : ℕ) (n : length (g .«local_boards» .rows) ≡ 3) (
   -- what the code works out, field by field, is the struct after the move
   module _ (v : Player) (next : NextBoard) (ls : LocalBoards) (s t : GameState) (ss : GlobalStates) (k h : ℕ)
       (e-player : v ≡ other w)
-      (e-next : next ≡ next-board (if in-play (state-at ss c) then (λ _. at c) else λ _. free))
+      (e-next : next ≡ (if in-play (state-at ss c) then (λ _. Only c) else λ _. Any))
       (e-boards : ls ≡ boards)
       (e-state : s ≡ result w (λ i. mine w (cell-at ls b i)) (λ i. blank (cell-at ls b i)))
       (e-states : ss ≡ with-state (g .«global_states») b s)
@@ -128,9 +124,9 @@ module _ (g : Game) (b c : ℕ) (n : length (g .«local_boards» .rows) ≡ 3) (
     states-are : ss ≡ states
     states-are = e-states ∙ ap (with-state (g .«global_states») b) state-is
 
-    next-is : next ≡ next-board (after p b c .due)
+    next-is : next ≡ after p b c .due
     unfolding after
-    next-is = e-next ∙ ap (λ (f : ℕ → GameState). next-board (if in-play (f c) then (λ _. at c) else λ _. free)) (ap state-at states-are ∙ states-made)
+    next-is = e-next ∙ ap (λ (f : ℕ → GameState). if in-play (f c) then (λ _. Only c) else λ _. Any) (ap state-at states-are ∙ states-made)
 
     game-is : t ≡ after p b c .state
     game-is = e-game ∙ ap (λ (z : GlobalStates). result w (λ i. won-by w (state-at z i)) (λ i. in-play (state-at z i))) states-are ∙ game-made

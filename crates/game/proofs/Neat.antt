@@ -22,8 +22,9 @@ use Rattle.rules.specs.declared.CellState.{CellState}
 use Rattle.rules.specs.declared.CellState.the-variants.{Empty, Played}
 use Rattle.rules.specs.declared.GameState.{GameState}
 use Rattle.rules.specs.declared.GameState.the-variants.{InPlay, Drawn, Won}
+use Rattle.rules.specs.declared.NextBoard.{NextBoard}
 use Rattle.rules.specs.Board.{mine, blank, in-play, won-by, drawn}
-use Rattle.rules.specs.Position.{Due, at, Position}
+use Rattle.rules.specs.Position.{Position}
 use Rattle.rules.specs.Play.{board-of, cell-of, accepts, after}
 use Rattle.rules.proofs.Play.{same-position, Legal, accepts→}
 use Rattle.boards.specs.declared.local.Row.{Row}
@@ -33,14 +34,12 @@ use Rattle.boards.specs.Packed.{cell-from, no-row, row-of, place, cell-at, stat
 use Rattle.boards.specs.Rows.{row-cell}
 use Rattle.boards.specs.With.{row-with, with-cell, state-with, with-state}
 use Rattle.boards.proofs.Packed.{cell-in, cell-past-board, cell-past-cell, state-in, state-past}
-use Rattle.game.specs.declared.NextBoard.{NextBoard}
-use Rattle.game.specs.declared.NextBoard.the-variants.{Any, Only}
 use Rattle.game.specs.declared.Game.{Game}
-use Rattle.game.specs.Meaning.{due-of, position-of}
-use Rattle.game.specs.After.{next-board, after-move, game-after}
+use Rattle.game.specs.Meaning.{position-of}
+use Rattle.game.specs.After.{after-move, game-after}
 use Rattle.game.specs.Built.{new-game, recalculated}
 use Rattle.game.specs.Neat.{neat-row, neat-next, neat, row-bits, state-bits, row-for, game-of}
-use Rattle.game.proofs.Meaning.{due-again, game-accepted, game-refused}
+use Rattle.game.proofs.Meaning.{game-accepted, game-refused}
 use Rattle.game.proofs.Rows.{place-cell}
 
 -- ---- the parts of the test
@@ -159,7 +158,7 @@ after-move-neat g b c l n =
     let r = with-cell-neat (g .«local_boards») b c (g .«next_player») (l .board) (l .cell) (l .empty) (n .three) (n .each) in
     let s = with-state-neat (g .«global_states») b (l .board) (n .xs) (n .os) (after p b c .states b) in
     record {
-      next = if-ind (λ (d : Due). T (neat-next (next-board d))) (in-play (after p b c .states c)) _ _ (λ _. lt→ltb c 9 (l .cell)) (λ _. tt);
+      next = if-ind (λ (d : NextBoard). T (neat-next d)) (in-play (after p b c .states c)) _ _ (λ _. lt→ltb c 9 (l .cell)) (λ _. tt);
       three = r .0;
       each = r .1;
       xs = s .0;
@@ -235,14 +234,10 @@ module _ (g : Game) (n : Neat g) where
   unfolding state-bits
   fixed-o = sym (is-digits _ 9 (s .o) (n .os) (λ b h. sym (ap (λ (z : GameState). won-by O z || drawn z) (state-in s b h) ∙ state-o (bit (s .x) b) (bit (s .o) b))))
 
-  fixed-next : (b : NextBoard) → next-board (due-of b) ≡ b
-  fixed-next Any = refl
-  fixed-next (Only b) = refl
-
   fixed : game-of p (g .hash) ≡ g
   fixed = λ i. record {
     «next_player» = g .«next_player»;
-    «next_board» = fixed-next (g .«next_board») i;
+    «next_board» = g .«next_board»;
     «local_boards» = record { rows = fixed-rows i };
     «global_states» = record { x = fixed-x i; o = fixed-o i };
     «game_state» = g .«game_state»;
@@ -274,7 +269,7 @@ module _ (p : Position) (h : ℕ) where
       (λ k i. bit-and (digits (f X) 27) (digits (f O) 27) k ∙ ap₂ _&&_ (bit-digits (f X) 27 k i) (bit-digits (f O) 27 k i) ∙ one-mine (p .cells (3 * r + k / 9) (k % 9)) ∙ sym (bit-nought k))) tt))
 
   -- if a due board is one of the nine
-  pub game-of-neat : T (neat-next (next-board (p .due))) → T (neat (game-of p h))
+  pub game-of-neat : T (neat-next (p .due)) → T (neat (game-of p h))
   unfolding all state-bits
   game-of-neat d = →neat (game-of p h) (record {
     next = d;
@@ -334,7 +329,8 @@ module _ (p : Position) (h : ℕ) (n : Nine p) where
   state-again b (yes i) = state-in states b i ∙ ap₂ state-from (bit-digits _ 9 b i) (bit-digits _ 9 b i) ∙ whole-state (p .states b)
 
   pub game-of-means : position-of (game-of p h) ≡ p
-  game-of-means = same-position (position-of (game-of p h)) p refl (due-again (p .due)) (λ b c. cell-again b c (decLt b 9) (decLt c 9)) (λ b. state-again b (decLt b 9)) refl
+  game-of-means = same-position (position-of (game-of p h)) p refl refl
+      (λ b c. cell-again b c (decLt b 9) (decLt c 9)) (λ b. state-again b (decLt b 9)) refl
 
 -- every game's position is such a one
 pub position-nine : (g : Game) → Nine (position-of g)

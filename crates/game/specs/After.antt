@@ -3,21 +3,14 @@ use mathlib.Core.Path.{_≡_}
 use mathlib.Core.List.{List, [], _∷_}
 use Prim.Native.Nat.{ℕ}
 use Rattle.base.specs.Branch.{if_then_else_}
-use Rattle.rules.specs.Position.{Due, free, at}
 use Rattle.rules.specs.Play.{board-of, cell-of, accepts, after, Tried, played, refused, play, tried}
 use Rattle.rules.specs.Hash.{hash-after}
 use Rattle.boards.specs.declared.moves.Move.{Move}
 use Rattle.boards.specs.With.{with-cell, with-state}
 use Rattle.boards.specs.Answers.{answer-number}
-use Rattle.game.specs.declared.NextBoard.{NextBoard}
-use Rattle.game.specs.declared.NextBoard.the-variants.{Any, Only}
 use Rattle.game.specs.declared.Game.{Game}
 use Rattle.game.specs.declared.Made.{Made}
 use Rattle.game.specs.Meaning.{position-of}
-
-abbrev pub next-board : Due → NextBoard
-next-board free = Any
-next-board (at b) = Only b
 
 -- the game after an accepted move in cell c of board b
 unfoldable pub after-move : Game → ℕ → ℕ → Game
@@ -25,7 +18,7 @@ after-move g b c =
     let q = after (position-of g) b c in
     record {
       «next_player» = q .turn;
-      «next_board» = next-board (q .due);
+      «next_board» = q .due;
       «local_boards» = with-cell (g .«local_boards») b c (g .«next_player»);
       «global_states» = with-state (g .«global_states») b (q .states b);
       «game_state» = q .state;

@@ -10,13 +10,12 @@ use Rattle.base.specs.Lists.{all}
 use Rattle.base.specs.Bits.{digits}
 use Rattle.rules.specs.declared.Player.{Player}
 use Rattle.rules.specs.declared.Player.the-variants.{X, O}
+use Rattle.rules.specs.declared.NextBoard.{NextBoard}
+use Rattle.rules.specs.declared.NextBoard.the-variants.{Any, Only}
 use Rattle.rules.specs.Board.{mine, won-by, drawn}
 use Rattle.rules.specs.Position.{Position}
 use Rattle.boards.specs.declared.local.Row.{Row}
-use Rattle.game.specs.declared.NextBoard.{NextBoard}
-use Rattle.game.specs.declared.NextBoard.the-variants.{Any, Only}
 use Rattle.game.specs.declared.Game.{Game}
-use Rattle.game.specs.After.{next-board}
 
 abbrev pub neat-row : Row → Bool
 neat-row r = ltb (r .x) (2 ^ 27) && (ltb (r .o) (2 ^ 27) && eqb (bitAnd (r .x) (r .o)) 0)
@@ -46,7 +45,7 @@ row-for p r = record { x = row-bits p X r; o = row-bits p O r }
 abbrev pub game-of : Position → ℕ → Game
 game-of p h = record {
   «next_player» = p .turn;
-  «next_board» = next-board (p .due);
+  «next_board» = p .due;
   «local_boards» = record { rows = row-for p 0 ∷ row-for p 1 ∷ row-for p 2 ∷ [] };
   «global_states» = record { x = state-bits p X; o = state-bits p O };
   «game_state» = p .state;

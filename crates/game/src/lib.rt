@@ -8,14 +8,14 @@ ghost use lib.Dec.{T};
 ghost use lib.ListN.{length};
 ghost use Rattle.base.specs.Bits.{digits};
 ghost use Rattle.rules.specs.Board.{same-state};
-ghost use Rattle.rules.specs.Position.{same-due, going, open-board, free-cell};
+ghost use Rattle.rules.specs.Position.{going, open-board, free-cell};
 ghost use Rattle.rules.specs.Play.{may, play};
 ghost use Rattle.rules.specs.Moves.{moves};
 ghost use Rattle.rules.specs.Compare.{bound-depth, open-boards, equivalent};
 ghost use Rattle.rules.specs.Hash.{with-turn};
 ghost use Rattle.boards.specs.Answers.{answer-number};
 ghost use Rattle.boards.specs.Cursor.{cursor-over};
-ghost use Rattle.game.specs.Meaning.{due-of, position-of};
+ghost use Rattle.game.specs.Meaning.{position-of};
 ghost use Rattle.game.specs.After.{after-move, games-after, refusal, Plays};
 ghost use Rattle.game.specs.Built.{new-game, packed, recalculated};
 ghost use Rattle.game.specs.Look.{Looks-cell, Looks-state};
@@ -27,13 +27,8 @@ use boards::MoveError;
 use boards::MoveIterator;
 use rules::CellState;
 use rules::GameState;
+use rules::NextBoard;
 use rules::Player;
-
-// The board that is due: free choice, or one board.
-pub enum NextBoard {
-    Any,
-    Only(u8),
-}
 
 pub struct Game {
     pub next_player: Player,
@@ -60,33 +55,6 @@ pub struct CellAnswer {
 pub struct StateAnswer {
     pub answer: Answer,
     pub state: GameState,
-}
-
-impl NextBoard {
-    // Whether a move in a board is allowed.
-    fn allows(self, board: usize) -> bool
-        ensures { λ r. ⌜ r ≡ may (due-of self) board ⌝ }
-    {
-        match self {
-            NextBoard::Any => true,
-            NextBoard::Only(b) => b as usize == board,
-        }
-    }
-
-    fn same(self, rhs: NextBoard) -> bool
-        ensures { λ r. ⌜ r ≡ same-due (due-of self) (due-of rhs) ⌝ }
-    {
-        match self {
-            NextBoard::Any => match rhs {
-                NextBoard::Any => true,
-                NextBoard::Only(_) => false,
-            },
-            NextBoard::Only(b) => match rhs {
-                NextBoard::Any => false,
-                NextBoard::Only(c) => b == c,
-            },
-        }
-    }
 }
 
 // Whether two states are the same.

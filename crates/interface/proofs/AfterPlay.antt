@@ -17,8 +17,8 @@ use Rattle.game.specs.declared.Game.{Game}
 use Rattle.game.specs.Meaning.{position-of}
 use Rattle.game.specs.Built.{new-game}
 use Rattle.game.specs.After.{games-after}
-use Rattle.game.specs.declared.NextBoard.{NextBoard}
-use Rattle.game.specs.declared.NextBoard.the-variants.{Any, Only}
+use Rattle.rules.specs.declared.NextBoard.{NextBoard}
+use Rattle.rules.specs.declared.NextBoard.the-variants.{Any, Only}
 use Rattle.game.specs.Neat.{neat-next}
 use Rattle.game.proofs.Neat.{neat→}
 use Rattle.game.proofs.Played.{games-joined, new-played-neat, new-played-means, new-played-hash}

@@ -16,11 +16,11 @@ use boards::LocalBoards;
 use boards::Move;
 use boards::Row;
 use game::Game;
-use game::NextBoard;
 use notation::ParseAnswer;
 use notation::ParseError;
 use notation::Parsed;
 use rules::GameState;
+use rules::NextBoard;
 use rules::Player;
 
 // The most that each word may be.

@@ -13,8 +13,9 @@ use Rattle.base.specs.Branch.{if_then_else_}
 use Rattle.base.specs.Lists.{from}
 use Rattle.rules.specs.declared.Player.{Player}
 use Rattle.rules.specs.declared.GameState.the-variants.{InPlay}
+use Rattle.rules.specs.declared.NextBoard.{NextBoard}
+use Rattle.rules.specs.declared.NextBoard.the-variants.{Any}
 use Rattle.rules.specs.Board.{other, in-play, won-by, result}
-use Rattle.rules.specs.Position.{free, at}
 use Rattle.rules.specs.Hash.{hash}
 use Rattle.text.specs.Bytes.{semicolon}
 use Rattle.text.specs.Reading.{Reading, reads, refuses, sections, first-bad, last-at, first-fault, said, read-cells, read-marks, read-overall, lone-side, read-side, read}
@@ -22,10 +23,8 @@ use Rattle.text.proofs.Scan.{one-section, two-sections, three-sections, more-se
 use Rattle.text.proofs.Reading.{too-long, not-three, answer-is-read}
 use Rattle.boards.specs.declared.local.LocalBoards.{LocalBoards}
 use Rattle.boards.specs.declared.states.GlobalStates.{GlobalStates}
-use Rattle.game.specs.declared.NextBoard.{NextBoard}
-use Rattle.game.specs.declared.NextBoard.the-variants.{Any, Only}
 use Rattle.game.specs.declared.Game.{Game}
-use Rattle.game.specs.Meaning.{due-of, position-of}
+use Rattle.game.specs.Meaning.{position-of}
 use Rattle.game.specs.Built.{packed, recalculated}
 use Rattle.game.specs.Neat.{neat-next, neat, game-of}
 use Rattle.game.proofs.Hash.{Fresh, packed-hash, recalculated-hash}
@@ -109,16 +108,11 @@ module _ (s os cs : List ℕ) where
         all-good z = by-marks ∙ rw (f, eq-eqb (first-fault cs (from 0 89)) 0 z)
 
 -- a due board is one of the nine
-next-is-neat : (n : NextBoard) (os : List ℕ) → length os ≡ 9 → due-of n ≡ last-at 0 os free → T (neat-next n)
-next-is-neat n os l = last-at-cases (λ d. due-of n ≡ d → T (neat-next n)) 0 os free (λ _ e. unbound n e) (λ k h _ _ e. bound n k h e)
-  where
-    unbound : (n : NextBoard) → due-of n ≡ free → T (neat-next n)
-    unbound Any e = tt
-    unbound (Only b) e = let z : _≡_ {A = ℕ} 0 1 = cc in absurd (omega arith)
-
-    bound : (n : NextBoard) (k : ℕ) → k < length os → due-of n ≡ at (0 + k) → T (neat-next n)
-    bound Any k h e = tt
-    bound (Only b) k h e = let z : b ≡ 0 + k = cc in lt→ltb b 9 (omega arith)
+next-is-neat : (n : NextBoard) (os : List ℕ) → length os ≡ 9 → n ≡ last-at 0 os Any → T (neat-next n)
+next-is-neat n os l e =
+    let bound : T (neat-next (last-at 0 os Any)) =
+    last-at-cases (λ d. T (neat-next d)) 0 os Any (λ _. tt) (λ k h _ _. lt→ltb (0 + k) 9 (omega arith)) in
+    subst (λ (d : NextBoard). T (neat-next d)) (sym e) bound
 
 -- the game of what was read
 module _ (w : Player) (os cs : List ℕ) (s : GlobalStates) (n : NextBoard) (l : LocalBoards) (nine : length os ≡ 9) (ms : Marks-say os s n) (c : Cells-say cs l) where

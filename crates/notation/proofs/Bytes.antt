@@ -11,7 +11,8 @@ use borrow.Author.Tests.{lt-ltb, le-ltb, ne-eqb}
 use Rattle.base.specs.Branch.{if_then_else_}
 use Rattle.rules.specs.declared.CellState.{CellState}
 use Rattle.rules.specs.declared.GameState.{GameState}
-use Rattle.rules.specs.Position.{Position, at, same-due}
+use Rattle.rules.specs.declared.NextBoard.the-variants.{Only}
+use Rattle.rules.specs.Position.{Position, same-due}
 use Rattle.text.specs.Bytes.{semicolon, slash, at-mark, letter}
 use Rattle.text.specs.Writing.{state-byte, cell-byte, overall-byte, text-of, cells-byte, byte-at}
 use Rattle.text.proofs.Writing.{slash-every-tenth, cell-elsewhere, text-at, text-has-101-bytes}
@@ -37,11 +38,12 @@ module _ (p : Position) (i : ℕ) where
     by-mark h = rw (ne-eqb i 0 n0, ne-eqb i 1 n1, ne-eqb i 11 (λ e. omega arith), lt-ltb i 11 h)
 
     -- the board that is due, and another
-    pub at-due : (r : Bool) → i < 11 → r ≡ same-due (p .due) (at (i - 2)) → r ≡ true → at-mark ≡ byte-at p i
+    pub at-due : (r : Bool) → i < 11 → r ≡ same-due (p .due) (Only (i - 2)) → r ≡ true → at-mark ≡ byte-at p i
     unfolding overall-byte if_then_else_
     at-due r h e t = sym (by-mark h ∙ rw (sym e ∙ t))
 
-    pub at-state : (r : Bool) (s : GameState) → i < 11 → r ≡ same-due (p .due) (at (i - 2)) → r ≡ false → s ≡ p .states (i - 2) → state-byte s ≡ byte-at p i
+    pub at-state : (r : Bool) (s : GameState) → i < 11 → r ≡ same-due (p .due) (Only (i - 2)) → r ≡ false
+        → s ≡ p .states (i - 2) → state-byte s ≡ byte-at p i
     unfolding overall-byte if_then_else_
     at-state r s h e t f = rw f (sym (by-mark h ∙ rw (sym e ∙ t)))
 

@@ -6,7 +6,8 @@ use borrow.Author.Tests.{eq-eqb, ne-eqb}
 use lib.Dec.{eqb}
 use Rattle.base.specs.Branch.{if_then_else_}
 use Rattle.base.proofs.Branch.{if-both}
-use Rattle.rules.specs.Position.{Due, free, at}
+use Rattle.rules.specs.declared.NextBoard.{NextBoard}
+use Rattle.rules.specs.declared.NextBoard.the-variants.{Any, Only}
 use Rattle.text.specs.Bytes.{dot, hash-mark, at-mark, letter}
 use Rattle.text.specs.Reading.{side-of, overall-mark, cell-mark}
 use Rattle.notation.specs.Parts.{due-by, due-or}
@@ -29,16 +30,16 @@ module _ (c : ℕ) (x : c ≡ 0x58 → ⊥) (o : c ≡ 0x4f → ⊥) where
 
 module _ (c i : ℕ) where
   -- an `@` makes its board due
-  pub due-here : c ≡ at-mark → at i ≡ due-by c i
+  pub due-here : c ≡ at-mark → Only i ≡ due-by c i
   unfolding due-by if_then_else_
   due-here e = rw (eq-eqb c at-mark e)
 
   -- no other byte does
-  pub due-nowhere : (c ≡ at-mark → ⊥) → free ≡ due-by c i
+  pub due-nowhere : (c ≡ at-mark → ⊥) → Any ≡ due-by c i
   unfolding due-by if_then_else_
   due-nowhere n = rw (ne-eqb c at-mark n)
 
   -- so what was due before stays due
-  pub due-kept : (d : Due) → due-or (due-by c i) d ≡ (if eqb c at-mark then (λ _. at i) else λ _. d)
+  pub due-kept : (d : NextBoard) → due-or (due-by c i) d ≡ (if eqb c at-mark then (λ _. Only i) else λ _. d)
   unfolding due-by
-  due-kept d = if-both (λ (x y : Due). due-or x d ≡ y) (eqb c at-mark) _ _ _ _ (λ _. refl) (λ _. refl)
+  due-kept d = if-both (λ (x y : NextBoard). due-or x d ≡ y) (eqb c at-mark) _ _ _ _ (λ _. refl) (λ _. refl)

@@ -14,7 +14,9 @@ use Rattle.base.proofs.Change.{put-at, put-off}
 use Rattle.rules.specs.declared.Player.the-variants.{X}
 use Rattle.rules.specs.declared.GameState.{GameState}
 use Rattle.rules.specs.declared.GameState.the-variants.{InPlay}
-use Rattle.rules.specs.Position.{free, Position}
+use Rattle.rules.specs.declared.NextBoard.{NextBoard}
+use Rattle.rules.specs.declared.NextBoard.the-variants.{Any}
+use Rattle.rules.specs.Position.{Position}
 use Rattle.text.specs.Reading.{overall-mark, first-bad, last-at, state-in}
 use Rattle.text.proofs.Scan.{Known, →first-bad, →none-bad, last-at-steps}
 use Rattle.text.proofs.Reading.{state-in-at, said-fills}
@@ -22,9 +24,6 @@ use Rattle.boards.specs.declared.states.GlobalStates.{GlobalStates}
 use Rattle.boards.specs.Packed.{state-at}
 use Rattle.boards.specs.With.{with-state}
 use Rattle.boards.proofs.Cells.{state-after}
-use Rattle.game.specs.declared.NextBoard.{NextBoard}
-use Rattle.game.specs.declared.NextBoard.the-variants.{Any}
-use Rattle.game.specs.Meaning.{due-of}
 use Rattle.game.specs.Built.{no-states}
 use Rattle.game.proofs.Meaning.{new-game-means}
 use Rattle.game.proofs.Neat.{with-state-neat}
@@ -38,7 +37,7 @@ pub record MarksUpTo (os : List ℕ) (s : GlobalStates) (n : NextBoard) (i : ℕ
   pub unread : (b : ℕ) → i ≤ b → state-at s b ≡ InPlay
   pub x-fits : s .x < 2 ^ 9
   pub o-fits : s .o < 2 ^ 9
-  pub due-is : last-at i (drop i os) (due-of n) ≡ last-at 0 os free
+  pub due-is : last-at i (drop i os) n ≡ last-at 0 os Any
 
 pub none-marked : (os : List ℕ) → MarksUpTo os no-states Any 0
 none-marked os = record {
@@ -56,7 +55,8 @@ module _ (os : List ℕ) (s : GlobalStates) (n : NextBoard) (i : ℕ) (nine : le
   bad-found h e = →first-bad os i (record { inside = omega arith; before = m .known; bad = λ t. rw e at t })
 
   -- one mark more
-  module _ (h : i < 9) (g : GameState) (e : overall-mark (getD os i 0) ≡ some g) (n' : NextBoard) (d : due-of n' ≡ due-or (due-by (getD os i 0) i) (due-of n)) where
+  module _ (h : i < 9) (g : GameState) (e : overall-mark (getD os i 0) ≡ some g)
+      (n' : NextBoard) (d : n' ≡ due-or (due-by (getD os i 0) i) n) where
     said : state-in os i ≡ g
     said = state-in-at os i h (omega arith) ∙ rw e
 
@@ -76,7 +76,7 @@ module _ (os : List ℕ) (s : GlobalStates) (n : NextBoard) (i : ℕ) (nine : le
       unread = λ b l. state-of b ∙ put-off (λ (z : GameState). z ≡ InPlay) (state-at s) i g b (λ p. omega arith) (m .unread b (omega arith));
       x-fits = with-state-neat s i h (m .x-fits) (m .o-fits) g .0;
       o-fits = with-state-neat s i h (m .x-fits) (m .o-fits) g .1;
-      due-is = rw (add-one i, d, due-kept (getD os i 0) i (due-of n)) (sym (last-at-steps i os (due-of n) (omega arith)) ∙ m .due-is);
+      due-is = rw (add-one i, d, due-kept (getD os i 0) i n) (sym (last-at-steps i os n (omega arith)) ∙ m .due-is);
     }
 
 -- all nine
@@ -90,5 +90,5 @@ all-marked os s n nine m = record {
   ]);
   x-fits = m .x-fits;
   o-fits = m .o-fits;
-  due-is = sym (ap (λ (t : List ℕ). last-at 9 t (due-of n)) (ap (λ (k : ℕ). drop k os) (sym nine) ∙ drop-length os)) ∙ m .due-is;
+  due-is = sym (ap (λ (t : List ℕ). last-at 9 t n) (ap (λ (k : ℕ). drop k os) (sym nine) ∙ drop-length os)) ∙ m .due-is;
 }

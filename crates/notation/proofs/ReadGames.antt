@@ -5,13 +5,14 @@ use Prim.Native.Nat.{ℕ}
 use native.Mathlib.Omega.{arith}
 use lib.Dec.{T, ltb}
 use Rattle.base.proofs.Bool.{and→}
-use Rattle.rules.specs.Position.{Due, free, at, Position}
+use Rattle.rules.specs.declared.NextBoard.{NextBoard}
+use Rattle.rules.specs.declared.NextBoard.the-variants.{Any, Only}
+use Rattle.rules.specs.Position.{Position}
 use Rattle.rules.specs.Hash.{hash}
 use Rattle.rules.specs.Sound.{due-open, proper}
 use Rattle.text.specs.Reading.{reads, read}
 use Rattle.text.proofs.Reading.{read-is-proper, Filled, read-fills-the-board}
 use Rattle.game.specs.Meaning.{position-of}
-use Rattle.game.specs.After.{next-board}
 use Rattle.game.specs.Neat.{neat-next, neat, game-of}
 use Rattle.game.proofs.Neat.{game-of-neat, Nine, game-of-means}
 
@@ -21,9 +22,9 @@ pub record ReadGame (p : Position) : Type 0 where
   pub means : position-of (game-of p (hash p)) ≡ p
   pub fresh : hash p ≡ hash (position-of (game-of p (hash p)))
 
-due-is-neat : (p : Position) (d : Due) → T (due-open p d) → T (neat-next (next-board d))
-due-is-neat p free t = tt
-due-is-neat p (at b) t = and→ (ltb b 9) _ t .0
+due-is-neat : (p : Position) (d : NextBoard) → T (due-open p d) → T (neat-next d)
+due-is-neat p Any t = tt
+due-is-neat p (Only b) t = and→ (ltb b 9) _ t .0
 
 filled-is-nine : (p : Position) → Filled p → Nine p
 filled-is-nine p f = record {

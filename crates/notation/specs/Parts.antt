@@ -11,15 +11,14 @@ use Rattle.rules.specs.declared.Player.{Player}
 use Rattle.rules.specs.declared.CellState.{CellState}
 use Rattle.rules.specs.declared.CellState.the-variants.{Empty, Played}
 use Rattle.rules.specs.declared.GameState.{GameState}
-use Rattle.rules.specs.Position.{Due, free, at}
+use Rattle.rules.specs.declared.NextBoard.{NextBoard}
+use Rattle.rules.specs.declared.NextBoard.the-variants.{Any, Only}
 use Rattle.text.specs.Bytes.{at-mark}
 use Rattle.text.specs.Reading.{Reading, first-bad, last-at, first-fault, cell-in, state-in}
 use Rattle.boards.specs.declared.local.LocalBoards.{LocalBoards}
 use Rattle.boards.specs.declared.states.GlobalStates.{GlobalStates}
 use Rattle.boards.specs.Packed.{cell-at, state-at}
 use Rattle.boards.specs.With.{with-cell}
-use Rattle.game.specs.declared.NextBoard.{NextBoard}
-use Rattle.game.specs.Meaning.{due-of}
 use Rattle.game.specs.Built.{new-game}
 use Rattle.game.specs.Neat.{neat-row}
 use Rattle.notation.specs.declared.ErrorKind.{ErrorKind}
@@ -67,13 +66,13 @@ mark-said (State g) = some g
 mark-said BadMark = none
 
 -- what mark i, the byte c, makes due
-unfoldable pub due-by : ℕ → ℕ → Due
-due-by c i = if eqb c at-mark then (λ _. at i) else λ _. free
+unfoldable pub due-by : ℕ → ℕ → NextBoard
+due-by c i = if eqb c at-mark then (λ _. Only i) else λ _. Any
 
 -- the first of two that is a board
-abbrev pub due-or : Due → Due → Due
-due-or free d = d
-due-or (at b) d = at b
+abbrev pub due-or : NextBoard → NextBoard → NextBoard
+due-or Any d = d
+due-or (Only b) d = Only b
 
 -- the boards' states, with no bit beyond the nine, and the next board
 pub record Marks-say (os : List ℕ) (s : GlobalStates) (n : NextBoard) : Type 0 where
@@ -81,7 +80,7 @@ pub record Marks-say (os : List ℕ) (s : GlobalStates) (n : NextBoard) : Type 0
   pub states-are : state-at s ≡ state-in os
   pub x-fits : s .x < 2 ^ 9
   pub o-fits : s .o < 2 ^ 9
-  pub due-is : due-of n ≡ last-at 0 os free
+  pub due-is : n ≡ last-at 0 os Any
 
 abbrev pub Reads-overall : List ℕ → OverallRead → Type 0
 Reads-overall os (Marks s n) = Marks-say os s n

@@ -4,21 +4,21 @@
 ghost use mathlib.Core.Path.{_≡_};
 ghost use Prim.Native.Nat.{_≤_, _<_};
 ghost use lib.ListN.{length};
-ghost use Rattle.rules.specs.Position.{Due, same-due};
+ghost use Rattle.rules.specs.Position.{same-due};
 ghost use Rattle.text.specs.Bytes.{letter};
 ghost use Rattle.text.specs.Reading.{side-of, overall-mark, cell-mark, fault-at, lone-side, read-side};
 ghost use Rattle.text.specs.Writing.{state-byte, cell-byte, text-of, byte-at};
 ghost use Rattle.text.specs.MoveText.{coordinate, move-text};
-ghost use Rattle.game.specs.Meaning.{due-of, position-of};
+ghost use Rattle.game.specs.Meaning.{position-of};
 ghost use Rattle.notation.specs.Parsed.{kind-number, parse-number, move-number, Parses, Parses-move};
 ghost use Rattle.notation.specs.Parts.{refused, Gives, Finds, side-said, mark-said, due-by, due-or, Reads-overall, cell-said, with-mark, fault-number, Reads-cells};
 use boards::GlobalStates;
 use boards::LocalBoards;
 use boards::Move;
 use game::Game;
-use game::NextBoard;
 use rules::CellState;
 use rules::GameState;
+use rules::NextBoard;
 use rules::Player;
 
 // The longest text that is read.
@@ -205,7 +205,7 @@ fn mark_of(byte: u8) -> Mark
 // What a board's mark makes due.
 fn next_of(byte: u8, board: usize) -> NextBoard
     requires { ⌜ board < 9 ⌝ }
-    ensures { λ r. ⌜ due-of r ≡ due-by byte board ⌝ }
+    ensures { λ r. ⌜ r ≡ due-by byte board ⌝ }
 {
     if byte == b'@' {
         NextBoard::Only(board as u8)
@@ -216,7 +216,7 @@ fn next_of(byte: u8, board: usize) -> NextBoard
 
 // The first of two that is a board.
 fn either(next: NextBoard, other: NextBoard) -> NextBoard
-    ensures { λ r. ⌜ due-of r ≡ due-or (due-of next) (due-of other) ⌝ }
+    ensures { λ r. ⌜ r ≡ due-or next other ⌝ }
 {
     match next {
         NextBoard::Any => other,
@@ -360,7 +360,7 @@ fn cell_byte(cell: CellState) -> u8
 }
 
 fn is_next(next: NextBoard, board: usize) -> bool
-    ensures { λ r. ⌜ r ≡ same-due (due-of next) (Due.at board) ⌝ }
+    ensures { λ r. ⌜ r ≡ same-due next (NextBoard.Only board) ⌝ }
 {
     match next {
         NextBoard::Any => false,

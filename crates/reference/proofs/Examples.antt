@@ -14,8 +14,9 @@ use Rattle.rules.specs.declared.CellState.{CellState}
 use Rattle.rules.specs.declared.CellState.the-variants.{Empty, Played}
 use Rattle.rules.specs.declared.GameState.the-variants.{InPlay, Won}
 use Rattle.rules.specs.declared.DrawWinner.the-variants.{Nobody}
+use Rattle.rules.specs.declared.NextBoard.the-variants.{Only}
 use Rattle.rules.specs.Board.{has-line, result}
-use Rattle.rules.specs.Position.{at, Position, start}
+use Rattle.rules.specs.Position.{Position, start}
 use Rattle.base.specs.Checks.{all-pass, first-failed}
 use Rattle.rules.specs.Play.{no-move, accepts, after, play, left-by, tried}
 use Rattle.rules.specs.Moves.{places, moves}
@@ -109,7 +110,7 @@ abbrev e : CellState
 e = Empty
 
 unfoldable pub late : Position
-late = position X (at 5) (InPlay ∷ Won X ∷ InPlay ∷ Won O ∷ Won O ∷ InPlay ∷ Won O ∷ Won X ∷ InPlay ∷ []) (
+late = position X (Only 5) (InPlay ∷ Won X ∷ InPlay ∷ Won O ∷ Won O ∷ InPlay ∷ Won O ∷ Won X ∷ InPlay ∷ []) (
     (x ∷ e ∷ e ∷ x ∷ e ∷ x ∷ o ∷ e ∷ x ∷ []) ∷
     (e ∷ x ∷ x ∷ x ∷ x ∷ o ∷ x ∷ o ∷ o ∷ []) ∷
     (o ∷ o ∷ x ∷ x ∷ x ∷ o ∷ e ∷ x ∷ o ∷ []) ∷

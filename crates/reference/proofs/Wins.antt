@@ -16,8 +16,10 @@ use Rattle.rules.specs.declared.Player.the-variants.{X, O}
 use Rattle.rules.specs.declared.GameState.{GameState}
 use Rattle.rules.specs.declared.GameState.the-variants.{InPlay, Drawn, Won}
 use Rattle.rules.specs.declared.DrawWinner.the-variants.{Nobody}
+use Rattle.rules.specs.declared.NextBoard.{NextBoard}
+use Rattle.rules.specs.declared.NextBoard.the-variants.{Any, Only}
 use Rattle.rules.specs.Board.{other, in-play, won-by, nine}
-use Rattle.rules.specs.Position.{Due, free, at, Position, going, open-board, won-boards, free-cell}
+use Rattle.rules.specs.Position.{Position, going, open-board, won-boards, free-cell}
 use Rattle.rules.specs.Play.{move-of, board-of, cell-of, may, accepts, after, tried}
 use Rattle.rules.specs.Moves.{moves}
 use Rattle.rules.specs.Sound.{due-open}
@@ -74,7 +76,7 @@ wins-in-1 p g t k h cr m = one-wins (game Nobody) lawful 0 p g (unfinished p t) 
 
 -- ---- lost in two: w, not to move, has a critical board outside board b, where the side to move has to play without winning, and every cell there
 -- sends w to a critical board
-module _ (p : Position) (g : Good p) (t : T (going p)) (b : ℕ) (due : p .due ≡ at b) (still : T (not (critical p (p .turn) b)))
+module _ (p : Position) (g : Good p) (t : T (going p)) (b : ℕ) (due : p .due ≡ Only b) (still : T (not (critical p (p .turn) b)))
     (w : Player) (turn : other (p .turn) ≡ w) (k : ℕ) (k9 : k < 9) (cr : T (critical p w k)) (away : b ≡ k → ⊥)
     (sends : (c : ℕ) → c < 9 → T (free-cell p b c) → T (open-board p c) → T (critical p w c) × (b ≡ c → ⊥)) where
   loses-each : (m : ℕ) → In m (moves p) → mm 1 (tried p m) ≡ won
@@ -121,25 +123,32 @@ forced-loses p g t n f = loses-in-2 p g t b (s .1) still v refl (k .0) (nine-in 
     k : (k : ℕ) × In k nine × T (critical p v k)
     k = any-some (critical p v) nine (r .0)
 
-    s : (b : ℕ) × (p .due ≡ at b) × T (not (critical p v b)) × T (all-suit p v b)
+    s : (b : ℕ) × (p .due ≡ Only b) × T (not (critical p v b)) × T (all-suit p v b)
     s = forced→ p v (p .due) (r .1)
 
     b : ℕ
     b = s .0
 
     b9 : b < 9
-    b9 = ltb→lt b 9 (and→ (ltb b 9) _ (subst (λ (d : Due). T (due-open p d)) (s .1) (g .due-is)) .0)
+    b9 = ltb→lt b 9 (and→ (ltb b 9) _ (subst (λ (d : NextBoard). T (due-open p d)) (s .1) (g .due-is)) .0)
 
     still : T (not (critical p (p .turn) b))
     still = →not (critical p (p .turn) b) (λ u. deny (prove-attacker p) n (unfold prove-attacker in (→and (has-critical p (p .turn)) _ (some-any (critical p (p .turn)) b nine (in-nine b b9) u)
-        (subst (λ (d : Due). T (attack p (p .turn) d)) (sym (s .1)) (unfold attack in (→or-l (critical p (p .turn) b) _ u))))))
+        (subst (λ (d : NextBoard). T (attack p (p .turn) d)) (sym (s .1)) (unfold attack in (→or-l (critical p (p .turn) b) _ u))))))
 
 -- ---- won in three: the side to move has a critical board, and sends the other side from board b, which is due, to board i, from where it cannot but
 -- send back to a critical board
-module _ (p : Position) (g : Good p) (t : T (going p)) (b : ℕ) (due : p .due ≡ at b) (b9 : b < 9) (opened : T (open-board p b))
+module _ (p : Position) (g : Good p) (t : T (going p)) (b : ℕ) (due : p .due ≡ Only b) (b9 : b < 9) (opened : T (open-board p b))
     (quiet : T (not (critical p (p .turn) b))) (k : ℕ) (k9 : k < 9) (cr : T (critical p (p .turn) k)) (i : ℕ) (i9 : i < 9) (lured : Lure p (p .turn) b i) where
   l : Legal p b i
-  l = record { board = b9; cell = i9; unfinished = t; opened = opened; allowed = subst (λ (d : Due). T (may d b)) (sym due) (eqb-refl b); empty = lured .empty }
+  l = record {
+    board = b9;
+    cell = i9;
+    unfinished = t;
+    opened = opened;
+    allowed = subst (λ (d : NextBoard). T (may d b)) (sym due) (eqb-refl b);
+    empty = lured .empty;
+  }
 
   abbrev q : Position
   q = after p b i
@@ -147,9 +156,9 @@ module _ (p : Position) (g : Good p) (t : T (going p)) (b : ℕ) (due : p .due �
   still-open : T (open-board q i)
   still-open = open-still p b i l i (lured .away) (lured .opened)
 
-  due-there : q .due ≡ at i
+  due-there : q .due ≡ Only i
   unfolding after
-  due-there = if-ind (λ (d : Due). d ≡ at i) (open-board q i) _ _ (λ _. refl) (λ u. absurd (deny (open-board q i) u still-open))
+  due-there = if-ind (λ (d : NextBoard). d ≡ Only i) (open-board q i) _ _ (λ _. refl) (λ u. absurd (deny (open-board q i) u still-open))
 
   sends-back : (c : ℕ) → c < 9 → T (free-cell q i c) → T (open-board q c) → T (critical q (p .turn) c) × (i ≡ c → ⊥)
   sends-back c c9 f o =
@@ -184,10 +193,10 @@ attacker-wins p g t a = go (p .due) refl (r .1) (g .due-is)
     at-once : (j : ℕ) → j < 9 → T (critical p (p .turn) j) → T (may (p .due) j) → mm 3 p ≡ won
     at-once j h c m = stays-won-to (game Nobody) lawful 2 1 3 p g (omega arith) (wins-in-1 p g t j h c m)
 
-    go : (d : Due) → p .due ≡ d → T (attack p (p .turn) d) → T (due-open p d) → mm 3 p ≡ won
-    go free e h o = at-once (k .0) (nine-in (k .0) (k .1)) (k .2) (subst (λ (d : Due). T (may d (k .0))) (sym e) tt)
-    go (at b) e h o = elim (is (critical p (p .turn) b)) [
-      | inl u ↦ at-once b b9 u (subst (λ (d : Due). T (may d b)) (sym e) (eqb-refl b))
+    go : (d : NextBoard) → p .due ≡ d → T (attack p (p .turn) d) → T (due-open p d) → mm 3 p ≡ won
+    go Any e h o = at-once (k .0) (nine-in (k .0) (k .1)) (k .2) (subst (λ (d : NextBoard). T (may d (k .0))) (sym e) tt)
+    go (Only b) e h o = elim (is (critical p (p .turn) b)) [
+      | inl u ↦ at-once b b9 u (subst (λ (d : NextBoard). T (may d b)) (sym e) (eqb-refl b))
       | inr u ↦ elim (attack→ p (p .turn) b h) [ inl v ↦ absurd (deny (critical p (p .turn) b) u v) | inr v ↦ by-lure u (any-some (lure p (p .turn) b) nine v) ]
     ]
       where

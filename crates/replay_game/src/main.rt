@@ -9,11 +9,11 @@ use boards::MoveIterator;
 use boards::Row;
 use decimals::Count;
 use game::Game;
-use game::NextBoard;
 use input::Input;
 use records::Outcome;
 use records::Totals;
 use rules::GameState;
+use rules::NextBoard;
 use rules::Player;
 
 // The most numbers of a record.

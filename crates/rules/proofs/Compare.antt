@@ -15,8 +15,10 @@ use Rattle.rules.specs.declared.CellState.{CellState}
 use Rattle.rules.specs.declared.CellState.the-variants.{Empty, Played}
 use Rattle.rules.specs.declared.GameState.{GameState}
 use Rattle.rules.specs.declared.GameState.the-variants.{InPlay, Drawn, Won}
+use Rattle.rules.specs.declared.NextBoard.{NextBoard}
+use Rattle.rules.specs.declared.NextBoard.the-variants.{Any, Only}
 use Rattle.rules.specs.Board.{same, blank, same-cell, same-state, in-play, nine}
-use Rattle.rules.specs.Position.{Due, free, at, same-due, Position, start, open-board, free-cell}
+use Rattle.rules.specs.Position.{same-due, Position, start, open-board, free-cell}
 use Rattle.rules.specs.Play.{board-of, cell-of, accepts, after, tried}
 use Rattle.rules.specs.Compare.{bound-depth, open-boards, equivalent}
 use Rattle.rules.proofs.Board.{same-self, same→eq, in-nine, nine-in}
@@ -94,9 +96,9 @@ unfolding open-boards how-many
 start-open-boards = refl
 
 -- ---- the comparison
-same-due-self : (d : Due) → T (same-due d d)
-same-due-self free = tt
-same-due-self (at b) = eqb-refl b
+same-due-self : (d : NextBoard) → T (same-due d d)
+same-due-self Any = tt
+same-due-self (Only b) = eqb-refl b
 
 same-cell-self : (s : CellState) → T (same-cell s s)
 same-cell-self Empty = tt
@@ -107,11 +109,11 @@ same-state-self InPlay = tt
 same-state-self Drawn = tt
 same-state-self (Won w) = same-self w
 
-same-due→eq : (d e : Due) → T (same-due d e) → d ≡ e
-same-due→eq free free t = refl
-same-due→eq free (at c) t = absurd t
-same-due→eq (at b) free t = absurd t
-same-due→eq (at b) (at c) t = ap at (eqb→eq b c t)
+same-due→eq : (d e : NextBoard) → T (same-due d e) → d ≡ e
+same-due→eq Any Any t = refl
+same-due→eq Any (Only c) t = absurd t
+same-due→eq (Only b) Any t = absurd t
+same-due→eq (Only b) (Only c) t = ap Only (eqb→eq b c t)
 
 same-cell→eq : (s r : CellState) → T (same-cell s r) → s ≡ r
 same-cell→eq Empty Empty t = refl

@@ -22,8 +22,10 @@ use Rattle.rules.specs.declared.CellState.{CellState}
 use Rattle.rules.specs.declared.CellState.the-variants.{Played}
 use Rattle.rules.specs.declared.GameState.{GameState}
 use Rattle.rules.specs.declared.GameState.the-variants.{Won}
+use Rattle.rules.specs.declared.NextBoard.{NextBoard}
+use Rattle.rules.specs.declared.NextBoard.the-variants.{Any, Only}
 use Rattle.rules.specs.Board.{other, same, sides, blank, mine, in-play, won-by, nine, has-line}
-use Rattle.rules.specs.Position.{Due, free, at, Position, going, open-board, won-boards, free-cell}
+use Rattle.rules.specs.Position.{Position, going, open-board, won-boards, free-cell}
 use Rattle.rules.specs.Play.{board-of, cell-of, may, checks, accepts, after, Tried, played, refused, play}
 use Rattle.rules.specs.Sound.{sound}
 use Rattle.rules.specs.Status.{Status, unproven, for-player, allows, alone, from-byte, merge}
@@ -88,18 +90,19 @@ lure→ p w b i t =
     let r5 = and→ (not (eqb i b)) _ (r4 .1) in
     record { empty = r1 .0; opened = r2 .0; not-own = r3 .0; not-others = r4 .0; away = λ e. deny (eqb i b) (r5 .0) (subst (λ (x : ℕ). T (eqb i x)) (sym e) (eqb-refl i)); all-suited = r5 .1 }
 
-pub attack→ : (p : Position) (w : Player) (b : ℕ) → T (attack p w (at b)) → T (critical p w b) ⊎ T (any (lure p w b) nine)
+pub attack→ : (p : Position) (w : Player) (b : ℕ) → T (attack p w (Only b)) → T (critical p w b) ⊎ T (any (lure p w b) nine)
 unfolding attack
 attack→ p w b t = or→ (critical p w b) _ t
 
-pub forced→ : (p : Position) (v : Player) (d : Due) → T (forced p v d) → (b : ℕ) × (d ≡ at b) × T (not (critical p v b)) × T (all-suit p v b)
+pub forced→ : (p : Position) (v : Player) (d : NextBoard) → T (forced p v d)
+    → (b : ℕ) × (d ≡ Only b) × T (not (critical p v b)) × T (all-suit p v b)
 unfolding forced
-forced→ p v free t = absurd t
-forced→ p v (at b) t = let r = and→ (not (critical p v b)) _ t in (b, refl, r .0, r .1)
+forced→ p v Any t = absurd t
+forced→ p v (Only b) t = let r = and→ (not (critical p v b)) _ t in (b, refl, r .0, r .1)
 
 -- the board of an allowed move is the one that is due
-pub due-is-played : (d : Due) (b x : ℕ) → d ≡ at b → T (may d x) → b ≡ x
-due-is-played d b x e t = eqb→eq b x (subst (λ (z : Due). T (may z x)) e t)
+pub due-is-played : (d : NextBoard) (b x : ℕ) → d ≡ Only b → T (may d x) → b ≡ x
+due-is-played d b x e t = eqb→eq b x (subst (λ (z : NextBoard). T (may z x)) e t)
 
 -- ---- after a move
 pub after-turn : (p : Position) (b c : ℕ) → after p b c .turn ≡ other (p .turn)
@@ -187,7 +190,8 @@ module _ (p : Position) (b c : ℕ) (l : Legal p b c) where
   pub lands : (w : Player) (k : ℕ) → k < 9 → T (critical p w k) → (b ≡ k → ⊥) → (T (open-board p c) → T (critical p w c) × (b ≡ c → ⊥)) →
       (j : ℕ) × (j < 9) × T (critical (after p b c) w j) × T (may (after p b c .due) j)
   unfolding after
-  lands w k h t n s = if-ind (λ (d : Due). (j : ℕ) × (j < 9) × T (critical (after p b c) w j) × T (may d j)) (open-board (after p b c) c) _ _
+  lands w k h t n s = if-ind (λ (d : NextBoard). (j : ℕ) × (j < 9) × T (critical (after p b c) w j) × T (may d j))
+      (open-board (after p b c) c) _ _
       (λ o. let r = s (open-before c o) in (c, l .cell, crit-still w c (r .1) (r .0), eqb-refl c))
       (λ _. (k, h, crit-still w k n t, tt))
 

@@ -14,8 +14,10 @@ use Rattle.rules.specs.declared.CellState.{CellState}
 use Rattle.rules.specs.declared.CellState.the-variants.{Empty, Played}
 use Rattle.rules.specs.declared.GameState.{GameState}
 use Rattle.rules.specs.declared.GameState.the-variants.{InPlay, Drawn, Won}
+use Rattle.rules.specs.declared.NextBoard.{NextBoard}
+use Rattle.rules.specs.declared.NextBoard.the-variants.{Any, Only}
 use Rattle.rules.specs.Board.{other, nine, in-play, won-by, result}
-use Rattle.rules.specs.Position.{Due, free, at, Position}
+use Rattle.rules.specs.Position.{Position}
 use Rattle.rules.specs.Moves.{moves}
 use Rattle.rules.specs.Compare.{bound-depth, open-boards, equivalent}
 use Rattle.rules.specs.Status.{as-byte}
@@ -37,9 +39,9 @@ cell-shown k = if eqb k 0x2e then (λ _. Empty) else λ _. Played (side-shown k)
 unfoldable pub state-shown : ℕ → GameState
 state-shown k = if eqb k 0x2e || eqb k 0x40 then (λ _. InPlay) else λ _. if eqb k 0x23 then (λ _. Drawn) else λ _. Won (side-shown k)
 
-unfoldable pub due-shown : String → List ℕ → Due
-due-shown s [] = free
-due-shown s (b ∷ bs) = if eqb (nth s (2 + b)) 0x40 then (λ _. at b) else λ _. due-shown s bs
+unfoldable pub due-shown : String → List ℕ → NextBoard
+due-shown s [] = Any
+due-shown s (b ∷ bs) = if eqb (nth s (2 + b)) 0x40 then (λ _. Only b) else λ _. due-shown s bs
 
 unfoldable pub shown : String → Position
 shown s =

@@ -16,8 +16,10 @@ use Rattle.rules.specs.declared.CellState.the-variants.{Empty, Played}
 use Rattle.rules.specs.declared.GameState.{GameState}
 use Rattle.rules.specs.declared.GameState.the-variants.{InPlay, Drawn, Won}
 use Rattle.rules.specs.declared.DrawWinner.the-variants.{Nobody, Side}
+use Rattle.rules.specs.declared.NextBoard.{NextBoard}
+use Rattle.rules.specs.declared.NextBoard.the-variants.{Any, Only}
 use Rattle.rules.specs.Board.{line, has-line, result}
-use Rattle.rules.specs.Position.{Due, free, at, Position, start, won-boards}
+use Rattle.rules.specs.Position.{Position, start, won-boards}
 use Rattle.base.specs.Checks.{all-pass, first-failed}
 use Rattle.rules.specs.Play.{accepts, after, refused, play, left-by, tried, reached}
 use Rattle.rules.specs.Moves.{places, moves}
@@ -50,7 +52,7 @@ unfolding analysis or-unproven stats merged combine narrow proven merge from-byt
 analysing = tt
 
 -- ---- positions from lists: boards in play and empty cells where a list ends
-unfoldable pub position : Player → Due → List GameState → List (List CellState) → Position
+unfoldable pub position : Player → NextBoard → List GameState → List (List CellState) → Position
 position w d states cells = record { turn = w; due = d; cells = λ b c. getD (getD cells b []) c Empty; states = λ b. getD states b InPlay; state = InPlay }
 
 abbrev x : CellState
@@ -85,7 +87,7 @@ abbrev c9 : List (List CellState)
 c9 = (x ∷ x ∷ x ∷ []) ∷ (x ∷ x ∷ x ∷ []) ∷ (x ∷ x ∷ []) ∷ []
 
 unfoldable pub second : Position
-second = position X (at 2) (Won X ∷ Won X ∷ []) c9
+second = position X (Only 2) (Won X ∷ Won X ∷ []) c9
 
 pub second-is-sound : (sound second ≡ true) × (proper second ≡ true) × (length (moves second) ≡ 7)
 unfolding second position sound proper listing
@@ -134,15 +136,16 @@ refusals = (refl, refl, refl, refl, refl, refl)
 
 -- ---- a move that draws a board, by the last cell, and sends to that board: it is neither side's, and the choice is free
 unfoldable pub last-cell : Position
-last-cell = position X (at 8) [] ([] ∷ [] ∷ [] ∷ [] ∷ [] ∷ [] ∷ [] ∷ [] ∷ (x ∷ o ∷ x ∷ x ∷ o ∷ o ∷ o ∷ x ∷ e ∷ []) ∷ [])
+last-cell = position X (Only 8) [] ([] ∷ [] ∷ [] ∷ [] ∷ [] ∷ [] ∷ [] ∷ [] ∷ (x ∷ o ∷ x ∷ x ∷ o ∷ o ∷ o ∷ x ∷ e ∷ []) ∷ [])
 
-pub drawn-board : let q = tried last-cell 0x88 in (q .states 8 ≡ Drawn) × (won-boards q X 8 ≡ false) × (won-boards q O 8 ≡ false) × (q .due ≡ free) × (q .state ≡ InPlay)
+pub drawn-board : let q = tried last-cell 0x88 in
+    (q .states 8 ≡ Drawn) × (won-boards q X 8 ≡ false) × (won-boards q O 8 ≡ false) × (q .due ≡ Any) × (q .state ≡ InPlay)
 unfolding last-cell position playing
 drawn-board = (refl, refl, refl, refl, refl)
 
 -- only the mover's lines are looked at: O's line stays unseen, and the board in play
 unfoldable pub unseen : Position
-unseen = position X free [] ((o ∷ o ∷ o ∷ []) ∷ [])
+unseen = position X Any [] ((o ∷ o ∷ o ∷ []) ∷ [])
 
 pub unseen-line : tried unseen 0x08 .states 0 ≡ InPlay
 unfolding unseen position playing
@@ -152,7 +155,10 @@ unseen-line = refl
 unfoldable pub full-row : List CellState
 full-row = x ∷ o ∷ x ∷ x ∷ o ∷ o ∷ o ∷ x ∷ x ∷ []
 
-pub unsound-positions : (sound unseen ≡ false) × (sound (position X free [] (full-row ∷ [])) ≡ false) × (sound (position X free (Drawn ∷ []) (full-row ∷ [])) ≡ true)
+pub unsound-positions :
+    (sound unseen ≡ false)
+    × (sound (position X Any [] (full-row ∷ [])) ≡ false)
+    × (sound (position X Any (Drawn ∷ []) (full-row ∷ [])) ≡ true)
 unfolding unseen full-row position sound playing
 unsound-positions = (refl, refl, refl)
 
@@ -184,7 +190,7 @@ keys-are = (refl, refl, refl, refl, refl, refl)
 -- ---- values
 -- three of one side in a board's line give nothing: 3 columns and 2 diagonals of 1, through a corner board's 3 lines
 unfoldable pub three-in-line : Position
-three-in-line = position X free [] ((x ∷ x ∷ x ∷ []) ∷ [])
+three-in-line = position X Any [] ((x ∷ x ∷ x ∷ []) ∷ [])
 
 pub three-in-line-value : evaluate Nobody three-in-line ≡ pos 15
 unfolding three-in-line position valuing
@@ -192,7 +198,7 @@ three-in-line-value = refl
 
 -- an overall line through a drawn board still counts: board 1 gives 20 in each of its two lines
 unfoldable pub beside-drawn : Position
-beside-drawn = position X free (Drawn ∷ Won X ∷ []) []
+beside-drawn = position X Any (Drawn ∷ Won X ∷ []) []
 
 pub beside-drawn-value : evaluate Nobody beside-drawn ≡ pos 40
 unfolding beside-drawn position valuing
@@ -200,7 +206,7 @@ beside-drawn-value = refl
 
 -- an overall line with both sides in it gives nothing, not even what its third board scores: X's 2 × 20 and O's 20 in other lines, and 4 in two of board 2's three lines
 unfoldable pub both-sides : Position
-both-sides = position X free (Won X ∷ Won O ∷ []) ([] ∷ [] ∷ (e ∷ e ∷ e ∷ e ∷ x ∷ []) ∷ [])
+both-sides = position X Any (Won X ∷ Won O ∷ []) ([] ∷ [] ∷ (e ∷ e ∷ e ∷ e ∷ x ∷ []) ∷ [])
 
 pub both-sides-value : let p = both-sides in (board-score p 2 ≡ pos 4) × (overall-line (won-boards p X) (won-boards p O) (board-score p) (line 0 1 2) ≡ pos 0) × (evaluate Nobody p ≡ pos 28)
 unfolding both-sides position valuing
@@ -208,7 +214,7 @@ both-sides-value = (refl, refl, refl)
 
 -- three boards of one side in an overall line of an unfinished game give 60, and 20 in five other lines
 unfoldable pub three-boards : Position
-three-boards = position X free (Won X ∷ Won X ∷ Won X ∷ []) []
+three-boards = position X Any (Won X ∷ Won X ∷ Won X ∷ []) []
 
 pub three-boards-value : let p = three-boards in (overall-line (won-boards p X) (won-boards p O) (board-score p) (line 0 1 2) ≡ pos 60) × (evaluate Nobody p ≡ pos 160)
 unfolding three-boards position valuing
@@ -217,7 +223,7 @@ three-boards-value = (refl, refl)
 -- ---- the endgame
 -- X wins by board 2, but O is sent there and can take the cell that X needs: no loss is said
 unfoldable pub blockable : Position
-blockable = position O (at 2) (Won X ∷ Won X ∷ []) ([] ∷ [] ∷ (x ∷ x ∷ e ∷ o ∷ o ∷ x ∷ x ∷ o ∷ o ∷ []) ∷ [])
+blockable = position O (Only 2) (Won X ∷ Won X ∷ []) ([] ∷ [] ∷ (x ∷ x ∷ e ∷ o ∷ o ∷ x ∷ x ∷ o ∷ o ∷ []) ∷ [])
 
 pub blockable-status : (has-critical blockable X ≡ true) × (as-byte (analysis blockable .status) ≡ 7)
 unfolding blockable position analysing
@@ -225,7 +231,7 @@ blockable-status = (refl, refl)
 
 -- each side wins by a board of its own, and O is to move
 unfoldable pub race : Position
-race = position O free (Won X ∷ Won X ∷ InPlay ∷ Won O ∷ Won O ∷ []) ([] ∷ [] ∷ (x ∷ x ∷ []) ∷ [] ∷ [] ∷ (e ∷ o ∷ o ∷ []) ∷ [])
+race = position O Any (Won X ∷ Won X ∷ InPlay ∷ Won O ∷ Won O ∷ []) ([] ∷ [] ∷ (x ∷ x ∷ []) ∷ [] ∷ [] ∷ (e ∷ o ∷ o ∷ []) ∷ [])
 
 pub judged-moves :
     (evaluate-move unseen 0x99 ≡ record { refusal = 14; status = unproven })  -- unsound, and no such board

@@ -15,8 +15,10 @@ use Rattle.rules.specs.declared.Player.{Player}
 use Rattle.rules.specs.declared.CellState.{CellState}
 use Rattle.rules.specs.declared.CellState.the-variants.{Played}
 use Rattle.rules.specs.declared.GameState.{GameState}
+use Rattle.rules.specs.declared.NextBoard.{NextBoard}
+use Rattle.rules.specs.declared.NextBoard.the-variants.{Any, Only}
 use Rattle.rules.specs.Board.{other, sides, blank, mine, in-play, won-by, nine, has-line, result}
-use Rattle.rules.specs.Position.{Due, free, at, Position, start, going, open-board, won-boards, free-cell, has}
+use Rattle.rules.specs.Position.{Position, start, going, open-board, won-boards, free-cell, has}
 use Rattle.rules.specs.Play.{move-of, board-of, cell-of, may, accepts, after, tried, reached}
 use Rattle.rules.specs.Moves.{moves}
 use Rattle.rules.specs.Sound.{sound, due-open, proper}
@@ -100,7 +102,8 @@ module _ (p : Position) (b c : ℕ) (l : Legal p b c) where
   -- the next board is open, whatever the position
   due-after : T (due-open (after p b c) (after p b c .due))
   unfolding after
-  due-after = if-ind (λ (d : Due). T (due-open (after p b c) d)) (in-play (put (p .states) b (made p b c) c)) _ _ (λ t. →and (ltb c 9) _ (lt→ltb c 9 (l .cell)) t) (λ _. tt)
+  due-after = if-ind (λ (d : NextBoard). T (due-open (after p b c) d)) (in-play (put (p .states) b (made p b c) c)) _ _
+      (λ t. →and (ltb c 9) _ (lt→ltb c 9 (l .cell)) t) (λ _. tt)
 
   -- in an unfinished game the mover has no line of boards, and a board is open
   open-after : T (going (after p b c)) → T (not (has-line (won-boards (after p b c) (p .turn)))) × T (any (open-board (after p b c)) nine)
@@ -180,9 +183,9 @@ reached-is-sound ms = good-is-sound (reached start ms) (reached-good start start
 playable-board : (p : Position) → Good p → T (going p) → (b : ℕ) × (b < 9) × T (open-board p b) × T (may (p .due) b)
 playable-board p g t = go (p .due) (g .due-is)
   where
-    go : (d : Due) → T (due-open p d) → (b : ℕ) × (b < 9) × T (open-board p b) × T (may d b)
-    go free u = let r = any-some (open-board p) nine (g .some-open t) in (r .0, nine-in (r .0) (r .1), r .2, tt)
-    go (at b) u = let r = and→ (ltb b 9) _ u in (b, ltb→lt b 9 (r .0), r .1, eqb-refl b)
+    go : (d : NextBoard) → T (due-open p d) → (b : ℕ) × (b < 9) × T (open-board p b) × T (may d b)
+    go Any u = let r = any-some (open-board p) nine (g .some-open t) in (r .0, nine-in (r .0) (r .1), r .2, tt)
+    go (Only b) u = let r = and→ (ltb b 9) _ u in (b, ltb→lt b 9 (r .0), r .1, eqb-refl b)
 
 -- an unfinished sound proper position has a move
 pub some-move : (p : Position) → Good p → T (going p) → (m : ℕ) × In m (moves p)

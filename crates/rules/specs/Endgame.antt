@@ -7,12 +7,14 @@ use lib.Dec.{eqb}
 use Rattle.rules.specs.declared.Player.{Player}
 use Rattle.rules.specs.declared.Player.the-variants.{X, O}
 use Rattle.rules.specs.declared.CellState.{CellState}
+use Rattle.rules.specs.declared.NextBoard.{NextBoard}
+use Rattle.rules.specs.declared.NextBoard.the-variants.{Any, Only}
 use Rattle.base.specs.Branch.{if_then_else_}
 use Rattle.base.specs.Lists.{any, all}
 use Rattle.base.specs.Checks.{all-pass, first-failed}
 use Rattle.base.specs.Change.{put}
 use Rattle.rules.specs.Board.{other, blank, mine, nine, has-line}
-use Rattle.rules.specs.Position.{Due, free, at, Position, going, open-board, won-boards, free-cell}
+use Rattle.rules.specs.Position.{Position, going, open-board, won-boards, free-cell}
 use Rattle.rules.specs.Play.{board-of, cell-of, checks}
 use Rattle.rules.specs.Sound.{sound}
 use Rattle.rules.specs.Status.{Status, unproven, for-player, draw-or-other, merge}
@@ -47,18 +49,18 @@ lure p w b i =
     free-cell p b i && (open-board p i &&
     (not (critical p w i) && (not (critical p (other w) i) && (not (eqb i b) && all-suit p w i))))
 
-unfoldable pub attack : Position → Player → Due → Bool
-attack p w free = true
-attack p w (at b) = critical p w b || any (lure p w b) nine
+unfoldable pub attack : Position → Player → NextBoard → Bool
+attack p w Any = true
+attack p w (Only b) = critical p w b || any (lure p w b) nine
 
 unfoldable pub prove-attacker : Position → Bool
 prove-attacker p = has-critical p (p .turn) && attack p (p .turn) (p .due)
 
 -- ---- the side to move loses: every cell of the board that is due sends the other side, v, where it suits, and v's critical boards are
 -- elsewhere
-unfoldable pub forced : Position → Player → Due → Bool
-forced p v free = false
-forced p v (at b) = not (critical p v b) && all-suit p v b
+unfoldable pub forced : Position → Player → NextBoard → Bool
+forced p v Any = false
+forced p v (Only b) = not (critical p v b) && all-suit p v b
 
 unfoldable pub forced-loss : Position → Bool
 forced-loss p = has-critical p (other (p .turn)) && forced p (other (p .turn)) (p .due)

@@ -9,10 +9,12 @@ use Rattle.rules.specs.declared.CellState.{CellState}
 use Rattle.rules.specs.declared.CellState.the-variants.{Empty, Played}
 use Rattle.rules.specs.declared.GameState.{GameState}
 use Rattle.rules.specs.declared.GameState.the-variants.{InPlay, Drawn, Won}
+use Rattle.rules.specs.declared.NextBoard.{NextBoard}
+use Rattle.rules.specs.declared.NextBoard.the-variants.{Any, Only}
 use Rattle.base.specs.Branch.{if_then_else_}
 use Rattle.base.specs.Change.{put}
 use Rattle.rules.specs.Board.{nine, in-play}
-use Rattle.rules.specs.Position.{Due, free, at, Position}
+use Rattle.rules.specs.Position.{Position}
 use Rattle.rules.specs.Play.{after}
 use Rattle.rules.specs.Keys.{x-cell-keys, o-cell-keys, drawn-keys, x-board-keys, o-board-keys, due-keys, x-key, o-key}
 
@@ -33,9 +35,9 @@ board-key b InPlay = 0
 board-key b Drawn = getD drawn-keys b 0
 board-key b (Won w) = getD (won-keys w) b 0
 
-unfoldable pub due-key : Due → ℕ
-due-key free = 0
-due-key (at b) = getD due-keys b 0
+unfoldable pub due-key : NextBoard → ℕ
+due-key Any = 0
+due-key (Only b) = getD due-keys b 0
 
 abbrev pub player-key : Player → ℕ
 player-key X = x-key

@@ -4,11 +4,13 @@ use mathlib.Core.List.{List, [], _∷_}
 use Prim.Native.Nat.{ℕ, _+_, _*_, _/_, _%_}
 use lib.Dec.{eqb, ltb}
 use Rattle.rules.specs.declared.CellState.the-variants.{Played}
+use Rattle.rules.specs.declared.NextBoard.{NextBoard}
+use Rattle.rules.specs.declared.NextBoard.the-variants.{Any, Only}
 use Rattle.base.specs.Branch.{if_then_else_}
 use Rattle.base.specs.Checks.{all-pass, first-failed}
 use Rattle.base.specs.Change.{put}
 use Rattle.rules.specs.Board.{other, blank, mine, in-play, won-by, result}
-use Rattle.rules.specs.Position.{Due, free, at, Position, going, open-board, free-cell}
+use Rattle.rules.specs.Position.{Position, going, open-board, free-cell}
 
 -- ---- a move is 16 times board plus cell
 abbrev pub move-of : ℕ → ℕ → ℕ
@@ -25,9 +27,9 @@ abbrev pub no-move : ℕ
 no-move = 0xff
 
 -- ---- what is asked of a move in cell c of board b, each with the number of its refusal, in order
-abbrev pub may : Due → ℕ → Bool
-may free b = true
-may (at d) b = eqb d b
+abbrev pub may : NextBoard → ℕ → Bool
+may Any b = true
+may (Only d) b = eqb d b
 
 abbrev pub checks : Position → ℕ → ℕ → List (Bool × ℕ)
 checks p b c =
@@ -49,7 +51,7 @@ after p b c =
     let states = put (p .states) b (result w (λ i. mine w (row i)) (λ i. blank (row i))) in
     record {
       turn = other w;
-      due = if in-play (states c) then (λ _. at c) else λ _. free;
+      due = if in-play (states c) then (λ _. Only c) else λ _. Any;
       cells = put (p .cells) b row;
       states = states;
       state = result w (λ i. won-by w (states i)) (λ i. in-play (states i));

@@ -8,23 +8,21 @@ use Rattle.rules.specs.declared.CellState.{CellState}
 use Rattle.rules.specs.declared.CellState.the-variants.{Empty}
 use Rattle.rules.specs.declared.GameState.{GameState}
 use Rattle.rules.specs.declared.GameState.the-variants.{InPlay}
+use Rattle.rules.specs.declared.NextBoard.{NextBoard}
+use Rattle.rules.specs.declared.NextBoard.the-variants.{Any, Only}
 use Rattle.rules.specs.Board.{blank, mine, in-play, won-by}
 
--- the next board: free choice, or one board that is due
-pub data Due : Type 0 where
-  free : Due
-  at : ℕ → Due
-
-abbrev pub same-due : Due → Due → Bool
-same-due free free = true
-same-due free (at c) = false
-same-due (at b) free = false
-same-due (at b) (at c) = eqb b c
+abbrev pub same-due : NextBoard → NextBoard → Bool
+same-due Any Any = true
+same-due Any (Only c) = false
+same-due (Only b) Any = false
+same-due (Only b) (Only c) = eqb b c
 
 pub record Position : Type 0 where
   -- the side to move
   pub turn : Player
-  pub due : Due
+  -- the next board: free choice, or one board that is due
+  pub due : NextBoard
   -- cell c of board b
   pub cells : ℕ → ℕ → CellState
   -- board b, in play, drawn or won
@@ -34,7 +32,7 @@ pub record Position : Type 0 where
 
 -- the empty board: X to move, free choice
 abbrev pub start : Position
-start = record { turn = X; due = free; cells = λ _ _. Empty; states = λ _. InPlay; state = InPlay }
+start = record { turn = X; due = Any; cells = λ _ _. Empty; states = λ _. InPlay; state = InPlay }
 
 abbrev pub going : Position → Bool
 going p = in-play (p .state)

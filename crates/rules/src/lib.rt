@@ -1,9 +1,11 @@
-// The sides, the cells and the states of a board or of the game, and what a drawn game counts as.
+// The sides, the cells, the states of a board or of the game, the next board, and what a drawn game counts as.
 // Ported from src/lib/game.rs of nelhage/ultimattt at commit 87ef0d9c7c (Apache-2.0, see NOTICE), changed: methods take
 // `self` by value, and the draw winner is an enum of its own.
 ghost use mathlib.Core.Path.{_≡_};
 ghost use mathlib.Core.Bool.{not};
 ghost use Rattle.rules.specs.Board.{other, side-number, in-play, state-number};
+ghost use Rattle.rules.specs.Position.{same-due};
+ghost use Rattle.rules.specs.Play.{may};
 
 pub enum Player {
     X,
@@ -62,6 +64,39 @@ impl GameState {
             GameState::Won(who) => match who {
                 Player::X => 2,
                 Player::O => 3,
+            },
+        }
+    }
+}
+
+// The board that is due: free choice, or one board.
+pub enum NextBoard {
+    Any,
+    Only(u8),
+}
+
+impl NextBoard {
+    // Whether a move in a board is allowed.
+    pub fn allows(self, board: usize) -> bool
+        ensures { λ r. ⌜ r ≡ may self board ⌝ }
+    {
+        match self {
+            NextBoard::Any => true,
+            NextBoard::Only(b) => b as usize == board,
+        }
+    }
+
+    pub fn same(self, rhs: NextBoard) -> bool
+        ensures { λ r. ⌜ r ≡ same-due self rhs ⌝ }
+    {
+        match self {
+            NextBoard::Any => match rhs {
+                NextBoard::Any => true,
+                NextBoard::Only(_) => false,
+            },
+            NextBoard::Only(b) => match rhs {
+                NextBoard::Any => false,
+                NextBoard::Only(c) => b == c,
             },
         }
     }

@@ -11,8 +11,10 @@ use Rattle.base.specs.Lists.{any}
 use Rattle.rules.specs.declared.Player.the-variants.{X, O}
 use Rattle.rules.specs.declared.GameState.{GameState}
 use Rattle.rules.specs.declared.GameState.the-variants.{InPlay, Drawn, Won}
+use Rattle.rules.specs.declared.NextBoard.{NextBoard}
+use Rattle.rules.specs.declared.NextBoard.the-variants.{Any, Only}
 use Rattle.rules.specs.Board.{has-line, result}
-use Rattle.rules.specs.Position.{Due, free, at, Position, start}
+use Rattle.rules.specs.Position.{Position, start}
 use Rattle.rules.specs.Hash.{cell-key, board-key, due-key, xors, cells-hash, board-hash, hash}
 use Rattle.text.specs.Bytes.{semicolon}
 use Rattle.text.specs.Reading.{Reading, reads, refuses, side-of, overall-mark, cell-mark, sections, first-bad, last-at, fault-at, first-fault, cell-in, state-in, said, read-cells, read-overall, read}
@@ -35,7 +37,7 @@ told f (refuses n o l) = none
 pub record Seen : Type 0 where
   pub text : List ℕ
   pub state : GameState
-  pub due : Due
+  pub due : NextBoard
   pub hash : ℕ
 
 -- what is compared with the Rust
@@ -69,7 +71,7 @@ pub empty-text-reads : read empty-text ≡ reads start
 empty-text-reads = ap read (sym start-text) ∙ read-after-write start start-is-written
 
 -- its hash is 0
-pub empty-text-is-seen : seen (read empty-text) ≡ some (record { text = empty-text; state = InPlay; due = free; hash = 0 })
+pub empty-text-is-seen : seen (read empty-text) ≡ some (record { text = empty-text; state = InPlay; due = Any; hash = 0 })
 unfolding empty-text e9 seeing
 empty-text-is-seen = refl
 
@@ -112,7 +114,7 @@ cell-refusals = (refl, refl, refl, refl, refl, refl)
 
 -- ---- of several `@` the last is the next board, and all are in play
 pub several-due :
-    (told (λ p. p .due) (read (bytes "O;@X@.#@.O.;" ++ e9)) ≡ some (at 5))
+    (told (λ p. p .due) (read (bytes "O;@X@.#@.O.;" ++ e9)) ≡ some (Only 5))
     × (told text-of (read (bytes "O;@X@.#@.O.;" ++ e9)) ≡ some (bytes "O;.X..#@.O.;" ++ e9))
 unfolding e9 seeing
 several-due = (refl, refl)
@@ -149,23 +151,26 @@ unfolding reading
 rust-refusals = (refl, refl, refl, refl, refl, refl, refl, refl, refl, refl, refl, refl, refl, refl, refl, refl, refl, refl)
 
 -- a text reads, with what the Rust then shows
-abbrev Rust : List ℕ → String → GameState → Due → ℕ → Type 0
+abbrev Rust : List ℕ → String → GameState → NextBoard → ℕ → Type 0
 Rust t again g d h = seen (read t) ≡ some (record { text = bytes again; state = g; due = d; hash = h })
 
 -- positions: won, drawn though X has every line, with a tail, with several `@`
 pub rust-readings :
     (Rust (bytes "O;.@.......;.OO....../XX.O...X./.OX....../......X../........./........./XX....O.O/.O......./......X..")
-    "O;.@.......;.OO....../XX.O...X./.OX....../......X../........./........./XX....O.O/.O......./......X.." InPlay (at 1) 16275768051207996528)
+    "O;.@.......;.OO....../XX.O...X./.OX....../......X../........./........./XX....O.O/.O......./......X.."
+    InPlay (Only 1) 16275768051207996528)
     × (Rust (bytes "X;OX.OOOX@X;OOOX...../.O.XXX.../.....O..X/......OOO/XOX.O.OO./XO..O..O./.X..X..X./.X..XX.O./X..X..X.O")
-    "X;OX.OOOX@X;OOOX...../.O.XXX.../.....O..X/......OOO/XOX.O.OO./XO..O..O./.X..X..X./.X..XX.O./X..X..X.O" (Won O) (at 7) 7471298720362326179)
+    "X;OX.OOOX@X;OOOX...../.O.XXX.../.....O..X/......OOO/XOX.O.OO./XO..O..O./.X..X..X./.X..XX.O./X..X..X.O"
+    (Won O) (Only 7) 7471298720362326179)
     × (Rust (bytes "X;XXXXXXXXX;.......OO/......X../O......../..X....../.X......X/...O.O.O./XX......./OOO..X.../..O......")
-    "X;XXXXXXXXX;.......OO/......X../O......../..X....../.X......X/...O.O.O./XX......./OOO..X.../..O......" Drawn free 7042103740342865050)
+    "X;XXXXXXXXX;.......OO/......X../O......../..X....../.X......X/...O.O.O./XX......./OOO..X.../..O......" Drawn Any 7042103740342865050)
     × (Rust (bytes "X;OO.OO..OO;..O.X...O/O..XX..X./X......../XO......./........./.....XO../.O......./........./.X.......tail")
-    "X;OO.OO..OO;..O.X...O/O..XX..X./X......../XO......./........./.....XO../.O......./........./.X......." (Won O) free 6599334585561191219)
+    "X;OO.OO..OO;..O.X...O/O..XX..X./X......../XO......./........./.....XO../.O......./........./.X......." (Won O) Any 6599334585561191219)
     × (Rust (bytes "O;X#XOXOOXO;OXXXOOXXX/XOXOOXOXO/OOXOXOX.O/OOOX.X.OX/XX..O.XXX/O...OXO.O/XXOOOXOOX/...XXX.../OXXOOOXOX" ++ (0xc3 ∷ 0xa9 ∷ []))
-    "O;X#XOXOOXO;OXXXOOXXX/XOXOOXOXO/OOXOXOX.O/OOOX.X.OX/XX..O.XXX/O...OXO.O/XXOOOXOOX/...XXX.../OXXOOOXOX" Drawn free 8260499521574549790)
+    "O;X#XOXOOXO;OXXXOOXXX/XOXOOXOXO/OOXOXOX.O/OOOX.X.OX/XX..O.XXX/O...OXO.O/XXOOOXOOX/...XXX.../OXXOOOXOX" Drawn Any 8260499521574549790)
     × (Rust (bytes "X;@@@.@@.@.;.O..X..../...XO..O./..X....../.....XO../OX.X..X.O/....OXXXX/X.OOO.X.O/.....O..O/.X.......")
-    "X;.......@.;.O..X..../...XO..O./..X....../.....XO../OX.X..X.O/....OXXXX/X.OOO.X.O/.....O..O/.X......." InPlay (at 7) 8000145076095137924)
+    "X;.......@.;.O..X..../...XO..O./..X....../.....XO../OX.X..X.O/....OXXXX/X.OOO.X.O/.....O..O/.X......."
+    InPlay (Only 7) 8000145076095137924)
 unfolding seeing
 rust-readings = (refl, refl, refl, refl, refl, refl)
 

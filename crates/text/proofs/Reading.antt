@@ -15,8 +15,9 @@ use Rattle.base.proofs.Branch.{if-ind, if-both}
 use Rattle.rules.specs.declared.Player.{Player}
 use Rattle.rules.specs.declared.CellState.the-variants.{Empty}
 use Rattle.rules.specs.declared.GameState.the-variants.{InPlay}
+use Rattle.rules.specs.declared.NextBoard.the-variants.{Any}
 use Rattle.rules.specs.Board.{other, result}
-use Rattle.rules.specs.Position.{free, Position, open-board, won-boards}
+use Rattle.rules.specs.Position.{Position, open-board, won-boards}
 use Rattle.rules.specs.Sound.{due-open, proper}
 use Rattle.rules.proofs.Board.{result-open}
 use Rattle.rules.proofs.Play.{same-position}
@@ -161,7 +162,7 @@ cell-in-at cs b c h k l = if-ind (λ s. s ≡ or-else (cell-mark (getD cs (10 * 
 -- the board that is due has an `@`, so it reads as in play
 said-due : (w : Player) (os cs : List ℕ) → length os ≡ 9 → T (due-open (said w os cs) (said w os cs .due))
 unfolding said overall-mark if_then_else_
-said-due w os cs n = last-at-cases (λ d. T (due-open (said w os cs) d)) 0 os free (λ _. tt) (λ k h e _.
+said-due w os cs n = last-at-cases (λ d. T (due-open (said w os cs) d)) 0 os Any (λ _. tt) (λ k h e _.
     let z : 0 + k ≡ k = omega arith in
     rw z (→and (ltb k 9) _ (lt→ltb k 9 (omega arith)) (rw (state-in-at os k (omega arith) h, e) tt)))
 

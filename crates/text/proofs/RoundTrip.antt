@@ -20,8 +20,10 @@ use Rattle.rules.specs.declared.CellState.{CellState}
 use Rattle.rules.specs.declared.CellState.the-variants.{Empty, Played}
 use Rattle.rules.specs.declared.GameState.{GameState}
 use Rattle.rules.specs.declared.GameState.the-variants.{InPlay, Drawn, Won}
+use Rattle.rules.specs.declared.NextBoard.{NextBoard}
+use Rattle.rules.specs.declared.NextBoard.the-variants.{Any, Only}
 use Rattle.rules.specs.Board.{other, in-play, won-by, has-line, result}
-use Rattle.rules.specs.Position.{Due, free, at, same-due, Position, start}
+use Rattle.rules.specs.Position.{same-due, Position, start}
 use Rattle.rules.specs.Play.{board-of, cell-of, after, tried, reached}
 use Rattle.rules.specs.Sound.{due-open, proper}
 use Rattle.rules.proofs.Board.{other-other}
@@ -78,7 +80,8 @@ Plain c = c ≡ semicolon → ⊥
 
 overall-is-plain : (p : Position) (b : ℕ) → Plain (overall-byte p b)
 unfolding overall-byte
-overall-is-plain p b = if-ind Plain (same-due (p .due) (at b)) _ _ (λ _ e. omega arith) (λ _. state-differs semicolon (lit< tt) (lit< tt) (p .states b))
+overall-is-plain p b = if-ind Plain (same-due (p .due) (Only b)) _ _
+    (λ _ e. omega arith) (λ _. state-differs semicolon (lit< tt) (lit< tt) (p .states b))
 
 cells-are-plain : (p : Position) (k : ℕ) → Plain (cells-byte p k)
 unfolding cells-byte
@@ -100,17 +103,19 @@ text-parts p =
     clear i j f k a b e = let r = f k a b in byte-is-plain p k (r .0) (r .1) (sym (text-at p k (r .2)) ∙ e)
 
 -- ---- the board that is due, and no other, has an `@`
-same-due→eq : (d : Due) (b : ℕ) → T (same-due d (at b)) → d ≡ at b
-same-due→eq free b t = absurd t
-same-due→eq (at c) b t = ap at (eqb→eq c b t)
+same-due→eq : (d : NextBoard) (b : ℕ) → T (same-due d (Only b)) → d ≡ Only b
+same-due→eq Any b t = absurd t
+same-due→eq (Only c) b t = ap Only (eqb→eq c b t)
 
-at-is-due : (p : Position) (b : ℕ) → overall-byte p b ≡ at-mark → p .due ≡ at b
+at-is-due : (p : Position) (b : ℕ) → overall-byte p b ≡ at-mark → p .due ≡ Only b
 unfolding overall-byte
-at-is-due p b = if-ind (λ c. c ≡ at-mark → p .due ≡ at b) (same-due (p .due) (at b)) _ _ (λ t _. same-due→eq (p .due) b t) (λ _ e. absurd (state-differs at-mark (lit< tt) (lit< tt) (p .states b) e))
+at-is-due p b = if-ind (λ c. c ≡ at-mark → p .due ≡ Only b) (same-due (p .due) (Only b)) _ _
+    (λ t _. same-due→eq (p .due) b t) (λ _ e. absurd (state-differs at-mark (lit< tt) (lit< tt) (p .states b) e))
 
-due-has-at : (p : Position) (b : ℕ) → p .due ≡ at b → overall-byte p b ≡ at-mark
+due-has-at : (p : Position) (b : ℕ) → p .due ≡ Only b → overall-byte p b ≡ at-mark
 unfolding overall-byte
-due-has-at p b e = if-ind (λ c. c ≡ at-mark) (same-due (p .due) (at b)) _ _ (λ _. refl) (λ n. absurd (deny (same-due (p .due) (at b)) n (rw e (eqb-refl b))))
+due-has-at p b e = if-ind (λ c. c ≡ at-mark) (same-due (p .due) (Only b)) _ _
+    (λ _. refl) (λ n. absurd (deny (same-due (p .due) (Only b)) n (rw e (eqb-refl b))))
 
 -- ---- positions that can be written: proper, with the state that the side not to move has left, and nothing beyond the nine boards
 pub record Written (p : Position) : Type 0 where
@@ -135,23 +140,26 @@ module _ (p : Position) (z : Written p) where
   unfolding proper
   due-is-open = and→ (due-open p (p .due)) _ (z .is-proper) .0
 
-  due-back : last-at 0 (marks-of p) free ≡ p .due
+  due-back : last-at 0 (marks-of p) Any ≡ p .due
   due-back = go (p .due) refl due-is-open
     where
-      no-other : (b : ℕ) → b < 9 → getD (marks-of p) b 0 ≡ at-mark → p .due ≡ at b
+      no-other : (b : ℕ) → b < 9 → getD (marks-of p) b 0 ≡ at-mark → p .due ≡ Only b
       no-other b h e = at-is-due p b (sym (marks-at p b h) ∙ e)
 
-      go : (d : Due) → p .due ≡ d → T (due-open p d) → last-at 0 (marks-of p) free ≡ d
-      go free e t = last-at-none (marks-of p) free (λ k _ h m. let x = no-other k h m in let y : _≡_ {A = ℕ} 0 1 = cc in omega arith)
-      go (at b) e t =
+      go : (d : NextBoard) → p .due ≡ d → T (due-open p d) → last-at 0 (marks-of p) Any ≡ d
+      go Any e t = last-at-none (marks-of p) Any (λ k _ h m. let x = no-other k h m in let y : _≡_ {A = ℕ} 0 1 = cc in omega arith)
+      go (Only b) e t =
           let h = ltb→lt b 9 (and→ (ltb b 9) _ t .0) in
-          last-at-is (marks-of p) free b h (marks-at p b h ∙ due-has-at p b e) (λ k l m f. let x = no-other k m f in let y : b ≡ k = cc in omega arith)
+          last-at-is (marks-of p) Any b h (marks-at p b h ∙ due-has-at p b e)
+          (λ k l m f. let x = no-other k m f in let y : b ≡ k = cc in omega arith)
 
   -- an overall mark reads as the board's state: the board that is due is in play
   mark-reads : (b : ℕ) → overall-mark (overall-byte p b) ≡ some (p .states b)
   unfolding overall-byte
-  mark-reads b = if-ind (λ c. overall-mark c ≡ some (p .states b)) (same-due (p .due) (at b)) _ _
-      (λ t. at-reads ∙ ap some (sym (in-play-is (p .states b) (and→ (ltb b 9) _ (subst (λ (d : Due). T (due-open p d)) (same-due→eq (p .due) b t) due-is-open) .1))))
+  mark-reads b = if-ind (λ c. overall-mark c ≡ some (p .states b)) (same-due (p .due) (Only b)) _ _
+      (λ t.
+      let due = subst (λ (d : NextBoard). T (due-open p d)) (same-due→eq (p .due) b t) due-is-open in
+      at-reads ∙ ap some (sym (in-play-is (p .states b) (and→ (ltb b 9) _ due .1))))
       (λ _. state-reads (p .states b))
 
   marks-are-known : first-bad (marks-of p) ≡ none

@@ -15,7 +15,8 @@ use Rattle.base.specs.Branch.{if_then_else_}
 use Rattle.base.specs.Lists.{how-many, from}
 use Rattle.base.proofs.Bool.{and→, →and, deny, is, not-not}
 use Rattle.base.proofs.Branch.{if-ind}
-use Rattle.rules.specs.Position.{Due, at}
+use Rattle.rules.specs.declared.NextBoard.{NextBoard}
+use Rattle.rules.specs.declared.NextBoard.the-variants.{Only}
 use Rattle.text.specs.Bytes.{semicolon, slash, at-mark}
 use Rattle.text.specs.Reading.{side-of, overall-mark, cell-mark, known, first-longer, sections, one-on, first-bad, last-at, fault-at, first-fault, lone-side}
 
@@ -198,7 +199,8 @@ none-bad→ os e = subst (BadMarks os) e (first-bad-is os)
 
 -- ---- the last `@`
 -- one mark on: the board that is due, as far as it is known
-pub last-at-steps : (i : ℕ) (os : List ℕ) (d : Due) → i < length os → last-at i (drop i os) d ≡ last-at (suc i) (drop (suc i) os) (if eqb (getD os i 0) at-mark then (λ _. at i) else λ _. d)
+pub last-at-steps : (i : ℕ) (os : List ℕ) (d : NextBoard) → i < length os
+    → last-at i (drop i os) d ≡ last-at (suc i) (drop (suc i) os) (if eqb (getD os i 0) at-mark then (λ _. Only i) else λ _. d)
 unfolding last-at
 last-at-steps i os d h = ap (λ (cs : List ℕ). last-at i cs d) (drop-cons os i 0 h)
 
@@ -213,26 +215,30 @@ none-at-all : (c : ℕ) (cs : List ℕ) → (c ≡ at-mark → ⊥) → NoneAt c
 none-at-all c cs n f k = elim k [ zero ↦ λ _ _. n | suc k ↦ λ _ l. f k (omega arith) (omega arith) ]
 
 -- it is the last place that holds `@`, or with none what was due before
-pub last-at-cases {κ} : (P : Due → Type κ) (i : ℕ) (os : List ℕ) (d : Due) →
-    (NoneAt os 0 → P d) → ((k : ℕ) → k < length os → getD os k 0 ≡ at-mark → NoneAt os (suc k) → P (at (i + k))) → P (last-at i os d)
+pub last-at-cases {κ} : (P : NextBoard → Type κ) (i : ℕ) (os : List ℕ) (d : NextBoard) →
+    (NoneAt os 0 → P d) → ((k : ℕ) → k < length os → getD os k 0 ≡ at-mark → NoneAt os (suc k) → P (Only (i + k))) → P (last-at i os d)
 unfolding last-at
 last-at-cases P i [] d x f = x (λ k _ h. absurd (omega arith))
 last-at-cases P i (c ∷ cs) d x f = last-at-cases P (suc i) cs _
-    (λ n. if-equal P c at-mark _ _ (λ e. subst (λ (k : ℕ). P (at k)) (omega arith) (f 0 (omega arith) e (none-at-later c cs 0 n))) (λ m. x (none-at-all c cs m n)))
-    (λ k h e n. subst (λ (k : ℕ). P (at k)) (omega arith) (f (suc k) (omega arith) e (none-at-later c cs (suc k) n)))
+    (λ n. if-equal P c at-mark _ _
+    (λ e. subst (λ (k : ℕ). P (Only k)) (omega arith) (f 0 (omega arith) e (none-at-later c cs 0 n)))
+    (λ m. x (none-at-all c cs m n)))
+    (λ k h e n. subst (λ (k : ℕ). P (Only k)) (omega arith) (f (suc k) (omega arith) e (none-at-later c cs (suc k) n)))
 
 -- without an `@` nothing becomes due
-pub last-at-none : (os : List ℕ) (d : Due) → NoneAt os 0 → last-at 0 os d ≡ d
+pub last-at-none : (os : List ℕ) (d : NextBoard) → NoneAt os 0 → last-at 0 os d ≡ d
 last-at-none os d n = last-at-cases (λ r. r ≡ d) 0 os d (λ _. refl) (λ k h e _. absurd (n k (omega arith) h e))
 
 -- the last `@` is due
-pub last-at-is : (os : List ℕ) (d : Due) (i : ℕ) → i < length os → getD os i 0 ≡ at-mark → NoneAt os (suc i) → last-at 0 os d ≡ at i
-last-at-is os d i h e n = last-at-cases (λ r. r ≡ at i) 0 os d (λ m. absurd (m i (omega arith) h e)) (λ k l f m. go k l f m (is (ltb i k)) (is (ltb k i)))
+pub last-at-is : (os : List ℕ) (d : NextBoard) (i : ℕ) → i < length os → getD os i 0 ≡ at-mark → NoneAt os (suc i) → last-at 0 os d ≡ Only i
+last-at-is os d i h e n = last-at-cases (λ r. r ≡ Only i) 0 os d
+    (λ m. absurd (m i (omega arith) h e)) (λ k l f m. go k l f m (is (ltb i k)) (is (ltb k i)))
   where
-    go : (k : ℕ) → k < length os → getD os k 0 ≡ at-mark → NoneAt os (suc k) → T (ltb i k) ⊎ T (not (ltb i k)) → T (ltb k i) ⊎ T (not (ltb k i)) → at (0 + k) ≡ at i
+    go : (k : ℕ) → k < length os → getD os k 0 ≡ at-mark → NoneAt os (suc k)
+        → T (ltb i k) ⊎ T (not (ltb i k)) → T (ltb k i) ⊎ T (not (ltb k i)) → Only (0 + k) ≡ Only i
     go k l f m (inl t) u = absurd (n k (ltb→lt i k t) l f)
     go k l f m (inr t) (inl u) = absurd (m i (ltb→lt k i u) h e)
-    go k l f m (inr t) (inr u) = ap at (omega (arith, nltb→le))
+    go k l f m (inr t) (inr u) = ap Only (omega (arith, nltb→le))
 
 -- ---- the fault of a byte of the cells
 -- byte i is a cell's mark

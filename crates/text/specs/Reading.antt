@@ -11,10 +11,12 @@ use Rattle.rules.specs.declared.CellState.{CellState}
 use Rattle.rules.specs.declared.CellState.the-variants.{Empty, Played}
 use Rattle.rules.specs.declared.GameState.{GameState}
 use Rattle.rules.specs.declared.GameState.the-variants.{InPlay, Drawn, Won}
+use Rattle.rules.specs.declared.NextBoard.{NextBoard}
+use Rattle.rules.specs.declared.NextBoard.the-variants.{Any, Only}
 use Rattle.base.specs.Branch.{if_then_else_}
 use Rattle.base.specs.Lists.{from}
 use Rattle.rules.specs.Board.{other, in-play, won-by, result}
-use Rattle.rules.specs.Position.{Due, free, at, Position}
+use Rattle.rules.specs.Position.{Position}
 use Rattle.text.specs.Bytes.{semicolon, slash, dot, hash-mark, at-mark, letter}
 
 pub data Reading : Type 0 where
@@ -73,9 +75,9 @@ first-bad [] = none
 first-bad (c ∷ cs) = if known (overall-mark c) then (λ _. one-on (first-bad cs)) else λ _. some 0
 
 -- i is the number of the first mark
-unfoldable pub last-at : ℕ → List ℕ → Due → Due
+unfoldable pub last-at : ℕ → List ℕ → NextBoard → NextBoard
 last-at i [] d = d
-last-at i (c ∷ cs) d = last-at (suc i) cs (if eqb c at-mark then (λ _. at i) else λ _. d)
+last-at i (c ∷ cs) d = last-at (suc i) cs (if eqb c at-mark then (λ _. Only i) else λ _. d)
 
 -- ---- the cells' section: nine boards of nine cells joined by `/`, 89 bytes; what follows is ignored
 -- the fault of byte i: a `/` lacking or replaced is 5, a cell that is lacking 6, a bad cell mark 3; 0 for none
@@ -101,7 +103,7 @@ said w os cs =
     let v = other w in
     record {
       turn = w;
-      due = last-at 0 os free;
+      due = last-at 0 os Any;
       cells = cell-in cs;
       states = state-in os;
       state = result v (λ b. won-by v (state-in os b)) (λ b. in-play (state-in os b));

@@ -8,9 +8,10 @@ use Rattle.rules.specs.declared.CellState.{CellState}
 use Rattle.rules.specs.declared.CellState.the-variants.{Empty, Played}
 use Rattle.rules.specs.declared.GameState.{GameState}
 use Rattle.rules.specs.declared.GameState.the-variants.{InPlay, Drawn, Won}
+use Rattle.rules.specs.declared.NextBoard.the-variants.{Only}
 use Rattle.base.specs.Branch.{if_then_else_}
 use Rattle.rules.specs.Board.{nine}
-use Rattle.rules.specs.Position.{Position, Due, free, at, same-due}
+use Rattle.rules.specs.Position.{Position, same-due}
 use Rattle.text.specs.Bytes.{semicolon, slash, dot, hash-mark, at-mark, letter}
 
 abbrev pub state-byte : GameState → ℕ
@@ -24,7 +25,7 @@ cell-byte (Played w) = letter w
 
 -- the board that is due is marked, whatever its state
 unfoldable pub overall-byte : Position → ℕ → ℕ
-overall-byte p b = if same-due (p .due) (at b) then (λ _. at-mark) else λ _. state-byte (p .states b)
+overall-byte p b = if same-due (p .due) (Only b) then (λ _. at-mark) else λ _. state-byte (p .states b)
 
 unfoldable pub board-text : Position → ℕ → List ℕ
 board-text p b = map (λ c. cell-byte (p .cells b c)) nine

@@ -1,8 +1,8 @@
 -- The cases of `prove-attacker`; a due board over 8 is in no set and reads as empty.
-use mathlib.Core.Path.{sym, ap, _∙_}
+use mathlib.Core.Path.{sym, _∙_}
 use mathlib.Core.Bool.{true, false}
 use borrow.Author.Tests.{eq-eqb, ne-eqb}
-use Rattle.game.specs.Meaning.{due-of, position-of}
+use Rattle.game.specs.Meaning.{position-of}
 use Rattle.endgame.proofs.Sets.{set-lt}
 use Rattle.endgame.proofs.Attack.{set-critical, some-critical, no-attack, attack-free, attack-here, attack-by-lure, lures}
 use borrow.Author.Needs.{needs}
@@ -28,7 +28,7 @@ returns-2 c =
     let start = at-if1 .before in
     let p = position-of (start .args .pos) in
     attack-free p (some-critical p _ _ (start .pre .1) false (ne-eqb _ _ (at-if1 .if1 .left)))
-    (ap due-of (sym (at-board-to-play .board-to-play .ensures) ∙ c .enum-told .given .1))
+    (sym (at-board-to-play .board-to-play .ensures) ∙ c .enum-told .given .1)
 
 cast-board : tie.Need-cast-board
 cast-board c = search needs
@@ -44,7 +44,7 @@ returns-3 c =
     let start = at-if1 .before in
     let p = position-of (start .args .pos) in
     attack-here p (some-critical p _ _ (start .pre .1) false (ne-eqb _ _ (at-if1 .if1 .left))) _
-    (ap due-of (sym (at-board-to-play .board-to-play .ensures) ∙ at-next .next .given .1))
+    (sym (at-board-to-play .board-to-play .ensures) ∙ at-next .next .given .1)
     (sym (set-critical p _ _ (start .pre .1) (start .pre .0) _) ∙ sym (c .before .holds .ensures) ∙ c .if2 .taken)
 
 dests-of-requires : tie.Need-dests-of-requires
@@ -69,7 +69,7 @@ returns-4 c =
     c .any-sends-to .ensures
     ∙ lures p _ _ _ _ _ _ (start .pre .1) (start .pre .2) (c .before .donebits .ensures) (at-dests-of .dests-of .ensures)
     ∙ attack-by-lure p (some-critical p _ _ (start .pre .1) false (ne-eqb _ _ (at-if1 .if1 .left))) _
-    (ap due-of (sym (at-board-to-play .board-to-play .ensures) ∙ at-next .next .given .1))
+    (sym (at-board-to-play .board-to-play .ensures) ∙ at-next .next .given .1)
     (sym (set-critical p _ _ (start .pre .1) (start .pre .0) _) ∙ sym (at-holds .holds .ensures) ∙ at-if2 .if2 .left)
 
 pub prove-attacker-spec : {M : Type 1} → statement M

@@ -1,8 +1,8 @@
 -- None of a finished game; else the open boards, and of these the due one alone if there is one.
-use mathlib.Core.Path.{sym, ap, _∙_}
+use mathlib.Core.Path.{sym, _∙_}
 use borrow.Author.Tests.{not-true, not-false}
 use borrow.Author.Needs.{needs}
-use Rattle.game.specs.Meaning.{due-of, position-of}
+use Rattle.game.specs.Meaning.{position-of}
 use Rattle.game.proofs.Lists.{none-over, none-due, all-open, one-open}
 use Rattle.game.proofs.Game.playable.Statement.{statement}
 use Rattle.game.proofs.Game.playable.Tie as tie
@@ -29,13 +29,29 @@ shl-result : tie.Need-shl-result
 shl-result c = search needs
 
 returns-2 : tie.Need-returns-2
-returns-2 c = all-open (position-of (c .before .before .before .before .before .before .args .self)) _ (not-false _ (sym (c .before .before .before .before .before .terminal .ensures) ∙ c .before .before .before .before .if1 .left)) (c .before .before .openbits .ensures) (ap due-of (c .enum-told .given .1))
+returns-2 c =
+    let opened = c .before .before in
+    let unfinished = opened .before .before in
+    all-open (position-of (unfinished .before .before .args .self)) _
+    (not-false _ (sym (unfinished .before .terminal .ensures) ∙ unfinished .if1 .left))
+    (opened .openbits .ensures)
+    (c .enum-told .given .1)
 
 returns-3 : tie.Need-returns-3
-returns-3 c = none-due (position-of (c .before .before .before .before .before .before .before .before .args .self)) _ (ap due-of (c .before .before .next .given .1)) (c .if2 .taken)
+returns-3 c =
+    let next = c .before .before in
+    none-due (position-of (next .before .before .before .before .before .before .args .self)) _ (next .next .given .1) (c .if2 .taken)
 
 returns-4 : tie.Need-returns-4
-returns-4 c = one-open (position-of (c .before .before .before .before .before .before .before .before .args .self)) _ (not-false _ (sym (c .before .before .before .before .before .before .before .terminal .ensures) ∙ c .before .before .before .before .before .before .if1 .left)) (c .before .before .before .before .openbits .ensures) _ (ap due-of (c .before .before .next .given .1)) (c .if2 .left)
+returns-4 c =
+    let next = c .before .before in
+    let opened = next .before .before in
+    let unfinished = opened .before .before in
+    one-open (position-of (unfinished .before .before .args .self)) _
+    (not-false _ (sym (unfinished .before .terminal .ensures) ∙ unfinished .if1 .left))
+    (opened .openbits .ensures) _
+    (next .next .given .1)
+    (c .if2 .left)
 
 pub playable-spec : {M : Type 1} → statement M
 playable-spec =

@@ -1,7 +1,7 @@
 -- Both are free choice, or both the same board.
 use borrow.Author.Needs.{needs}
-use Rattle.game.proofs.NextBoard.same.Statement.{statement}
-use Rattle.game.proofs.NextBoard.same.Tie as tie
+use Rattle.rules.proofs.NextBoard.same.Statement.{statement}
+use Rattle.rules.proofs.NextBoard.same.Tie as tie
 
 enum-told : tie.Need-enum-told
 enum-told c = search needs

@@ -1,7 +1,7 @@
 -- The due board is the one that may be played.
 use borrow.Author.Needs.{needs}
-use Rattle.game.proofs.NextBoard.allows.Statement.{statement}
-use Rattle.game.proofs.NextBoard.allows.Tie as tie
+use Rattle.rules.proofs.NextBoard.allows.Statement.{statement}
+use Rattle.rules.proofs.NextBoard.allows.Tie as tie
 
 enum-told : tie.Need-enum-told
 enum-told c = search needs
