@@ -25,29 +25,17 @@ pub →or-r : (a b : Bool) → T b → T (a || b)
 →or-r true b t = tt
 →or-r false b t = t
 
-pub deny : (b : Bool) → T (not b) → T b → ⊥
-deny true t u = t
-deny false t u = u
-
-pub →not : (b : Bool) → (T b → ⊥) → T (not b)
-→not true f = f tt
-→not false f = tt
-
 pub not-not : (b : Bool) → T (not (not b)) → T b
 not-not true t = tt
 not-not false t = t
 
+pub neither : (a b : Bool) → (not a && not b) ≡ not (a || b)
+neither true b = refl
+neither false b = refl
+
 pub is : (b : Bool) → T b ⊎ T (not b)
 is true = inl tt
 is false = inr tt
-
-pub is-true : (b : Bool) → T b → b ≡ true
-is-true true t = refl
-is-true false t = absurd t
-
-pub is-false : (b : Bool) → T (not b) → b ≡ false
-is-false true t = absurd t
-is-false false t = refl
 
 -- ---- a law of n Booleans, computed
 abbrev pub Law : ℕ → Type 0

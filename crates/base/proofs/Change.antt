@@ -1,10 +1,8 @@
 -- Laws of a function that is changed at one place.
 use mathlib.Core.Path.{_≡_}
-use mathlib.Core.Bool.{Bool, true, false, not}
 use Prim.Native.Nat.{ℕ}
-use lib.Dec.{T, eqb, eqb→eq, eqb-refl}
+use lib.Dec.{eqb, eqb→eq, eqb-refl, T-not}
 use Rattle.base.specs.Change.{put}
-use Rattle.base.proofs.Bool.{deny}
 use Rattle.base.proofs.Branch.{if-ind, if-both}
 
 module _ {A : Type 0} where
@@ -14,7 +12,7 @@ module _ {A : Type 0} where
 
   pub put-at {κ} : (P : A → Type κ) (f : ℕ → A) (i : ℕ) (a : A) → P a → P (put f i a i)
   unfolding put
-  put-at P f i a x = if-ind P (eqb i i) _ _ (λ _. x) (λ t. absurd (deny (eqb i i) t (eqb-refl i)))
+  put-at P f i a x = if-ind P (eqb i i) _ _ (λ _. x) (λ t. absurd (T-not (eqb i i) t (eqb-refl i)))
 
   pub put-off {κ} : (P : A → Type κ) (f : ℕ → A) (i : ℕ) (a : A) (j : ℕ) → (i ≡ j → ⊥) → P (f j) → P (put f i a j)
   put-off P f i a j n y = put-ind P f i a j (λ e. absurd (n e)) y

@@ -5,11 +5,11 @@ use mathlib.Core.List.{List, [], _∷_, _++_}
 use mathlib.Core.Logic.{inl, inr}
 use Prim.Native.Nat.{ℕ, _<_}
 use native.Mathlib.Omega.{arith}
-use lib.Dec.{T, ltb, ltb→lt, lt→ltb}
+use lib.Dec.{T, ltb, ltb→lt, lt→ltb, not-T}
 use Rattle.base.specs.Branch.{if_then_else_}
 use Rattle.base.specs.Lists.{all, In}
 use Rattle.base.specs.Checks.{all-pass, first-failed}
-use Rattle.base.proofs.Bool.{and→, →not, is}
+use Rattle.base.proofs.Bool.{and→, is}
 use Rattle.base.proofs.Lists.{each-all}
 
 abbrev Checks : Type 0
@@ -24,7 +24,7 @@ all-pass-0 ((false, n) ∷ cs) t = absurd t
 
 -- a number is said of a list that has a check that fails
 pub some-failed : (cs : Checks) → (first-failed cs ≡ 0 → ⊥) → T (not (all-pass cs))
-some-failed cs h = →not (all-pass cs) (λ t. h (all-pass-0 cs t))
+some-failed cs h = not-T (all-pass cs) (λ t. h (all-pass-0 cs t))
 
 -- what holds of each check's number holds of that of the first that fails
 pub failed-number : (f : ℕ → Bool) (cs : Checks) → T (all (λ (t : Bool × ℕ). f (t .1)) cs) → T (not (all-pass cs)) → T (f (first-failed cs))

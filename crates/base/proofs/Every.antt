@@ -1,34 +1,23 @@
 -- A rule at each number below a bound, by one test that antt computes.
 use mathlib.Core.Path.{_≡_, refl, sym, subst}
-use mathlib.Core.Bool.{Bool, true, false}
+use mathlib.Core.Bool.{Bool, true, false, _&&_}
 use Prim.Native.Nat.{ℕ, zero, suc, _<_}
 use native.Mathlib.Decide.{ℕ-discrete}
 use native.Mathlib.Omega.{arith}
 use lib.Dec.{T}
-
-abbrev pub both : Bool → Bool → Bool
-both true b = b
-both false b = false
-
-both-left : (a b : Bool) → T (both a b) → T a
-both-left true b t = tt
-both-left false b t = t
-
-both-right : (a b : Bool) → T (both a b) → T b
-both-right true b t = t
-both-right false b t = absurd t
+use Rattle.base.proofs.Bool.{and→}
 
 -- the test passes at each number below n
 abbrev pub upTo : (ℕ → Bool) → ℕ → Bool
 upTo f zero = true
-upTo f (suc n) = both (f n) (upTo f n)
+upTo f (suc n) = f n && upTo f n
 
 pub upTo-at : (f : ℕ → Bool) (n : ℕ) → T (upTo f n) → (k : ℕ) → k < n → T (f k)
 upTo-at f zero t k h = absurd (omega arith)
-upTo-at f (suc n) t k h = go (ℕ-discrete k n) (upTo-at f n (both-right (f n) (upTo f n) t) k)
+upTo-at f (suc n) t k h = go (ℕ-discrete k n) (upTo-at f n (and→ (f n) (upTo f n) t .1) k)
   where
     go : Dec (k ≡ n) → (k < n → T (f k)) → T (f k)
-    go (yes e) r = subst (λ (m : ℕ). T (f m)) (sym e) (both-left (f n) (upTo f n) t)
+    go (yes e) r = subst (λ (m : ℕ). T (f m)) (sym e) (and→ (f n) (upTo f n) t .0)
     go (no q) r = r (omega arith)
 
 abbrev pub sameB : Bool → Bool → Bool

@@ -1,15 +1,15 @@
 -- The order of the integers, read by omega: z is hi z - lo z, so each fact of order is a linear one in ℕ.
-use mathlib.Core.Path.{_≡_, refl, sym, ap, _∙_, subst}
+use mathlib.Core.Path.{_≡_, refl, sym, ap, _∙_}
 use mathlib.Core.Bool.{Bool, true, false, not, cond}
 use mathlib.Core.List.{List, [], _∷_}
-use Prim.Native.Nat.{ℕ, zero, suc, _+_, _-_, _≤_, _<_, zero-le, suc-le-suc}
+use Prim.Native.Nat.{ℕ, zero, suc, _+_, _-_, _≤_, _<_}
 use native.Mathlib.Omega.{arith}
 use native.Mathlib.Nat.{lt-of-not-le}
-use lib.IntN.{ℤ, pos, negsuc, natAbs, negℤ, negℤ-negℤ, _+ℤ_, _-ℤ_, +ℤ-idr, +ℤ-assoc}
+use lib.IntN.{ℤ, pos, negsuc, natAbs, negℤ, _+ℤ_, _-ℤ_, +ℤ-idr, +ℤ-assoc}
 use lib.ListN.{length}
 use mathlib.Core.Logic.{_⊎_, inl, inr}
 use lib.Signed.{leZ, ltZ, _≤ℤ_, _<ℤ_, leZ-yes, ltZ-yes, ltZ-no}
-use lib.Dec.{T, leb, ltb, leb→le, le→leb, ltb→lt, lt→ltb, nltb→le}
+use lib.Dec.{T, ltb, leb→le, le→leb, ltb→lt, lt→ltb, nltb→le}
 use Rattle.base.specs.Integers.{maxZ, sum}
 
 unfoldable pub hi : ℤ → ℕ

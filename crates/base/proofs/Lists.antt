@@ -1,14 +1,14 @@
 -- Laws of tests over lists, of membership and of runs of numbers.
-use mathlib.Core.Path.{_≡_, refl, sym, ap, _∙_, subst}
-use mathlib.Core.Bool.{Bool, true, false, not, cond, _||_, _&&_}
+use mathlib.Core.Path.{_≡_, refl, sym, subst}
+use mathlib.Core.Bool.{Bool, not}
 use mathlib.Core.List.{List, [], _∷_, _++_}
 use mathlib.Core.Logic.{_⊎_, inl, inr}
 use Prim.Native.Nat.{ℕ, zero, suc, _+_, _≤_, _<_}
 use native.Mathlib.Omega.{arith}
-use lib.Dec.{T, eqb, eqb→eq, eqb-refl}
-use Rattle.base.specs.Branch.{if_then_else_}
-use Rattle.base.specs.Lists.{any, all, keep, how-many, In, elem, once, from, each, total}
-use Rattle.base.proofs.Bool.{and→, →and, or→, →or-l, →or-r, deny, →not, is}
+use lib.Dec.{T, eqb, eqb→eq, eqb-refl, T-not, not-T}
+use lib.ListN.{length, getD}
+use Rattle.base.specs.Lists.{any, all, keep, In, elem, once, from, each}
+use Rattle.base.proofs.Bool.{and→, →and, or→, →or-l, →or-r, is}
 use Rattle.base.proofs.Branch.{if-ind}
 
 module _ {A : Type 0} where
@@ -37,13 +37,11 @@ module _ {A : Type 0} where
   each-all f [] h = tt
   each-all f (x ∷ xs) h = →and (f x) _ (h x (inl refl)) (each-all f xs (λ y i. h y (inr i)))
 
-  pub not-all : (f : A → Bool) (xs : List A) → T (not (all (λ x. not (f x)) xs)) → T (any f xs)
-  unfolding any all
-  not-all f [] t = absurd t
-  not-all f (x ∷ xs) t = elim (is (f x)) [ inl u ↦ →or-l (f x) _ u | inr u ↦ →or-r (f x) _ (not-all f xs (→not (all (λ y. not (f y)) xs) (λ v. deny (not (f x) && all (λ y. not (f y)) xs) t (→and (not (f x)) _ u v)))) ]
-
-  pub not-any : (f : A → Bool) (xs : List A) → T (any f xs) → T (not (all (λ x. not (f x)) xs))
-  not-any f xs t = →not (all (λ x. not (f x)) xs) (λ u. let r = any-some f xs t in deny (f (r .0)) (all-each (λ x. not (f x)) (r .0) xs u (r .1)) (r .2))
+  -- where the list has a place, what `getD` would answer past its end does not matter
+  pub default-unused : (xs : List A) (i : ℕ) (d e : A) → i < length xs → getD xs i d ≡ getD xs i e
+  default-unused [] i d e h = absurd (omega arith)
+  default-unused (x ∷ xs) zero d e h = refl
+  default-unused (x ∷ xs) (suc i) d e h = default-unused xs i d e (omega arith)
 
 -- ---- membership of numbers, and what is kept
 pub keep-in : (f : ℕ → Bool) (x : ℕ) (xs : List ℕ) → In x (keep f xs) → In x xs × T (f x)
@@ -56,7 +54,7 @@ keep-in f x (y ∷ xs) h = if-ind (λ l. In x l → In x (y ∷ xs) × T (f x)) 
 pub in-keep : (f : ℕ → Bool) (x : ℕ) (xs : List ℕ) → In x xs → T (f x) → In x (keep f xs)
 unfolding keep
 in-keep f x [] h t = absurd h
-in-keep f x (y ∷ xs) (inl e) t = if-ind (λ l. In x l) (f y) _ _ (λ _. inl e) (λ u. absurd (deny (f y) u (subst (λ (z : ℕ). T (f z)) e t)))
+in-keep f x (y ∷ xs) (inl e) t = if-ind (λ l. In x l) (f y) _ _ (λ _. inl e) (λ u. absurd (T-not (f y) u (subst (λ (z : ℕ). T (f z)) e t)))
 in-keep f x (y ∷ xs) (inr h) t = if-ind (λ l. In x l) (f y) _ _ (λ _. inr (in-keep f x xs h t)) (λ _. in-keep f x xs h t)
 
 pub in-elem : (x : ℕ) (xs : List ℕ) → In x xs → T (elem x xs)
@@ -76,14 +74,14 @@ once-keep f [] t = tt
 once-keep f (x ∷ xs) t =
     let r = once-keep f xs (and→ (not (elem x xs)) _ t .1) in
     if-ind (λ l. T (once l)) (f x) _ _
-    (λ _. →and (not (elem x (keep f xs))) _ (→not (elem x (keep f xs)) (λ u. deny (elem x xs) (and→ (not (elem x xs)) _ t .0) (in-elem x xs (keep-in f x xs (elem-in x (keep f xs) u) .0)))) r)
+    (λ _. →and (not (elem x (keep f xs))) _ (not-T (elem x (keep f xs)) (λ u. T-not (elem x xs) (and→ (not (elem x xs)) _ t .0) (in-elem x xs (keep-in f x xs (elem-in x (keep f xs) u) .0)))) r)
     (λ _. r)
 
 eq-or : (i x : ℕ) → i ≤ x → (x ≡ i) ⊎ (suc i ≤ x)
 eq-or i x h = elim (is (eqb x i)) [ inl t ↦ inl (eqb→eq x i t) | inr t ↦ inr (more t) ]
   where
     ne : T (not (eqb x i)) → x ≡ i → ⊥
-    ne t e = deny (eqb x i) t (subst (λ (z : ℕ). T (eqb x z)) e (eqb-refl x))
+    ne t e = T-not (eqb x i) t (subst (λ (z : ℕ). T (eqb x z)) e (eqb-refl x))
 
     more : T (not (eqb x i)) → suc i ≤ x
     more t = let k = ne t in omega (arith, k)

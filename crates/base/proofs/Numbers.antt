@@ -1,19 +1,18 @@
 -- Numbers and their digits: numbers with the same digits are equal, and `digits f w` is the number below 2 ^ w whose digits are f's.
 use mathlib.Core.Path.{_≡_, refl, sym, ap, _∙_}
-use mathlib.Core.Bool.{Bool, true, false, not, cond, _||_, and-true, or-true, or-false}
+use mathlib.Core.Bool.{Bool, true, false, not, cond, _||_, and-true, or-true, or-false, Bool·not-not}
 use Prim.Native.Nat.{ℕ, zero, suc, _+_, _-_, _*_, _/_, _%_, _^_, _≤_, _<_}
 use native.Mathlib.Decide.{ℕ-discrete, decLt}
 use native.Mathlib.Nat.{mod-lt, pow-suc, one-mul}
 use native.Mathlib.Omega.{arith}
 use lib.Arith.{bin-ind, lt-one}
 use lib.Bits.{bitAnd, bitOr, or-shifted-r, and-mask, mask-lt}
-use lib.Dec.{T, eqb, eqb→eq, lit<}
+use lib.Dec.{T, eqb, eqb→eq, lit<, T-not}
 use lib.Pow.{pow-pos, shl-exact}
 use borrow.Author.Tests.{eq-eqb, ne-eqb}
 use Rattle.base.specs.Bits.{bit, digits}
 use Rattle.base.specs.Lists.{all, from}
 use Rattle.base.proofs.Agree.{same-by, false-by}
-use Rattle.base.proofs.Bool.{deny}
 use Rattle.base.proofs.Digits.{bit-low, bit-suc, bit-nought, bit-and, bit-or, bit-not, bit-pow}
 use Rattle.base.proofs.Lists.{each-all, all-each, in-from}
 
@@ -121,12 +120,8 @@ digits-not f w =
     is-digits (λ k. not (f k)) w (2 ^ w - 1 - digits f w) (omega (arith, pow-pos w))
     (λ k h. bit-not w (digits f w) k (digits-lt f w) h ∙ ap not (bit-digits f w k h))
 
-pub not-twice : (b : Bool) → not (not b) ≡ b
-not-twice true = refl
-not-twice false = refl
-
 pub digits-left : (f : ℕ → Bool) (w : ℕ) → 2 ^ w - 1 - digits (λ k. not (f k)) w ≡ digits f w
-digits-left f w = digits-not (λ k. not (f k)) w ∙ digits-same (λ k. not (not (f k))) f w (λ k h. not-twice (f k))
+digits-left f w = digits-not (λ k. not (f k)) w ∙ digits-same (λ k. not (not (f k))) f w (λ k h. Bool·not-not (f k))
 
 -- `1 << k` at w digits
 pub shl-one : (w k : ℕ) → k < w → 1 * 2 ^ k % 2 ^ w ≡ 2 ^ k
@@ -164,7 +159,7 @@ none-set w n h = same-by (eqb n 0) (all (λ k. not (bit n k)) (from 0 w)) there 
     there t = each-all (λ k. not (bit n k)) (from 0 w) (λ k i. rw (eqb→eq n 0 t, bit-nought k) tt)
 
     clear : T (all (λ k. not (bit n k)) (from 0 w)) → (k : ℕ) → k < w → bit n k ≡ bit 0 k
-    clear t k l = false-by (bit n k) (deny (bit n k) (all-each (λ k. not (bit n k)) k (from 0 w) t (in-from 0 w k (omega arith) (omega arith)))) ∙ sym (bit-nought k)
+    clear t k l = false-by (bit n k) (T-not (bit n k) (all-each (λ k. not (bit n k)) k (from 0 w) t (in-from 0 w k (omega arith) (omega arith)))) ∙ sym (bit-nought k)
 
     back : T (all (λ k. not (bit n k)) (from 0 w)) → T (eqb n 0)
     back t = rw (bit-ext-below w n 0 h (pow-pos w) (clear t)) tt

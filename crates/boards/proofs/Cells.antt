@@ -54,7 +54,7 @@ module _ (l : LocalBoards) (b c : ℕ) (w : Player) where
   pub with-row : (i : ℕ) (r : Row) → b / 3 ≡ i → i < 3 → c < 9 → r ≡ row-with w (getD (l .rows) i no-row) (place b c) → _≡_ {A = LocalBoards} (record { rows = set (l .rows) i r }) (with-cell l b c w)
   with-row i r e h k q = rw (q, ← e) (sym (with-in (omega arith) k))
 
-no-x : (p q : Bool) → T (blank (cell-from p q)) → p ≡ false
+pub no-x : (p q : Bool) → T (blank (cell-from p q)) → p ≡ false
 no-x false q t = refl
 no-x true q t = absurd t
 

@@ -76,7 +76,7 @@ module _ (it : MoveIterator) where
   cursor-again = λ i. record { top = top-again i; middle = middle-again i; bottom = bottom-again i }
 
 -- ---- the next move
-row-masked : (r n : ℕ) → row-moves r (bitAnd n 134217727) ≡ row-moves r n
+pub row-masked : (r n : ℕ) → row-moves r (bitAnd n 134217727) ≡ row-moves r n
 unfolding row-moves
 row-masked r n = ap (map (move-at r)) (keep-same (bit (bitAnd n 134217727)) (bit n) (from 0 27) (λ k i. bit-masked 27 n k (from-in 0 27 k i .1)))
 

@@ -1,36 +1,27 @@
 -- The keys of a board's cells, taken one by one from the first.
 use mathlib.Core.Path.{_≡_, sym, ap, _∙_}
-use mathlib.Core.Bool.{Bool}
 use Prim.Native.Nat.{ℕ, _+_, _<_}
 use native.Mathlib.Decide.{decLt}
 use native.Mathlib.Numerals.{add-one}
 use native.Mathlib.Omega.{arith}
 use lib.Bits.{bitXor}
-use lib.Dec.{eqb, eqb→eq}
-use lib.ListN.{getD, drop}
+use lib.ListN.{drop}
 use lib.Seq.{drop-cons}
-use Rattle.base.proofs.Every.{upTo-at}
 use Rattle.base.proofs.Xor.{xor-assoc}
 use Rattle.rules.specs.Board.{nine}
 use Rattle.rules.specs.Hash.{cell-key, xors}
+use Rattle.rules.proofs.Board.{nine-at}
 use Rattle.keys.specs.Keys.{cell-key-in}
 use Rattle.keys.proofs.Range.{key-in-range, no-key-out-of-range}
 use Rattle.boards.specs.declared.local.LocalBoards.{LocalBoards}
 use Rattle.boards.specs.Packed.{cell-at}
 use Rattle.boards.proofs.Packed.{cell-past-board}
 
-in-order : ℕ → Bool
-in-order i = eqb (getD nine i 0) i
-
-number : (i : ℕ) → i < 9 → getD nine i 0 ≡ i
-unfolding in-order
-number i h = eqb→eq (getD nine i 0) i (upTo-at in-order 9 tt i h)
-
 -- one key more is taken
 module _ (f : ℕ → ℕ) (i : ℕ) (h : i < 9) where
   first : xors f (drop i nine) ≡ bitXor (f i) (xors f (drop (i + 1) nine))
   unfolding xors
-  first = ap (xors f) (drop-cons nine i 0 h) ∙ rw (number i h, add-one i)
+  first = ap (xors f) (drop-cons nine i 0 h) ∙ rw (nine-at i h, add-one i)
 
   pub one-more : (a k t : ℕ) → k ≡ f i → bitXor a (xors f (drop i nine)) ≡ t → bitXor (bitXor a k) (xors f (drop (i + 1) nine)) ≡ t
   one-more a k t e p = rw e (xor-assoc a (f i) (xors f (drop (i + 1) nine)) ∙ ap (bitXor a) (sym first) ∙ p)

@@ -4,7 +4,6 @@ use Prim.Native.Nat.{ℕ, _+_, _*_, _/_, _%_}
 use Rattle.base.specs.Lists.{keep, from, elem}
 use Rattle.base.specs.Bits.{bit, digits}
 use Rattle.rules.specs.Play.{move-of}
-use Rattle.boards.specs.declared.moves.Move.{Move}
 use Rattle.boards.specs.declared.moves.MoveIterator.{MoveIterator}
 use Rattle.boards.specs.declared.moves.Listed.{Listed}
 use Rattle.boards.specs.declared.moves.Listed.the-variants.{Next, End}

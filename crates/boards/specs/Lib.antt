@@ -1,4 +1,3 @@
-pub mod Masks
 pub mod Packed
 pub mod With
 pub mod Rows

@@ -1,6 +1,6 @@
 -- The cells of several boards at once, three boards to a row: which are empty, whether two games have the same; and the hash of a board that closes.
 use mathlib.Core.Bool.{Bool, not, _&&_, _||_}
-use Prim.Native.Nat.{ℕ, _/_, _%_, _^_}
+use Prim.Native.Nat.{ℕ, _/_, _^_}
 use lib.Bits.{bitXor}
 use lib.ListN.{getD}
 use Rattle.rules.specs.declared.CellState.{CellState}

@@ -3,12 +3,6 @@ mod local;
 mod moves;
 mod states;
 
-pub use lines::BOARD_MASK;
-pub use lines::WIN_MASKS;
-pub use lines::WIN_PATTERNS;
-pub use lines::has_line;
-pub use lines::win_mask;
-pub use lines::win_pattern;
 pub use local::LocalBoards;
 pub use local::Row;
 pub use moves::Answer;
@@ -17,4 +11,5 @@ pub use moves::Listed;
 pub use moves::Move;
 pub use moves::MoveError;
 pub use moves::MoveIterator;
+pub use moves::PLACES;
 pub use states::GlobalStates;

@@ -11,6 +11,9 @@ ghost use Rattle.rules.specs.Play.{board-of, cell-of, no-move};
 ghost use Rattle.boards.specs.Answers.{error-number, answer-number, Builds};
 ghost use Rattle.boards.specs.Cursor.{move-at, moves-left, listed};
 
+// The cells of all boards: no game has more moves, so no search is deeper and no variation longer.
+pub const PLACES: usize = 81;
+
 pub enum MoveError {
     WrongBoard,
     WonBoard,

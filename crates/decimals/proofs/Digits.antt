@@ -1,26 +1,22 @@
 -- Numbers, a digit at a time.
-use mathlib.Core.Path.{_≡_, refl, sym, ap, _∙_}
-use mathlib.Core.Bool.{Bool, true, false, _&&_}
+use mathlib.Core.Path.{_≡_, refl, _∙_}
+use mathlib.Core.Bool.{true, false, and-eq-true-iff}
 use mathlib.Core.List.{List, [], _∷_}
 use Prim.Native.Nat.{ℕ, _+_, _-_, _*_, _^_, _<_, _≤_}
 use native.Mathlib.Numerals.{add-one}
 use native.Mathlib.Omega.{arith}
 use lib.ListN.{length, getD, take, drop, drop-of-length-le}
 use lib.Seq.{drop-cons, take-all}
+use lib.Dec.{leb}
 use borrow.Author.Tests.{leb-true, lt-ltb, le-ltb, eq-eqb, ne-eqb}
 use Rattle.base.specs.Branch.{if_then_else_}
-use Rattle.decimals.specs.declared.number.Number.{Number}
 use Rattle.decimals.specs.declared.number.Number.the-variants.{Is, Bad}
 use Rattle.decimals.specs.declared.number.Signed.the-variants.{Bad as None}
 use Rattle.decimals.specs.Numbers.{within, with-digit, digits-after, read-number, plus, minus, read-signed}
 
 -- ---- a byte within two others
-and-parts : (a b : Bool) → (a && b) ≡ true → (a ≡ true) × (b ≡ true)
-and-parts true b e = (refl, e)
-and-parts false b e = let z : _≡_ {A = ℕ} 0 1 = cc in absurd (omega arith)
-
 pub within-bounds : (b low high : ℕ) → within b low high ≡ true → (low ≤ b) × (b ≤ high)
-within-bounds b low high e = let p = and-parts _ _ e in (leb-true low b (p .0), leb-true b high (p .1))
+within-bounds b low high e = let p = and-eq-true-iff (leb low b) (leb b high) .0 e in (leb-true low b (p .0), leb-true b high (p .1))
 
 -- ---- a digit more
 module _ (value b : ℕ) where

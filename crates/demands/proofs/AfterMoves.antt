@@ -6,14 +6,15 @@ use native.Mathlib.Omega.{arith}
 use lib.Dec.{T}
 use lib.ListN.{length}
 use Rattle.rules.specs.declared.DrawWinner.{DrawWinner}
-use Rattle.rules.specs.declared.DrawWinner.the-variants.{Nobody}
-use Rattle.rules.specs.Position.{Position, start, going}
+use Rattle.rules.specs.Position.{Position, start}
 use Rattle.rules.specs.Play.{reached}
-use Rattle.rules.specs.Hash.{with-turn, zobrist}
+use Rattle.rules.specs.Hash.{zobrist}
 use Rattle.rules.specs.Endgame.{Analysis as Found, analysis}
+use Rattle.rules.specs.Evaluation.{scoring-with}
 use Rattle.rules.proofs.Sound.{good-is-sound, start-is-good, reached-good}
 use Rattle.rules.proofs.Endgame.{analysis-sound}
-use Rattle.theory.specs.Reported.{Settings, Reported, reported}
+use Rattle.theory.specs.Memory.{Responses}
+use Rattle.theory.specs.Reported.{Reported, reported}
 use Rattle.reference.specs.Reference.{game}
 use Rattle.game.specs.declared.Game.{Game}
 use Rattle.game.specs.Meaning.{position-of}
@@ -24,16 +25,14 @@ use Rattle.game.proofs.Hash.{Fresh, zobrist-fresh}
 use Rattle.game.proofs.Played.{new-played-neat, new-played-means, new-played-hash}
 use Rattle.status.specs.Sets.{status-of}
 use Rattle.endgame.specs.declared.Analysis.{Analysis}
-use Rattle.endgame.specs.Means.{made-number, stats-of, Analyses}
+use Rattle.endgame.specs.Means.{Analyses}
 use Rattle.minimax.specs.declared.Minimax.{Minimax}
 use Rattle.minimax.specs.declared.Config.{Config}
 use Rattle.minimax.specs.declared.Report.{Report}
-use Rattle.minimax.specs.Structs.{structs}
-use Rattle.minimax.specs.State.{bytes-of}
-use Rattle.minimax.specs.Report.{settings-of, report-of, reported-of}
+use Rattle.minimax.specs.State.{responses-of}
+use Rattle.minimax.specs.Report.{scoring-of, settings-of, report-of, reported-of}
 use Rattle.minimax.proofs.Rules.{reported-rules}
-use Rattle.demands.specs.declared.After.{After}
-use Rattle.demands.specs.Claims.{NotStopped, MarkSays, Right, StatusHolds}
+use Rattle.demands.specs.Claims.{MarkSays, Right, StatusHolds}
 use Rattle.demands.specs.AfterMoves.{Demand3}
 use Rattle.demands.proofs.Claims.{reported-marks, reported-right, reported-holds}
 
@@ -42,11 +41,8 @@ none-long [] e = refl
 none-long (w ∷ words) e = absurd (omega arith)
 
 module _ (ms : List ℕ) (m : Minimax) (c : Config) (g : Game) (a : Analysis) (rep : Report) (g-is : g ≡ games-after new-game ms) (a-is : Analyses g a) (rep-is : report-of rep [] ≡ reported-of m g c []) where
-  abbrev xs : List ℕ
-  xs = bytes-of (m .«answers_x»)
-
-  abbrev os : List ℕ
-  os = bytes-of (m .«answers_o»)
+  abbrev rs : Responses
+  rs = responses-of (m .responses)
 
   abbrev p : Position
   p = reached start ms
@@ -60,8 +56,8 @@ module _ (ms : List ℕ) (m : Minimax) (c : Config) (g : Game) (a : Analysis) (r
   is-neat : T (neat g)
   is-neat = subst (λ (x : Game). T (neat x)) (sym g-is) (new-played-neat ms)
 
-  report-is : report-of rep [] ≡ reported (game (c .«draw_winner»)) (settings-of c) p xs os []
-  report-is = rep-is ∙ reported-rules (c .«draw_winner») (settings-of c) g is-neat fresh xs os [] ∙ ap (λ (q : Position). reported (game (c .«draw_winner»)) (settings-of c) q xs os []) means
+  report-is : report-of rep [] ≡ reported (game (scoring-of c)) (settings-of c) p rs []
+  report-is = rep-is ∙ reported-rules (scoring-of c) (settings-of c) g is-neat fresh rs [] ∙ ap (λ (q : Position). reported (game (scoring-of c)) (settings-of c) q rs []) means
 
   pub demand-3 : Demand3 ms m c (record { game = g; analysis = a; report = rep })
   demand-3 = record {
@@ -73,7 +69,7 @@ module _ (ms : List ℕ) (m : Minimax) (c : Config) (g : Game) (a : Analysis) (r
     counts-are = a-is .stats ∙ ap (λ (q : Position). analysis q .stats) means;
     report-is = report-is;
     answered = λ t. a-is .refusal ∙ ap (λ (q : Position). analysis q .refusal) means ∙ ap (λ (y : Found). y .refusal) (analysis-sound p t (good-is-sound p (reached-good start start-is-good ms) t) .2);
-    mark-says = λ t. subst (MarkSays (c .«draw_winner») (settings-of c) xs os p) (sym report-is) (reported-marks ms t (c .«draw_winner») (settings-of c) xs os);
-    right = λ t n. subst (Right (c .«draw_winner») (settings-of c) xs os p) (sym report-is) (reported-right ms t (c .«draw_winner») (settings-of c) xs os n);
-    status-holds = λ t e. subst (λ (x : Reported). StatusHolds (settings-of c) xs os p x (analysis p .status)) (sym (report-is ∙ ap (λ (w : DrawWinner). reported (game w) (settings-of c) p xs os []) e)) (reported-holds ms t (settings-of c) xs os);
+    mark-says = λ t. subst (MarkSays (scoring-of c) (settings-of c) rs p) (sym report-is) (reported-marks ms t (scoring-of c) (settings-of c) rs);
+    right = λ t n. subst (Right (scoring-of c) (settings-of c) rs p) (sym report-is) (reported-right ms t (scoring-of c) (settings-of c) rs n);
+    status-holds = λ t e. subst (λ (x : Reported). StatusHolds (settings-of c) rs p x (analysis p .status)) (sym (report-is ∙ ap (λ (w : DrawWinner). reported (game (scoring-with w)) (settings-of c) p rs []) e)) (reported-holds ms t (settings-of c) rs);
   }

@@ -4,14 +4,14 @@ use mathlib.Core.Bool.{Bool, true, false, not, _&&_, _||_}
 use mathlib.Core.List.{List, [], _∷_, _++_}
 use Prim.Native.Nat.{ℕ, _≤_, _<_}
 use native.Mathlib.Omega.{arith}
-use lib.Dec.{T, eqb, leb, ltb, leb→le, le→leb, ltb→lt, nltb→le}
+use lib.Dec.{T, eqb, leb, ltb, leb→le, le→leb, ltb→lt, nltb→le, not-T}
+use lib.Ieee.Bits.{is-true, is-false}
 use borrow.Author.Tests.{eqb-false, ne-eqb}
 use Rattle.base.specs.Branch.{if_then_else_}
 use Rattle.base.specs.Lists.{elem}
 use Rattle.base.proofs.Agree.{same-by}
-use Rattle.base.proofs.Bool.{→not, is-true, is-false}
-use Rattle.text.specs.ProgramLine.{Parted, no-blank, around, parted, parted-with, depth-of, Asked, no-depth, asks, asks-with, asked-by, asked, is-digit, line-refusal, refusal-text}
-use Rattle.line.specs.Answered.{asked-text, answer-line}
+use Rattle.text.specs.ProgramLine.{Parted, no-blank, around, parted, parted-with, depth-of, no-depth, asks-with, asked-by, is-digit, line-refusal}
+use Rattle.line.specs.Answered.{asked-text}
 use Rattle.demands.specs.Demand1.{digit, one-or-two-digits, AskingLine}
 
 -- ---- tests
@@ -19,7 +19,7 @@ eqb-turned : (c : ℕ) → eqb 0x20 c ≡ false → eqb c 0x20 ≡ false
 eqb-turned c e = ne-eqb c 0x20 (λ q. eqb-false 0x20 c e (sym q))
 
 le-is-not-lt : (a b : ℕ) → leb a b ≡ not (ltb b a)
-le-is-not-lt a b = same-by (leb a b) (not (ltb b a)) (λ t. →not (ltb b a) (λ u. le-not-lt (leb→le a b t) (ltb→lt b a u))) (λ t. le→leb a b (nltb→le b a t))
+le-is-not-lt a b = same-by (leb a b) (not (ltb b a)) (λ t. not-T (ltb b a) (λ u. le-not-lt (leb→le a b t) (ltb→lt b a u))) (λ t. le→leb a b (nltb→le b a t))
   where
     le-not-lt : a ≤ b → b < a → ⊥
     le-not-lt h k = omega arith

@@ -3,31 +3,26 @@ use mathlib.Core.Path.{_≡_, refl, sym, ap, _∙_, subst}
 use mathlib.Core.Bool.{Bool, true, false, not, cond, _&&_}
 use mathlib.Core.List.{List, [], _∷_, _++_}
 use mathlib.Core.Logic.{_⊎_, inl, inr}
-use Prim.Native.Nat.{ℕ, zero, suc, _-_, _≤_, _<_}
+use Prim.Native.Nat.{ℕ, zero, suc, _-_, _≤_}
 use native.Mathlib.Omega.{arith}
-use lib.Dec.{T, eqb}
-use lib.IntN.{ℤ, pos, negℤ}
-use lib.ListN.{length, getD, replicate}
+use lib.Dec.{T, eqb, T-not}
+use lib.IntN.{ℤ, negℤ}
+use lib.ListN.{length, getD}
 use borrow.Author.Tests.{eqb-true, eqb-false}
 use Rattle.base.specs.Branch.{if_then_else_}
-use Rattle.base.specs.Lists.{In}
-use Rattle.base.proofs.Bool.{deny, is}
 use Rattle.rules.specs.declared.Player.{Player}
-use Rattle.rules.specs.declared.DrawWinner.{DrawWinner}
-use Rattle.rules.specs.declared.DrawWinner.the-variants.{Nobody}
 use Rattle.rules.specs.Position.{Position, start, going}
 use Rattle.rules.specs.Play.{no-move, accepts, tried, reached}
-use Rattle.rules.specs.Moves.{moves}
 use Rattle.rules.specs.Status.{allows, alone}
 use Rattle.rules.specs.Endgame.{analysis}
+use Rattle.rules.specs.Evaluation.{Scoring, no-draw-winner}
 use Rattle.rules.proofs.Moves.{moves-are-accepted}
 use Rattle.theory.specs.Game.{Game}
-use Rattle.theory.specs.PlainMinimax.{promises}
 use Rattle.theory.specs.Table.{off}
-use Rattle.theory.specs.Memory.{Memory, fresh-memory}
+use Rattle.theory.specs.Memory.{Responses, Memory, fresh-memory}
 use Rattle.theory.specs.OrderedSearch.{at-most}
-use Rattle.theory.specs.Deepening.{Whole, Answer, analyze}
-use Rattle.theory.specs.Reported.{Settings, entry-refusal, Reported, report, refused-entry, reported}
+use Rattle.theory.specs.Deepening.{Answer, analyze}
+use Rattle.theory.specs.Reported.{Settings, entry-refusal, Reported, report, reported}
 use Rattle.theory.specs.Line.{Walk, walk, ends-on, Begins}
 use Rattle.theory.proofs.Allowance.{spent-means-mark, lt-or}
 use Rattle.theory.proofs.Places.{analyze-places}
@@ -49,28 +44,28 @@ unfolding ends-on
 ends-longer G d p line rest e = ap (λ (w : Walk (G .Pos)). cond (w .odd) (negℤ (G .value (w .end))) (G .value (w .end))) (walk-longer G d p line rest e)
 
 -- the first move of a line that begins so
-module _ (draws : DrawWinner) (k : ℕ) (p : Position) where
-  first-legal : (line rest : List ℕ) (r : ℤ) → Begins (game draws) k p line r → T (accepts p (getD (line ++ rest) 0 no-move))
+module _ (sc : Scoring) (k : ℕ) (p : Position) where
+  first-legal : (line rest : List ℕ) (r : ℤ) → Begins (game sc) k p line r → T (accepts p (getD (line ++ rest) 0 no-move))
   first-legal [] rest r b = absurd b
   first-legal (m ∷ line) rest r b = moves-are-accepted p m .0 (b .0)
 
-  first-attains : (line rest : List ℕ) (r : ℤ) → Begins (game draws) k p line r → negℤ (plain-minimax draws k (tried p (getD (line ++ rest) 0 no-move))) ≡ r
+  first-attains : (line rest : List ℕ) (r : ℤ) → Begins (game sc) k p line r → negℤ (plain-minimax sc k (tried p (getD (line ++ rest) 0 no-move))) ≡ r
   first-attains [] rest r b = absurd b
   first-attains (m ∷ line) rest r b = b .1
 
 -- ---- a search of the position that a list of tried moves reaches, if it is unfinished
-module _ (ms : List ℕ) (t : T (going (reached start ms))) (draws : DrawWinner) (c : Settings) (xs os : List ℕ) where
+module _ (ms : List ℕ) (t : T (going (reached start ms))) (sc : Scoring) (c : Settings) (rs : Responses) where
   abbrev p : Position
   p = reached start ms
 
   abbrev s : Memory
-  s = fresh-memory xs os []
+  s = fresh-memory rs []
 
   abbrev answer : Answer
-  answer = analyze (game draws) (at-most (c .allowance)) (c .max-depth) p s
+  answer = analyze (game sc) (at-most (c .allowance)) (c .max-depth) p s
 
   abbrev x : Reported
-  x = reported (game draws) c p xs os []
+  x = reported (game sc) c p rs []
 
   table-off : T (off (s .table))
   unfolding off
@@ -78,33 +73,33 @@ module _ (ms : List ℕ) (t : T (going (reached start ms))) (draws : DrawWinner)
 
   -- an accepted one
   module _ (e : entry-refusal c 0 ≡ 0) where
-    is-report : report answer ≡ x
-    is-report = accepted-reported (game draws) c p xs os [] (sym e)
+    is-report : report (game sc) p answer ≡ x
+    is-report = accepted-reported (game sc) c p rs [] (sym e)
 
     depth-is : c .max-depth ≡ suc (c .max-depth - 1)
     depth-is = let h = some-depth c 0 (sym e) in omega arith
 
-  module _ (n : NotStopped draws c xs os p) where
-    whole-by : (d k : ℕ) → d ≡ suc k → entries draws d p s ≤ c .allowance → AnswersWhole draws k p (analyze (game draws) (at-most (c .allowance)) d p s)
-    whole-by d k q = subst (λ (y : ℕ). entries draws y p s ≤ c .allowance → AnswersWhole draws k p (analyze (game draws) (at-most (c .allowance)) y p s)) (sym q) (unstopped-right ms t s table-off refl k draws (c .allowance))
+  module _ (n : NotStopped sc c rs p) where
+    whole-by : (d k : ℕ) → d ≡ suc k → entries sc d p s ≤ c .allowance → AnswersWhole sc k p (analyze (game sc) (at-most (c .allowance)) d p s)
+    whole-by d k q = subst (λ (y : ℕ). entries sc y p s ≤ c .allowance → AnswersWhole sc k p (analyze (game sc) (at-most (c .allowance)) y p s)) (sym q) (unstopped-right ms t s table-off refl k sc (c .allowance))
 
-    whole : AnswersWhole draws (c .max-depth - 1) p answer
+    whole : AnswersWhole sc (c .max-depth - 1) p answer
     whole = whole-by (c .max-depth) (c .max-depth - 1) (depth-is (n .accepted)) (n .enough)
 
-    report-right : Right draws c xs os p (report answer)
-    report-right = let places = analyze-places (game draws) (at-most (c .allowance)) (c .max-depth) p s in let r = whole .right in let d = depth-is (n .accepted) in record {
-      score = r .score-is ∙ ap (λ (y : ℕ). plain-minimax draws y p) (sym d);
-      first-legal = first-legal draws (c .max-depth - 1) p (answer .whole .line) _ (answer .whole .score) (whole .first-attains);
-      first-attains = first-attains draws (c .max-depth - 1) p (answer .whole .line) _ (answer .whole .score) (whole .first-attains);
+    report-right : Right sc c rs p (report (game sc) p answer)
+    report-right = let places = analyze-places (game sc) (at-most (c .allowance)) (c .max-depth) p s in let r = whole .right in let d = depth-is (n .accepted) in record {
+      score = r .score-is ∙ ap (λ (y : ℕ). plain-minimax sc y p) (sym d);
+      first-legal = first-legal sc (c .max-depth - 1) p (answer .whole .line) _ (answer .whole .score) (whole .first-attains);
+      first-attains = first-attains sc (c .max-depth - 1) p (answer .whole .line) _ (answer .whole .score) (whole .first-attains);
       some-depth = r .some-depth;
       no-deeper = omega (arith, r .no-deeper);
       deep = elim (r .deep) [ inl q ↦ inl (q ∙ sym d) | inr q ↦ inr q ];
-      line-legal = subst (λ (w : Walk Position). T (w .accepted)) (sym (walk-longer (game draws) (answer .whole .depth) p (answer .whole .line) _ places)) (r .accepted);
-      line-ends = r .ends ∙ sym (ends-longer (game draws) (answer .whole .depth) p (answer .whole .line) _ places);
+      line-legal = subst (λ (w : Walk Position). T (w .accepted)) (sym (walk-longer (game sc) (answer .whole .depth) p (answer .whole .line) _ places)) (r .accepted);
+      line-ends = r .ends ∙ sym (ends-longer (game sc) (answer .whole .depth) p (answer .whole .line) _ places);
     }
 
-    pub reported-right : Right draws c xs os p x
-    reported-right = subst (Right draws c xs os p) (is-report (n .accepted)) report-right
+    pub reported-right : Right sc c rs p x
+    reported-right = subst (Right sc c rs p) (is-report (n .accepted)) report-right
 
     unmarked-number : (b : Bool) (d : ℕ) → T (not b) → _≡_ {A = ℕ} (if b && eqb d 0 then (λ _. 18) else λ _. 0) 0
     unfolding if_then_else_
@@ -117,43 +112,43 @@ module _ (ms : List ℕ) (t : T (going (reached start ms))) (draws : DrawWinner)
     not-marked : T (not (x .is-stopped))
     not-marked = subst (λ (y : Reported). T (not (y .is-stopped))) (is-report (n .accepted)) (whole .unmarked)
 
-  only-then : x .number ≡ 0 → T (not (x .is-stopped)) → NotStopped draws c xs os p
+  only-then : x .number ≡ 0 → T (not (x .is-stopped)) → NotStopped sc c rs p
   only-then h u = elim (refusal-none (eqb (entry-refusal c 0) 0) refl) [ inl e ↦ record { accepted = e; enough = enough e } | inr e ↦ absurd e ]
     where
       refusal-none : (b : Bool) → eqb (entry-refusal c 0) 0 ≡ b → (entry-refusal c 0 ≡ 0) ⊎ ⊥
       refusal-none true q = inl (eqb-true (entry-refusal c 0) 0 q)
-      refusal-none false q = inr (eqb-false (entry-refusal c 0) 0 q (sym (ap (λ (y : Reported). y .number) (turned-reported (game draws) c p xs os [] q)) ∙ h))
+      refusal-none false q = inr (eqb-false (entry-refusal c 0) 0 q (sym (ap (λ (y : Reported). y .number) (turned-reported (game sc) c p rs [] q)) ∙ h))
 
-      enough : entry-refusal c 0 ≡ 0 → entries draws (c .max-depth) p s ≤ c .allowance
-      enough e = elim (lt-or (c .allowance) (entries draws (c .max-depth) p s)) [
-        | inl q ↦ absurd (deny (answer .is-stopped) (subst (λ (y : Reported). T (not (y .is-stopped))) (sym (is-report e)) u) (spent-means-mark (game draws) (c .allowance) (c .max-depth) p s (omega arith) q))
+      enough : entry-refusal c 0 ≡ 0 → entries sc (c .max-depth) p s ≤ c .allowance
+      enough e = elim (lt-or (c .allowance) (entries sc (c .max-depth) p s)) [
+        | inl q ↦ absurd (T-not (answer .is-stopped) (subst (λ (y : Reported). T (not (y .is-stopped))) (sym (is-report e)) u) (spent-means-mark (game sc) (c .allowance) (c .max-depth) p s (omega arith) q))
         | inr q ↦ q
       ]
 
-  pub reported-marks : MarkSays draws c xs os p x
+  pub reported-marks : MarkSays sc c rs p x
   reported-marks = record { number-none = number-none; not-marked = not-marked; only-then = only-then }
 
 -- ---- with no draw winner
-module _ (ms : List ℕ) (t : T (going (reached start ms))) (c : Settings) (xs os : List ℕ) where
-  alone-by : (w : Player) → T (alone (analysis (reached start ms) .status) w) → NotStopped Nobody c xs os (reached start ms) → 3 ≤ c .max-depth → reported (game Nobody) c (reached start ms) xs os [] .score ≡ win-for w (reached start ms)
-  alone-by w a n three = sym (ap (λ (y : Reported). y .score) (is-report ms t Nobody c xs os (n .accepted)))
-      ∙ by-depth (c .max-depth) (n .enough) (depth-is ms t Nobody c xs os (n .accepted)) three
+module _ (ms : List ℕ) (t : T (going (reached start ms))) (c : Settings) (rs : Responses) where
+  alone-by : (w : Player) → T (alone (analysis (reached start ms) .status) w) → NotStopped no-draw-winner c rs (reached start ms) → 3 ≤ c .max-depth → reported (game no-draw-winner) c (reached start ms) rs [] .score ≡ win-for w (reached start ms)
+  alone-by w a n three = sym (ap (λ (y : Reported). y .score) (is-report ms t no-draw-winner c rs (n .accepted)))
+      ∙ by-depth (c .max-depth) (n .enough) (depth-is ms t no-draw-winner c rs (n .accepted)) three
     where
-      by-depth : (d : ℕ) → entries Nobody d (reached start ms) (fresh-memory xs os []) ≤ c .allowance → d ≡ suc (c .max-depth - 1) → 3 ≤ d → analyze (game Nobody) (at-most (c .allowance)) d (reached start ms) (fresh-memory xs os []) .whole .score ≡ win-for w (reached start ms)
-      by-depth d h e k = subst (λ (y : ℕ). entries Nobody y (reached start ms) (fresh-memory xs os []) ≤ c .allowance → analyze (game Nobody) (at-most (c .allowance)) y (reached start ms) (fresh-memory xs os []) .whole .score ≡ win-for w (reached start ms)) (sym e)
-          (λ i. alone-scores ms t (fresh-memory xs os []) (table-off ms t Nobody c xs os) refl (c .max-depth - 1) (c .allowance) i (omega arith) w a) h
+      by-depth : (d : ℕ) → entries no-draw-winner d (reached start ms) (fresh-memory rs []) ≤ c .allowance → d ≡ suc (c .max-depth - 1) → 3 ≤ d → analyze (game no-draw-winner) (at-most (c .allowance)) d (reached start ms) (fresh-memory rs []) .whole .score ≡ win-for w (reached start ms)
+      by-depth d h e k = subst (λ (y : ℕ). entries no-draw-winner y (reached start ms) (fresh-memory rs []) ≤ c .allowance → analyze (game no-draw-winner) (at-most (c .allowance)) y (reached start ms) (fresh-memory rs []) .whole .score ≡ win-for w (reached start ms)) (sym e)
+          (λ i. alone-scores ms t (fresh-memory rs []) (table-off ms t no-draw-winner c rs) refl (c .max-depth - 1) (c .allowance) i (omega arith) w a) h
 
-  never-by : (w : Player) → T (not (allows (analysis (reached start ms) .status) w)) → reported (game Nobody) c (reached start ms) xs os [] .score ≡ win-for w (reached start ms) → ⊥
+  never-by : (w : Player) → T (not (allows (analysis (reached start ms) .status) w)) → reported (game no-draw-winner) c (reached start ms) rs [] .score ≡ win-for w (reached start ms) → ⊥
   never-by w out h = by-refusal (eqb (entry-refusal c 0) 0) refl
     where
-      searched-never : (d k : ℕ) → d ≡ suc k → analyze (game Nobody) (at-most (c .allowance)) d (reached start ms) (fresh-memory xs os []) .whole .score ≡ win-for w (reached start ms) → ⊥
-      searched-never d k e = subst (λ (y : ℕ). analyze (game Nobody) (at-most (c .allowance)) y (reached start ms) (fresh-memory xs os []) .whole .score ≡ win-for w (reached start ms) → ⊥) (sym e)
-          (left-out-never-scores ms t (fresh-memory xs os []) (table-off ms t Nobody c xs os) refl k w out (at-most (c .allowance)))
+      searched-never : (d k : ℕ) → d ≡ suc k → analyze (game no-draw-winner) (at-most (c .allowance)) d (reached start ms) (fresh-memory rs []) .whole .score ≡ win-for w (reached start ms) → ⊥
+      searched-never d k e = subst (λ (y : ℕ). analyze (game no-draw-winner) (at-most (c .allowance)) y (reached start ms) (fresh-memory rs []) .whole .score ≡ win-for w (reached start ms) → ⊥) (sym e)
+          (left-out-never-scores ms t (fresh-memory rs []) (table-off ms t no-draw-winner c rs) refl k w out (at-most (c .allowance)))
 
       by-refusal : (b : Bool) → eqb (entry-refusal c 0) 0 ≡ b → ⊥
       by-refusal true q = let e = eqb-true (entry-refusal c 0) 0 q in
-          searched-never (c .max-depth) (c .max-depth - 1) (depth-is ms t Nobody c xs os e) (ap (λ (y : Reported). y .score) (is-report ms t Nobody c xs os e) ∙ h)
-      by-refusal false q = not-nothing (reached start ms .turn) w (sym (ap (λ (y : Reported). y .score) (turned-reported (game Nobody) c (reached start ms) xs os [] q)) ∙ h)
+          searched-never (c .max-depth) (c .max-depth - 1) (depth-is ms t no-draw-winner c rs e) (ap (λ (y : Reported). y .score) (is-report ms t no-draw-winner c rs e) ∙ h)
+      by-refusal false q = not-nothing (reached start ms .turn) w (sym (ap (λ (y : Reported). y .score) (turned-reported (game no-draw-winner) c (reached start ms) rs [] q)) ∙ h)
 
-  pub reported-holds : StatusHolds c xs os (reached start ms) (reported (game Nobody) c (reached start ms) xs os []) (analysis (reached start ms) .status)
+  pub reported-holds : StatusHolds c rs (reached start ms) (reported (game no-draw-winner) c (reached start ms) rs []) (analysis (reached start ms) .status)
   reported-holds = record { alone-wins = alone-by; left-out-never = never-by }

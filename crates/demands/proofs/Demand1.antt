@@ -1,4 +1,5 @@
 -- Each promise says the refusals of demand 1: the number is that of the first check that fails.
+use lib.Ieee.Bits.{is-true, is-false}
 use Rattle.demands.proofs.AskingLines.{asking-line-holds}
 use Rattle.demands.proofs.ReadingTexts.{reading-move-holds, reading-position-holds}
 use mathlib.Core.Path.{_≡_, refl, sym, ap, _∙_, subst}
@@ -7,12 +8,12 @@ use mathlib.Core.List.{List, [], _∷_, _++_}
 use mathlib.Core.Logic.{inl, inr}
 use Prim.Native.Nat.{ℕ, _+_, _≤_}
 use native.Mathlib.Omega.{arith}
-use lib.Dec.{T, eqb, leb, ltb, eqb→eq, leb→le, le→leb, ltb→lt, nltb→le}
+use lib.Dec.{T, eqb, leb, ltb, eqb→eq, leb→le, le→leb, ltb→lt, nltb→le, T-not, not-T}
 use lib.ListN.{length}
 use Rattle.base.specs.Branch.{if_then_else_}
 use Rattle.base.specs.Lists.{any, all}
 use Rattle.base.specs.Checks.{all-pass, first-failed}
-use Rattle.base.proofs.Bool.{and→, →and, deny, →not, is, is-true, is-false}
+use Rattle.base.proofs.Bool.{and→, →and, neither, is}
 use Rattle.base.proofs.Branch.{if-ind}
 use Rattle.base.proofs.Checks.{all-pass-0, some-failed, failed-number, 0-all-pass, failed-at, passed-++, failed-++}
 use Rattle.rules.specs.declared.Player.the-variants.{X, O}
@@ -57,8 +58,8 @@ use Rattle.minimax.specs.declared.Minimax.{Minimax}
 use Rattle.minimax.specs.declared.Config.{Config}
 use Rattle.minimax.specs.declared.Report.{Report}
 use Rattle.minimax.specs.Structs.{structs}
-use Rattle.minimax.specs.State.{bytes-of}
-use Rattle.minimax.specs.Report.{settings-of, report-of, answer-of, reported-of}
+use Rattle.minimax.specs.State.{responses-of}
+use Rattle.minimax.specs.Report.{settings-of, report-of, answer-of, reported-of, scoring-of}
 use Rattle.demands.specs.Demand1.{Playing, depth-1-enters, searching, Silent, Searching, line-of-boards, broken-board, unsound, analysing, Analysing, Judging, LookingCell, LookingBoard, Building, Demand1}
 
 -- ---- a list of one check
@@ -85,10 +86,10 @@ module _ (g : Game) (m : Move) (r : Made) (h : Plays g m r) where
 -- ---- searching
 module _ (m : Minimax) (g : Game) (c : Config) (words : List ℕ) where
   abbrev G : Searched
-  G = structs (c .«draw_winner»)
+  G = structs (scoring-of c)
 
   abbrev s : Memory
-  s = fresh-memory (bytes-of (m .«answers_x»)) (bytes-of (m .«answers_o»)) words
+  s = fresh-memory (responses-of (m .responses)) words
 
   abbrev y : Answer
   y = answer-of m g c words
@@ -100,12 +101,12 @@ module _ (m : Minimax) (g : Game) (c : Config) (words : List ℕ) where
   enough = leb (depth-1-enters m g c words) (c .allowance)
 
   turned-holds : T (not (all-pass entry)) →
-      Searching m g c words (refused-entry (first-failed entry) (bytes-of (m .«answers_x»)) (bytes-of (m .«answers_o»)) words)
+      Searching m g c words (refused-entry (first-failed entry) (responses-of (m .responses)) words)
   unfolding all
   turned-holds t = record {
     number = sym (failed-++ entry ((enough, 18) ∷ []) t);
     refused = λ _. record { depth = refl; score = refl; line = refl; stats = refl };
-    at-entry = λ _ _. record { count = refl; unmarked = tt; answers-x = refl; answers-o = refl; table = refl };
+    at-entry = λ _ _. record { count = refl; unmarked = tt; responses = refl; table = refl };
     in-depth-1 = λ e. absurd (omega (arith, ltb→lt (first-failed entry) 18 (failed-number (λ k. ltb k 18) entry tt t)));
   }
 
@@ -124,19 +125,18 @@ module _ (m : Minimax) (g : Game) (c : Config) (words : List ℕ) where
     not-enough : spent ≡ ltb (c .allowance) (depth-1-enters m g c words)
     not-enough = none-whole-is G (c .allowance) (c .«max_depth») g s (omega arith) some-depth
 
-    searched-holds : Searching m g c words (report y)
+    searched-holds : Searching m g c words (report G g y)
     unfolding all-pass all if_then_else_
     searched-holds = elim (is spent) [
       | inl u ↦ record {
-        number = rw (is-true spent u) (sym (last-decides ∙ failed-at [] [] enough 18 tt (→not enough (λ v.
+        number = rw (is-true spent u) (sym (last-decides ∙ failed-at [] [] enough 18 tt (not-T enough (λ v.
             omega (arith, ltb→lt (c .allowance) _ (subst T not-enough u), leb→le _ (c .allowance) v)))));
         refused = λ _. silent u;
         at-entry = λ _ k. absurd (k (rw (is-true spent u)));
         in-depth-1 = λ _. record {
           count = none-whole-counted G (c .allowance) (c .«max_depth») g s (omega arith) u;
           marked = none-whole-marked G (c .allowance) (c .«max_depth») g s (omega arith) u;
-          answers-x = refl;
-          answers-o = refl;
+          responses = refl;
           table = refl;
         };
       }
@@ -149,7 +149,7 @@ module _ (m : Minimax) (g : Game) (c : Config) (words : List ℕ) where
       }
     ]
       where
-        silent : T spent → Silent m g c words (report y)
+        silent : T spent → Silent m g c words (report G g y)
         silent u = let w = none-whole-nothing G (c .allowance) (c .«max_depth») g s (omega arith) u in record {
           depth = ap (λ (v : Whole). v .depth) w;
           score = ap (λ (v : Whole). v .score) w;
@@ -161,7 +161,7 @@ module _ (m : Minimax) (g : Game) (c : Config) (words : List ℕ) where
   unfolding reported entry-refusal all
   reported-holds = if-ind (Searching m g c words) (eqb (first-failed entry) 0) _ _
       (λ t. searched-holds (0-all-pass entry tt (eqb→eq (first-failed entry) 0 t)))
-      (λ t. turned-holds (some-failed entry (λ e. deny (eqb (first-failed entry) 0) t (subst (λ (n : ℕ). T (eqb n 0)) (sym e) tt))))
+      (λ t. turned-holds (some-failed entry (λ e. T-not (eqb (first-failed entry) 0) t (subst (λ (n : ℕ). T (eqb n 0)) (sym e) tt))))
 
   pub searching-holds : (r : Report) (words' : List ℕ) → report-of r words' ≡ reported-of m g c words →
       Searching m g c words (report-of r words')
@@ -173,10 +173,6 @@ both-fail : (a b : Bool) → (not a && (not b && true)) ≡ not (a || b)
 both-fail true b = refl
 both-fail false true = refl
 both-fail false false = refl
-
-neither : (a b : Bool) → (not a && not b) ≡ not (a || b)
-neither true b = refl
-neither false b = refl
 
 none-fails : (f g : ℕ → Bool) → ((n : ℕ) → f n ≡ not (g n)) → (ns : List ℕ) → all f ns ≡ not (any g ns)
 unfolding all any
@@ -227,8 +223,8 @@ module _ (g : Game) where
       (λ _. record { number = refl; full = λ _. refl; none-counted = λ _. refl })
     where
       passes : T (going here && sound here) → T (all-pass (analysis-checks here))
-      passes t = one-passes _ 14 (→not (going here && not (sound here)) (λ u.
-          deny (sound here) (and→ (going here) _ u .1) (and→ (going here) _ t .1)))
+      passes t = one-passes _ 14 (not-T (going here && not (sound here)) (λ u.
+          T-not (sound here) (and→ (going here) _ u .1) (and→ (going here) _ t .1)))
 
   pub analysing-holds : (a : Analysis) → Analyses g a → Analysing g a
   analysing-holds a h = record {
@@ -255,7 +251,7 @@ module _ (g : Game) where
 
     judged-full : T (not (all-pass judging)) → evaluate-move here (m .bits) .status ≡ unproven
     unfolding evaluate-move
-    judged-full t = if-ind (λ (s : Set). s ≡ unproven) (all-pass judging) _ _ (λ u. absurd (deny (all-pass judging) t u)) (λ _. refl)
+    judged-full t = if-ind (λ (s : Set). s ≡ unproven) (all-pass judging) _ _ (λ u. absurd (T-not (all-pass judging) t u)) (λ _. refl)
 
     pub judging-holds : Judging g m r
     judging-holds = record {
@@ -270,7 +266,7 @@ range-is t = refl
 
 module _ (t : Bool) (n : ℕ) (e : n ≡ range-refusal t) where
   range-fails : (n ≡ 0 → ⊥) → T (not t)
-  range-fails h = →not t (λ u. h (e ∙ range-is t ∙ all-pass-0 ((t, 9) ∷ []) (one-passes t 9 u)))
+  range-fails h = not-T t (λ u. h (e ∙ range-is t ∙ all-pass-0 ((t, 9) ∷ []) (one-passes t 9 u)))
 
   range-passes : n ≡ 0 → T t
   unfolding all all-pass
@@ -279,7 +275,7 @@ module _ (t : Bool) (n : ℕ) (e : n ≡ range-refusal t) where
 module _ (b c : ℕ) where
   cell-over : (l : LocalBoards) → T (not (in-range b c)) → cell-at l b c ≡ Empty
   unfolding cell-at
-  cell-over l t = if-ind (λ (x : CellState). x ≡ Empty) (in-range b c) _ _ (λ u. absurd (deny (in-range b c) t u)) (λ _. refl)
+  cell-over l t = if-ind (λ (x : CellState). x ≡ Empty) (in-range b c) _ _ (λ u. absurd (T-not (in-range b c) t u)) (λ _. refl)
 
   pub looking-cell-holds : (g : Game) (r : CellAnswer) → Looks-cell (position-of g) b c r → LookingCell b c r
   looking-cell-holds g r h = record {
@@ -291,14 +287,14 @@ module _ (b c : ℕ) where
   building-holds r h = record {
     number = h .number ∙ range-is (in-range b c);
     refused = λ e. h .built ∙ if-ind (λ (x : ℕ). x ≡ no-move) (in-range b c) _ _
-        (λ u. absurd (deny (in-range b c) (range-fails (in-range b c) _ (h .number) e) u)) (λ _. refl);
+        (λ u. absurd (T-not (in-range b c) (range-fails (in-range b c) _ (h .number) e) u)) (λ _. refl);
     accepted = λ e. h .built ∙ if-ind (λ (x : ℕ). x ≡ move-of b c) (in-range b c) _ _
-        (λ _. refl) (λ u. absurd (deny (in-range b c) u (range-passes (in-range b c) _ (h .number) e)));
+        (λ _. refl) (λ u. absurd (T-not (in-range b c) u (range-passes (in-range b c) _ (h .number) e)));
   }
 
 state-over : (s : GlobalStates) (b : ℕ) → T (not (ltb b 9)) → state-at s b ≡ InPlay
 unfolding state-at
-state-over s b t = if-ind (λ (x : GameState). x ≡ InPlay) (ltb b 9) _ _ (λ u. absurd (deny (ltb b 9) t u)) (λ _. refl)
+state-over s b t = if-ind (λ (x : GameState). x ≡ InPlay) (ltb b 9) _ _ (λ u. absurd (T-not (ltb b 9) t u)) (λ _. refl)
 
 pub looking-board-holds : (g : Game) (b : ℕ) (r : StateAnswer) → Looks-state (position-of g) b r → LookingBoard b r
 looking-board-holds g b r h = record {

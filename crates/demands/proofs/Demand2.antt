@@ -23,8 +23,8 @@ use Rattle.game.proofs.Played.{played-neat, played-means, played-hash}
 use Rattle.notation.specs.declared.Parsed.{Parsed}
 use Rattle.notation.specs.Parsed.{game-for, Parses}
 use Rattle.notation.proofs.ReadGames.{ReadGame, read-gives-a-game}
-use Rattle.minimax.specs.State.{bytes-of}
-use Rattle.minimax.specs.Report.{settings-of}
+use Rattle.minimax.specs.State.{responses-of}
+use Rattle.minimax.specs.Report.{scoring-of, settings-of}
 use Rattle.minimax.proofs.Rules.{reported-rules}
 use Rattle.demands.specs.Demand2.{SameAs, Demand2}
 
@@ -37,11 +37,11 @@ neat-fresh-same g p n f e = record {
   moves-are = ap moves e;
   hash-is = f ∙ ap hash e;
   key-is = zobrist-fresh g f ∙ ap zobrist e;
-  value-is = λ draws. ap (evaluate draws) e;
+  value-is = λ sc. ap (evaluate sc) e;
   endgame-is = ap analysis e;
   move-status-is = λ m. ap (λ (q : Position). evaluate-move q m) e;
-  search-is = λ m c words. let xs = bytes-of (m .«answers_x») in let os = bytes-of (m .«answers_o») in
-      reported-rules (c .«draw_winner») (settings-of c) g n f xs os words ∙ ap (λ (q : Position). reported (game (c .«draw_winner»)) (settings-of c) q xs os words) e;
+  search-is = λ m c words. let rs = responses-of (m .responses) in
+      reported-rules (scoring-of c) (settings-of c) g n f rs words ∙ ap (λ (q : Position). reported (game (scoring-of c)) (settings-of c) q rs words) e;
   bound-depth-is = ap bound-depth e;
   open-boards-are = ap open-boards e;
   equivalent-first = λ q. ap (λ (x : Position). equivalent x q) e;

@@ -5,13 +5,13 @@ use mathlib.Core.List.{List, [], _∷_}
 use mathlib.Core.Option.{Option, none, some}
 use Prim.Native.Nat.{ℕ, suc, _+_, _-_, _%_}
 use native.Mathlib.Omega.{arith}
-use lib.Dec.{T, eqb, leb, ltb, eqb→eq, leb→le, le→leb}
+use lib.Dec.{T, eqb, leb, ltb, eqb→eq, leb→le, le→leb, not-T}
 use lib.ListN.{length, getD, drop}
 use borrow.Author.Tests.{ne-eqb}
 use Rattle.base.specs.Branch.{if_then_else_}
 use Rattle.base.specs.Lists.{all, from}
 use Rattle.base.specs.Checks.{all-pass, first-failed}
-use Rattle.base.proofs.Bool.{→not, is}
+use Rattle.base.proofs.Bool.{is}
 use Rattle.base.proofs.Checks.{failed-at}
 use Rattle.rules.specs.declared.Player.{Player}
 use Rattle.rules.specs.declared.Player.the-variants.{X, O}
@@ -31,8 +31,8 @@ use Rattle.notation.specs.declared.Parsed.{Parsed}
 use Rattle.notation.specs.declared.MoveTextAnswer.{MoveTextAnswer}
 use Rattle.notation.specs.declared.MoveTextAnswer.the-variants.{Read, BadLength, BadCharacter}
 use Rattle.notation.specs.declared.ParsedMove.{ParsedMove}
-use Rattle.notation.specs.Parsed.{reading-of, game-for, Parses, move-reading-of, move-for, move-number, Parses-move}
-use Rattle.demands.specs.Demand1.{letters, ReadingMove, side-letter, good-mark, good-cell, marks-from, cell-checks, text-checks, numbers, offsets, lengths, parse-number, ReadingPosition}
+use Rattle.notation.specs.Parsed.{parse-number, reading-of, game-for, Parses, move-reading-of, move-for, move-number, Parses-move}
+use Rattle.demands.specs.Demand1.{letters, ReadingMove, side-letter, good-mark, good-cell, marks-from, cell-checks, text-checks, numbers, offsets, lengths, ReadingPosition}
 
 -- ---- reading a move
 -- what is claimed of a reading, by its checks and those that give the byte: its number, its byte, and its move
@@ -67,7 +67,7 @@ unfolding read-letters
 reads-so [] = reads-length _ _ _ _ tt
 reads-so (b ∷ []) = reads-length _ _ _ _ tt
 reads-so (b ∷ c ∷ []) = reads-letters (coordinate b) (coordinate c) b c _
-reads-so (b ∷ c ∷ d ∷ cs) = let n = length (b ∷ c ∷ d ∷ cs) in reads-length _ _ _ _ (→not (eqb n 2) (λ t. omega (arith, eqb→eq n 2 t)))
+reads-so (b ∷ c ∷ d ∷ cs) = let n = length (b ∷ c ∷ d ∷ cs) in reads-length _ _ _ _ (not-T (eqb n 2) (λ t. omega (arith, eqb→eq n 2 t)))
 
 answers-byte : (a : MoveTextAnswer) (m byte : ℕ) → move-number a ≡ 8 → move-reading-of a m ≡ bad-character byte → a ≡ BadCharacter byte
 answers-byte Read m byte e q = absurd (omega (arith, e))
@@ -208,13 +208,13 @@ module _ (text s os cs : List ℕ) (x : Reading) where
 answer-fits : {text : List ℕ} {x : Reading} → Answered text x → Fits (text-checks text (sections text)) x
 unfolding BadFrom
 answer-fits {text} (too-long h) = fails (leb (length text) 256) 1 0 0 _
-    (→not (leb (length text) 256) (λ t. omega (arith, leb→le (length text) 256 t)))
+    (not-T (leb (length text) 256) (λ t. omega (arith, leb→le (length text) 256 t)))
 answer-fits {text} (not-three h n) = passes (leb (length text) 256) 1 0 0 _ _ (le→leb _ _ h)
-    (fails (eqb (length (sections text)) 3) 2 0 (length text) _ (→not (eqb (length (sections text)) 3) (λ t. n (eqb→eq _ 3 t))))
+    (fails (eqb (length (sections text)) 3) 2 0 (length text) _ (not-T (eqb (length (sections text)) 3) (λ t. n (eqb→eq _ 3 t))))
 answer-fits {text} (bad-side {s = s} {os = os} {cs = cs} q e) = parted text s os cs _ q (fails _ 3 0 (length s) _
     (subst (λ (t : Bool). T (not t)) (lone-is s) (subst (λ (o : Option Player). T (not (known o))) (sym e) tt)))
 answer-fits {text} (not-nine {s = s} {os = os} {cs = cs} {w = w} q n) = sided text s os cs _ w q
-    (fails (eqb (length os) 9) 4 2 (length os) _ (→not (eqb (length os) 9) (λ t. n (eqb→eq _ 9 t))))
+    (fails (eqb (length os) 9) 4 2 (length os) _ (not-T (eqb (length os) 9) (λ t. n (eqb→eq _ 9 t))))
 answer-fits {text} (bad-mark {s = s} {os = os} {cs = cs} {w = w} q n e) =
     let b = subst (BadFrom 2 (marks-from 2 os)) e (bad-from 2 os) in
     nine-marked text s os cs _ w q n
@@ -223,7 +223,7 @@ answer-fits {text} (bad-mark {s = s} {os = os} {cs = cs} {w = w} q n e) =
 answer-fits {text} (bad-cells {s = s} {os = os} {cs = cs} {w = w} q n) =
     let f = first-failed (cell-checks cs (from 0 89)) in let e = faults-are cs (from 0 89) in
     marked text s os cs _ w q (subst (λ (k : ℕ). Fits ((eqb f 0, f, 12, length cs) ∷ []) (refuses k 12 (length cs))) (sym e)
-    (fails (eqb f 0) f 12 (length cs) [] (→not (eqb f 0) (λ t. n (e ∙ eqb→eq f 0 t)))))
+    (fails (eqb f 0) f 12 (length cs) [] (not-T (eqb f 0) (λ t. n (e ∙ eqb→eq f 0 t)))))
 answer-fits {text} (good {s = s} {os = os} {cs = cs} {w = w} q z) =
     let f = first-failed (cell-checks cs (from 0 89)) in let e = faults-are cs (from 0 89) in
     marked text s os cs _ w q

@@ -1,7 +1,6 @@
 -- The definitions, run.
 use mathlib.Core.Path.{_≡_, refl, ap, _∙_}
-use mathlib.Core.List.{List, _++_}
-use Prim.Native.Nat.{ℕ}
+use mathlib.Core.List.{_++_}
 use Rattle.rules.specs.Position.{start}
 use Rattle.text.proofs.Examples.{bytes, empty-text-reads, empty-text as text-of-101, e9 as cells-of-101}
 use Rattle.base.specs.Branch.{if_then_else_}

@@ -8,6 +8,7 @@ use Rattle.rules.specs.Position.{Position, start, going}
 use Rattle.rules.specs.Play.{reached}
 use Rattle.rules.specs.Hash.{with-turn, zobrist}
 use Rattle.rules.specs.Endgame.{analysis}
+use Rattle.theory.specs.Memory.{Responses}
 use Rattle.theory.specs.Reported.{reported}
 use Rattle.reference.specs.Reference.{game}
 use Rattle.game.specs.Meaning.{position-of}
@@ -17,8 +18,8 @@ use Rattle.status.specs.Sets.{status-of}
 use Rattle.endgame.specs.Means.{made-number, stats-of}
 use Rattle.minimax.specs.declared.Minimax.{Minimax}
 use Rattle.minimax.specs.declared.Config.{Config}
-use Rattle.minimax.specs.State.{bytes-of}
-use Rattle.minimax.specs.Report.{settings-of, report-of}
+use Rattle.minimax.specs.State.{responses-of}
+use Rattle.minimax.specs.Report.{scoring-of, settings-of, report-of}
 use Rattle.demands.specs.declared.After.{After}
 use Rattle.demands.specs.Claims.{NotStopped, MarkSays, Right, StatusHolds}
 
@@ -27,11 +28,8 @@ module _ (ms : List ℕ) (m : Minimax) (c : Config) (r : After) where
   abbrev pub p : Position
   p = reached start ms
 
-  abbrev pub xs : List ℕ
-  xs = bytes-of (m .«answers_x»)
-
-  abbrev pub os : List ℕ
-  os = bytes-of (m .«answers_o»)
+  abbrev pub rs : Responses
+  rs = responses-of (m .responses)
 
   pub record Demand3 : Type 0 where
     -- the game, the endgame analysis and the search, each by its definition at that position
@@ -41,9 +39,11 @@ module _ (ms : List ℕ) (m : Minimax) (c : Config) (r : After) where
     pub refusal-is : made-number (r .analysis .made) ≡ analysis p .refusal
     pub status-is : r .analysis .proven ≡ status-of (analysis p .status)
     pub counts-are : stats-of (r .analysis .stats) ≡ analysis p .stats
-    pub report-is : report-of (r .report) [] ≡ reported (game (c .«draw_winner»)) (settings-of c) p xs os []
+    pub report-is : report-of (r .report) [] ≡ reported (game (scoring-of c)) (settings-of c) p rs []
     -- and, where the game is unfinished, the claims: the endgame question is answered
     pub answered : T (going p) → made-number (r .analysis .made) ≡ 0
-    pub mark-says : T (going p) → MarkSays (c .«draw_winner») (settings-of c) xs os p (report-of (r .report) [])
-    pub right : T (going p) → NotStopped (c .«draw_winner») (settings-of c) xs os p → Right (c .«draw_winner») (settings-of c) xs os p (report-of (r .report) [])
-    pub status-holds : T (going p) → c .«draw_winner» ≡ Nobody → StatusHolds (settings-of c) xs os p (report-of (r .report) []) (analysis p .status)
+    pub mark-says : T (going p) → MarkSays (scoring-of c) (settings-of c) rs p (report-of (r .report) [])
+    pub right : T (going p) → NotStopped (scoring-of c) (settings-of c) rs p
+        → Right (scoring-of c) (settings-of c) rs p (report-of (r .report) [])
+    pub status-holds : T (going p) → scoring-of c .draws ≡ Nobody
+        → StatusHolds (settings-of c) rs p (report-of (r .report) []) (analysis p .status)

@@ -6,25 +6,24 @@ use mathlib.Core.Logic.{_⊎_}
 use Prim.Native.Nat.{ℕ, _-_, _≤_}
 use lib.Dec.{T}
 use lib.IntN.{negℤ}
-use lib.ListN.{length, getD}
+use lib.ListN.{getD}
 use Rattle.rules.specs.declared.Player.{Player}
-use Rattle.rules.specs.declared.DrawWinner.{DrawWinner}
-use Rattle.rules.specs.declared.DrawWinner.the-variants.{Nobody}
 use Rattle.rules.specs.Position.{Position}
 use Rattle.rules.specs.Play.{no-move, accepts, tried}
 use Rattle.rules.specs.Status.{Status, allows, alone}
-use Rattle.theory.specs.Memory.{fresh-memory}
+use Rattle.rules.specs.Evaluation.{Scoring, no-draw-winner}
+use Rattle.theory.specs.Memory.{Responses, fresh-memory}
 use Rattle.theory.specs.Deepening.{decided}
 use Rattle.theory.specs.Reported.{Settings, entry-refusal, Reported}
 use Rattle.theory.specs.Line.{walk, ends-on}
 use Rattle.reference.specs.Reference.{game, plain-minimax, win-for}
 use Rattle.reference.specs.Answers.{entries}
 
-module _ (draws : DrawWinner) (c : Settings) (xs os : List ℕ) (p : Position) where
+module _ (sc : Scoring) (c : Settings) (rs : Responses) (p : Position) where
   -- a search is not stopped when nothing refuses it and the ordered search, unlimited, enters no more positions than it is allowed
   pub record NotStopped : Type 0 where
     pub accepted : entry-refusal c 0 ≡ 0
-    pub enough : entries draws (c .max-depth) p (fresh-memory xs os []) ≤ c .allowance
+    pub enough : entries sc (c .max-depth) p (fresh-memory rs []) ≤ c .allowance
 
   -- x is what is reported of a search of p
   module _ (x : Reported) where
@@ -36,24 +35,24 @@ module _ (draws : DrawWinner) (c : Settings) (xs os : List ℕ) (p : Position) w
 
     -- of a search that is not stopped
     pub record Right : Type 0 where
-      -- the score is plain minimax's to the limit, with the same draw winner
-      pub score : x .score ≡ plain-minimax draws (c .max-depth) p
+      -- the score is plain minimax's to the limit, scored the same way
+      pub score : x .score ≡ plain-minimax sc (c .max-depth) p
       -- the first move is legal, and plain minimax to one depth less after it, negated, is the score
       pub first-legal : T (accepts p (getD (x .line) 0 no-move))
-      pub first-attains : negℤ (plain-minimax draws (c .max-depth - 1) (tried p (getD (x .line) 0 no-move))) ≡ x .score
+      pub first-attains : negℤ (plain-minimax sc (c .max-depth - 1) (tried p (getD (x .line) 0 no-move))) ≡ x .score
       -- the line's depth is the last whole depth, which is the limit unless the score ended the search sooner
       pub some-depth : 1 ≤ x .depth
       pub no-deeper : x .depth ≤ c .max-depth
       pub deep : (x .depth ≡ c .max-depth) ⊎ T (decided (x .score))
       -- its moves up to that depth, or to the game's end if sooner, are each accepted, and the evaluation of the position reached, negated if the
       -- other side is then to move, is the score
-      pub line-legal : T (walk (game draws) (x .depth) p (x .line) .accepted)
-      pub line-ends : x .score ≡ ends-on (game draws) (x .depth) p (x .line)
+      pub line-legal : T (walk (game sc) (x .depth) p (x .line) .accepted)
+      pub line-ends : x .score ≡ ends-on (game sc) (x .depth) p (x .line)
 
 -- with no draw winner, s being the endgame status
-module _ (c : Settings) (xs os : List ℕ) (p : Position) (x : Reported) (s : Status) where
+module _ (c : Settings) (rs : Responses) (p : Position) (x : Reported) (s : Status) where
   pub record StatusHolds : Type 0 where
     -- one side alone, without a draw: every search not stopped, to a limit of three or more, scores that side's win
-    pub alone-wins : (w : Player) → T (alone s w) → NotStopped Nobody c xs os p → 3 ≤ c .max-depth → x .score ≡ win-for w p
+    pub alone-wins : (w : Player) → T (alone s w) → NotStopped no-draw-winner c rs p → 3 ≤ c .max-depth → x .score ≡ win-for w p
     -- a side that it leaves out: no search, stopped or not, scores that side's win
     pub left-out-never : (w : Player) → T (not (allows s w)) → x .score ≡ win-for w p → ⊥

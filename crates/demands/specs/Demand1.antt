@@ -38,12 +38,11 @@ use Rattle.game.specs.Built.{new-game}
 use Rattle.game.specs.After.{after-move, Plays}
 use Rattle.game.specs.Look.{Looks-cell, Looks-state}
 use Rattle.notation.specs.declared.ParseError.{ParseError}
-use Rattle.notation.specs.declared.ParseAnswer.{ParseAnswer}
-use Rattle.notation.specs.declared.ParseAnswer.the-variants.{Accepted, Refused}
+use Rattle.notation.specs.declared.ParseAnswer.the-variants.{Refused}
 use Rattle.notation.specs.declared.Parsed.{Parsed}
 use Rattle.notation.specs.declared.MoveTextAnswer.the-variants.{BadCharacter}
 use Rattle.notation.specs.declared.ParsedMove.{ParsedMove}
-use Rattle.notation.specs.Parsed.{kind-number, move-number, Parses, Parses-move}
+use Rattle.notation.specs.Parsed.{parse-number, move-number, Parses, Parses-move}
 use Rattle.status.specs.Sets.{status-of}
 use Rattle.endgame.specs.declared.Analysis.{Analysis}
 use Rattle.endgame.specs.declared.MoveStatus.{MoveStatus}
@@ -52,8 +51,8 @@ use Rattle.minimax.specs.declared.Minimax.{Minimax}
 use Rattle.minimax.specs.declared.Config.{Config}
 use Rattle.minimax.specs.declared.Report.{Report}
 use Rattle.minimax.specs.Structs.{structs}
-use Rattle.minimax.specs.State.{bytes-of}
-use Rattle.minimax.specs.Report.{settings-of, report-of, answer-of, reported-of}
+use Rattle.minimax.specs.State.{responses-of}
+use Rattle.minimax.specs.Report.{settings-of, report-of, answer-of, reported-of, scoring-of}
 use Rattle.line.specs.Answered.{answer-line}
 
 -- ---- playing: the rules' own checks
@@ -69,9 +68,7 @@ pub record Playing (g : Game) (m : Move) (r : Made) : Type 0 where
 module _ (m : Minimax) (g : Game) (c : Config) (words : List ℕ) where
   -- what the ordered search enters at depth 1 alone, if nothing limits it
   abbrev pub depth-1-enters : ℕ
-  depth-1-enters =
-      let s = fresh-memory (bytes-of (m .«answers_x»)) (bytes-of (m .«answers_o»)) words in
-      analyze (structs (c .«draw_winner»)) unlimited 1 g s .memory .count
+  depth-1-enters = analyze (structs (scoring-of c)) unlimited 1 g (fresh-memory (responses-of (m .responses)) words) .memory .count
 
   -- 15 to 17 at the entry, then 18
   abbrev pub searching : List (Bool × ℕ)
@@ -90,16 +87,14 @@ module _ (m : Minimax) (g : Game) (c : Config) (words : List ℕ) where
     pub record Unchanged : Type 0 where
       pub count : x .count ≡ 0
       pub unmarked : T (not (x .is-stopped))
-      pub answers-x : x .answers-x ≡ bytes-of (m .«answers_x»)
-      pub answers-o : x .answers-o ≡ bytes-of (m .«answers_o»)
+      pub responses : x .responses ≡ responses-of (m .responses)
       pub table : x .table ≡ words
 
-    -- all that is allowed was entered; answers and table are as the ordered search has left them where it stopped
+    -- all that is allowed was entered; response tables and table are as the ordered search has left them where it stopped
     pub record Spent : Type 0 where
       pub count : x .count ≡ c .allowance
       pub marked : T (x .is-stopped)
-      pub answers-x : x .answers-x ≡ answer-of m g c words .memory .answers-x
-      pub answers-o : x .answers-o ≡ answer-of m g c words .memory .answers-o
+      pub responses : x .responses ≡ answer-of m g c words .memory .responses
       pub table : x .table ≡ answer-of m g c words .memory .table
 
     pub record Searching : Type 0 where
@@ -220,10 +215,6 @@ offsets = map (λ (t : Bool × ℕ × ℕ × ℕ). (t .0, t .2))
 
 abbrev pub lengths : List (Bool × ℕ × ℕ × ℕ) → List (Bool × ℕ)
 lengths = map (λ (t : Bool × ℕ × ℕ × ℕ). (t .0, t .3))
-
-abbrev pub parse-number : ParseAnswer → ℕ
-parse-number Accepted = 0
-parse-number (Refused e) = kind-number (e .why)
 
 pub record ReadingPosition (text : List ℕ) (r : Parsed) : Type 0 where
   pub number : parse-number (r .answer) ≡ first-failed (numbers (text-checks text (sections text)))

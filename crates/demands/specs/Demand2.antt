@@ -3,12 +3,11 @@
 use mathlib.Core.Path.{_≡_}
 use mathlib.Core.List.{List}
 use Prim.Native.Nat.{ℕ}
-use Rattle.rules.specs.declared.DrawWinner.{DrawWinner}
 use Rattle.rules.specs.Position.{Position}
 use Rattle.rules.specs.Play.{play, reached}
 use Rattle.rules.specs.Moves.{moves}
 use Rattle.rules.specs.Hash.{hash, with-turn, zobrist}
-use Rattle.rules.specs.Evaluation.{evaluate}
+use Rattle.rules.specs.Evaluation.{Scoring, evaluate}
 use Rattle.rules.specs.Endgame.{analysis, evaluate-move}
 use Rattle.rules.specs.Compare.{bound-depth, open-boards, equivalent}
 use Rattle.theory.specs.Reported.{reported}
@@ -22,8 +21,8 @@ use Rattle.notation.specs.declared.Parsed.{Parsed}
 use Rattle.notation.specs.Parsed.{Parses}
 use Rattle.minimax.specs.declared.Minimax.{Minimax}
 use Rattle.minimax.specs.declared.Config.{Config}
-use Rattle.minimax.specs.State.{bytes-of}
-use Rattle.minimax.specs.Report.{settings-of, reported-of}
+use Rattle.minimax.specs.State.{responses-of}
+use Rattle.minimax.specs.Report.{scoring-of, settings-of, reported-of}
 
 -- on the left what a function promises of the struct g, on the right the definition at the position p
 pub record SameAs (g : Game) (p : Position) : Type 0 where
@@ -40,15 +39,15 @@ pub record SameAs (g : Game) (p : Position) : Type 0 where
   -- "`zobrist` adds next board and player." It is the search's key
   pub key-is : with-turn (position-of g) (g .hash) ≡ zobrist p
   -- "`evaluate` is the reference for values.", with any draw winner, "none, X or O"
-  pub value-is : (draws : DrawWinner) → evaluate draws (position-of g) ≡ evaluate draws p
+  pub value-is : (sc : Scoring) → evaluate sc (position-of g) ≡ evaluate sc p
   -- `Analysis::new`: the set, 14 where the position is "unfinished and unsound", and "its six `Stats` counts"
   pub endgame-is : analysis (position-of g) ≡ analysis p
   -- "`evaluate_move` is promised as the Rust gives it, for moves play accepts; others get 9 to 13, after 14"
   pub move-status-is : (m : ℕ) → evaluate-move (position-of g) m ≡ evaluate-move p m
-  -- "`analyze`, reference for search": the ordered search of the written rules, keyed by `zobrist` worked out afresh, whatever the remembered
-  -- answers, the settings and the lent words hold
+  -- "`analyze`, reference for search": the ordered search of the written rules, keyed by `zobrist` worked out afresh, whatever the response
+  -- tables, the settings and the lent words hold
   pub search-is : (m : Minimax) (c : Config) (words : List ℕ) → reported-of m g c words
-      ≡ reported (game (c .«draw_winner»)) (settings-of c) p (bytes-of (m .«answers_x»)) (bytes-of (m .«answers_o»)) words
+      ≡ reported (game (scoring-of c)) (settings-of c) p (responses-of (m .responses)) words
   -- "`bound_depth`: empty cells in open boards."
   pub bound-depth-is : bound-depth (position-of g) ≡ bound-depth p
   -- `open_boards`

@@ -6,11 +6,10 @@ use Prim.Native.Char.{code}
 use Prim.Native.String.{String}
 use lib.IntN.{negsuc}
 use lib.ListN.{take, replicate, length}
-use Rattle.rules.specs.declared.DrawWinner.the-variants.{Nobody}
-use Rattle.rules.specs.Position.{Position, start}
+use Rattle.rules.specs.Position.{start}
 use Rattle.rules.specs.Play.{tried}
 use Rattle.rules.specs.Hash.{zobrist}
-use Rattle.rules.specs.Evaluation.{evaluate}
+use Rattle.rules.specs.Evaluation.{no-draw-winner, evaluate}
 use Rattle.text.specs.Reading.{Reading, reads, refuses, read}
 use Rattle.text.specs.MoveText.{reads-move, move-refusal, read-move}
 use Rattle.line.specs.Answered.{answer-line}
@@ -47,4 +46,4 @@ pub record Twelve : Type 0 where
   pub last-move : read-move (quoted "ii") ≡ reads-move 0x88
   pub no-move-text : move-refusal (read-move (quoted "ij")) ≡ 8
   pub empty-key : zobrist start ≡ 5407203028010692663
-  pub centre : evaluate Nobody (tried start 0x44) ≡ negsuc 15
+  pub centre : evaluate no-draw-winner (tried start 0x44) ≡ negsuc 15

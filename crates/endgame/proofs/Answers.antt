@@ -3,8 +3,8 @@ use mathlib.Core.Path.{_≡_, refl, sym, ap, _∙_}
 use mathlib.Core.Bool.{Bool, true, false, not, _&&_}
 use Prim.Native.Nat.{ℕ, _<_}
 use native.Mathlib.Omega.{arith}
-use lib.Dec.{T, lit<}
-use Rattle.base.proofs.Bool.{→and, deny, →not, not-not}
+use lib.Dec.{T, T-not, not-T}
+use Rattle.base.proofs.Bool.{→and, not-not}
 use Rattle.rules.specs.Position.{Position, going}
 use Rattle.rules.specs.Play.{cell-of, play}
 use Rattle.rules.specs.Sound.{sound}
@@ -14,9 +14,6 @@ use Rattle.rules.proofs.Play.{accepts→}
 use Rattle.rules.proofs.Endgame.{analysis-cases, evaluate-unsound, evaluate-refused, evaluate-judged}
 use Rattle.status.specs.Sets.{status-of}
 use Rattle.boards.specs.declared.moves.Move.{Move}
-use Rattle.boards.specs.declared.moves.MoveError.{MoveError}
-use Rattle.boards.specs.declared.moves.MoveError.the-variants.{WrongBoard, WonBoard, OutOfBounds, NotEmpty, GameOver}
-use Rattle.boards.specs.Answers.{error-number}
 use Rattle.game.specs.declared.Game.{Game}
 use Rattle.game.specs.Meaning.{position-of}
 use Rattle.game.specs.After.{refusal}
@@ -29,7 +26,7 @@ use Rattle.endgame.specs.Means.{made-number, judging-number, stats-of, A
 pub analysis-made : (p : Position) → T (going p) → T (sound p) →
     analysis p ≡ record { refusal = 0; status = or-unproven (merged p); stats = stats p }
 analysis-made p t u = analysis-cases p (λ a. a ≡ record { refusal = 0; status = or-unproven (merged p); stats = stats p })
-    (λ v. absurd (deny (going p) v t)) (λ _ _. refl) (λ _ v. absurd (deny (sound p) v u))
+    (λ v. absurd (T-not (going p) v t)) (λ _ _. refl) (λ _ v. absurd (T-not (sound p) v u))
 
 -- ---- what the code returns, against a case of the analysis
 pub analyses-as : (g : Game) (r : Analysis) (a : Analysed) → analysis (position-of g) ≡ a →
@@ -47,13 +44,10 @@ judges-as g m r a e n s = record {
   status = s ∙ sym (ap (λ (x : Judged). status-of (x .status)) e);
 }
 
-pub so : (b : Bool) → b ≡ true → T b
-so b e = rw e tt
-
 -- ---- a move, tried
 module _ (p : Position) (m : ℕ) where
   pub tried-first : (going p && not (sound p)) ≡ true → evaluate-move p m ≡ record { refusal = 14; status = unproven }
-  tried-first e = evaluate-unsound p m (so _ e)
+  tried-first e = evaluate-unsound p m (rw e tt)
 
   module _ (e : (going p && not (sound p)) ≡ false) where
     fine : T (not (going p && not (sound p)))
@@ -61,7 +55,7 @@ module _ (p : Position) (m : ℕ) where
 
     pub may-judge : refusal (play p m) ≡ 0 → T (sound p) × (cell-of m < 9)
     may-judge z = let l = accepts→ p m (nought-accepts p m z) in
-        (not-not (sound p) (→not (not (sound p)) (λ n. deny (going p && not (sound p)) fine (→and (going p) _ (l .unfinished) n))), l .cell)
+        (not-not (sound p) (not-T (not (sound p)) (λ n. T-not (going p && not (sound p)) fine (→and (going p) _ (l .unfinished) n))), l .cell)
 
     pub judged-played : refusal (play p m) ≡ 0 → evaluate-move p m ≡ record { refusal = 0; status = judge p m }
     judged-played z = evaluate-judged p m fine (nought-accepts p m z)
@@ -70,9 +64,3 @@ module _ (p : Position) (m : ℕ) where
     judged-refused n h q = evaluate-refused p m fine (refused-not-accepts p m (λ z. omega (arith, q ∙ z)))
         ∙ ap (λ (k : ℕ). record { refusal = k; status = unproven }) (first-is-refusal p m ∙ sym q)
 
-pub error-some : (e : MoveError) → 0 < error-number e
-error-some WrongBoard = lit< tt
-error-some WonBoard = lit< tt
-error-some OutOfBounds = lit< tt
-error-some NotEmpty = lit< tt
-error-some GameOver = lit< tt

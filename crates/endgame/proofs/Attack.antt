@@ -5,14 +5,14 @@ use mathlib.Core.Bool.{Bool, true, false, not, _||_, _&&_}
 use Prim.Native.Nat.{ℕ, _≤_, _<_}
 use native.Mathlib.Omega.{arith}
 use lib.Bits.{bitOr}
-use lib.Dec.{T, eqb}
+use lib.Dec.{T, eqb, T-not}
 use borrow.Author.Tests.{ne-eqb}
 use Rattle.base.specs.Bits.{bit, digits}
 use Rattle.base.specs.Branch.{if_then_else_}
 use Rattle.base.specs.Change.{put}
 use Rattle.base.specs.Lists.{any, all}
 use Rattle.base.proofs.Agree.{any-same, all-same, false-by}
-use Rattle.base.proofs.Bool.{deny, always}
+use Rattle.base.proofs.Bool.{always}
 use Rattle.base.proofs.Every.{sameB, sameB-eq}
 use Rattle.rules.specs.declared.Player.{Player}
 use Rattle.rules.specs.declared.NextBoard.the-variants.{Any, Only}
@@ -36,7 +36,7 @@ put-else own b k q = rw (ne-eqb b k q)
 pub critical-past : (p : Position) → T (sound p) → (w : Player) (b : ℕ) → 9 ≤ b → critical p w b ≡ false
 unfolding completes
 critical-past p s w b h = false-by (critical p w b) (λ t.
-    deny (has-line (won-boards p w)) (sound→ p s .no-line w)
+    T-not (has-line (won-boards p w)) (sound→ p s .no-line w)
     (rw (line-same (put (won-boards p w) b true) (won-boards p w) (λ k l. put-else (won-boards p w) b k (λ e. omega arith))) at (crit→ p w b t .boards)))
 
 -- the set of a side that is known otherwise

@@ -4,12 +4,10 @@ use mathlib.Core.Bool.{Bool, true, false, not, _||_, _&&_, or-false, or-assoc}
 use mathlib.Core.List.{List, [], _∷_, _++_}
 use Prim.Native.Nat.{ℕ, _+_, _<_}
 use native.Mathlib.Numerals.{add-one}
-use lib.Dec.{eqb, eqb→eq}
 use lib.ListN.{length, getD, take, drop}
 use lib.Seq.{take-suc, drop-cons}
 use Rattle.base.specs.Lists.{any, all}
-use Rattle.base.proofs.Every.{upTo-at}
-use Rattle.rules.specs.Board.{nine}
+use Rattle.base.proofs.Bool.{neither}
 
 module _ {A : Type 0} (f : A → Bool) where
   any-join : (xs ys : List A) → any f (xs ++ ys) ≡ (any f xs || any f ys)
@@ -21,11 +19,7 @@ module _ {A : Type 0} (f : A → Bool) where
   pub all-fail : (xs : List A) → all (λ x. not (f x)) xs ≡ not (any f xs)
   unfolding any all
   all-fail [] = refl
-  all-fail (x ∷ xs) = ap (_&&_ (not (f x))) (all-fail xs) ∙ turned (f x) (any f xs)
-    where
-      turned : (a b : Bool) → (not a && not b) ≡ not (a || b)
-      turned true b = refl
-      turned false b = refl
+  all-fail (x ∷ xs) = ap (_&&_ (not (f x))) (all-fail xs) ∙ neither (f x) (any f xs)
 
   module _ (xs : List A) (d : A) (i : ℕ) (h : i < length xs) where
     -- the elements up to i
@@ -54,7 +48,3 @@ module _ {A : Type 0} (f : A → Bool) where
 
       pub all-passed : all f (drop i xs) ≡ b → f (getD xs i d) ≡ true → all f (drop (i + 1) xs) ≡ b
       all-passed e t = sym (ap (λ (x : Bool). x && all f (drop (i + 1) xs)) t) ∙ sym all-from ∙ e
-
--- the nine numbers stand in their order
-pub nine-at : (i : ℕ) → i < 9 → getD nine i 0 ≡ i
-nine-at i h = eqb→eq (getD nine i 0) i (upTo-at (λ i. eqb (getD nine i 0) i) 9 tt i h)

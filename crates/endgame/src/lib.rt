@@ -22,9 +22,9 @@ ghost use Rattle.endgame.specs.Means.{made-number, judging-number, stats
 use boards::Answer;
 use boards::Move;
 use boards::MoveError;
-use boards::WIN_MASKS;
-use boards::has_line;
 use game::Game;
+use lines::WIN_MASKS;
+use lines::has_line;
 use rules::NextBoard;
 use rules::Player;
 use status::Read;

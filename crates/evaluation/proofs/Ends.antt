@@ -14,7 +14,7 @@ use Rattle.rules.specs.declared.GameState.the-variants.{InPlay, Drawn, Won}
 use Rattle.rules.specs.declared.DrawWinner.{DrawWinner}
 use Rattle.rules.specs.Board.{side-number, in-play}
 use Rattle.rules.specs.Position.{Position}
-use Rattle.rules.specs.Evaluation.{won, lost, seen-by, draw-value, value-of, evaluate}
+use Rattle.rules.specs.Evaluation.{Scoring, won, lost, seen-by, draw-value, value-of, evaluate}
 use Rattle.evaluation.specs.Values.{score-by, evaluate-by}
 
 -- by the numbers of the two sides
@@ -37,15 +37,15 @@ nothing O = refl
 pub drawn-as : (t : Player) (a b : DrawWinner) → a ≡ b → seen-by t (draw-value b) ≡ seen-by t (draw-value a)
 drawn-as t a b e = ap (λ (d : DrawWinner). seen-by t (draw-value d)) (sym e)
 
-module _ (d : DrawWinner) (p : Position) (values : List ℤ) where
+module _ (sc : Scoring) (p : Position) (values : List ℤ) where
   -- a finished game
-  pub eval-ended : (s : GameState) → p .state ≡ s → T (not (in-play s)) → seen-by (p .turn) (value-of d p s) ≡ evaluate-by d p values
+  pub eval-ended : (s : GameState) → p .state ≡ s → T (not (in-play s)) → seen-by (p .turn) (value-of sc p s) ≡ evaluate-by sc p values
   unfolding evaluate evaluate-by if_then_else_
   eval-ended InPlay e t = absurd t
   eval-ended Drawn e t = rw e
   eval-ended (Won w) e t = rw e
 
   -- one in play, as the side to move sees it
-  pub eval-open : p .state ≡ InPlay → (t : Player) → p .turn ≡ t → seen-by t (score-by p values) ≡ evaluate-by d p values
+  pub eval-open : p .state ≡ InPlay → (t : Player) → p .turn ≡ t → seen-by t (score-by p values) ≡ evaluate-by sc p values
   unfolding evaluate-by if_then_else_
   eval-open e t f = rw (e, f)

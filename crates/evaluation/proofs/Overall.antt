@@ -12,10 +12,9 @@ use Rattle.base.proofs.Integers.{hi, lo, zarith, sm, ng}
 use Rattle.rules.specs.declared.Player.the-variants.{X, O}
 use Rattle.rules.specs.declared.GameState.{GameState}
 use Rattle.rules.specs.declared.GameState.the-variants.{InPlay, Drawn, Won}
-use Rattle.rules.specs.declared.DrawWinner.{DrawWinner}
 use Rattle.rules.specs.Board.{in-play, Line, lines}
 use Rattle.rules.specs.Position.{Position, going, won-boards}
-use Rattle.rules.specs.Evaluation.{count, board-score, overall-line, score, seen-by, value-of, evaluate}
+use Rattle.rules.specs.Evaluation.{count, board-score, overall-line, score, seen-by, value-of, evaluate, Scoring}
 use Rattle.lines.specs.Masks.{line-at}
 use Rattle.lines.proofs.Masks.{mask-at, place-at, places, low}
 use Rattle.evaluation.specs.Values.{board-value, values-of, value-at, overall-value, score-by, evaluate-by}
@@ -92,11 +91,11 @@ module _ (p : Position) where
       (λ i h. rw (count-digits (won-boards p X) x i e h, count-digits (won-boards p O) o i d h))
 
 -- with its own values the evaluation is the definition's
-pub by-values : (d : DrawWinner) (p : Position) → evaluate-by d p (values-of p) ≡ evaluate d p
+pub by-values : (sc : Scoring) (p : Position) → evaluate-by sc p (values-of p) ≡ evaluate sc p
 unfolding evaluate-by evaluate
-by-values d p = if-ind (λ (z : ℤ). z ≡ evaluate d p) (going p) _ _ (λ t. ap (seen-by (p .turn)) (score-is p) ∙ in-play-score (p .state) t) (λ _. refl)
+by-values sc p = if-ind (λ (z : ℤ). z ≡ evaluate sc p) (going p) _ _ (λ t. ap (seen-by (p .turn)) (score-is p) ∙ in-play-score (p .state) t) (λ _. refl)
   where
-    in-play-score : (s : GameState) → T (in-play s) → seen-by (p .turn) (score p) ≡ seen-by (p .turn) (value-of d p s)
+    in-play-score : (s : GameState) → T (in-play s) → seen-by (p .turn) (score p) ≡ seen-by (p .turn) (value-of sc p s)
     in-play-score InPlay t = refl
     in-play-score Drawn t = absurd t
     in-play-score (Won w) t = absurd t

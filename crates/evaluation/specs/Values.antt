@@ -7,12 +7,11 @@ use lib.ListN.{getD}
 use Rattle.rules.specs.declared.Player.the-variants.{X, O}
 use Rattle.rules.specs.declared.GameState.{GameState}
 use Rattle.rules.specs.declared.GameState.the-variants.{InPlay, Drawn, Won}
-use Rattle.rules.specs.declared.DrawWinner.{DrawWinner}
 use Rattle.base.specs.Branch.{if_then_else_}
 use Rattle.base.specs.Integers.{sum}
 use Rattle.rules.specs.Board.{nine, Line, lines}
 use Rattle.rules.specs.Position.{Position, going, won-boards}
-use Rattle.rules.specs.Evaluation.{count, unless-both, board-score, seen-by, evaluate}
+use Rattle.rules.specs.Evaluation.{Scoring, count, unless-both, board-score, seen-by, evaluate}
 
 -- 20 for a board that a side has won, and the score of one in play
 abbrev pub value-in : Position → ℕ → GameState → ℤ
@@ -40,5 +39,5 @@ unfoldable pub score-by : Position → List ℤ → ℤ
 score-by p values = sum (overall-value (won-boards p X) (won-boards p O) values) lines
 
 -- the evaluation, with boards that are said to have these values, which count in play alone
-unfoldable pub evaluate-by : DrawWinner → Position → List ℤ → ℤ
-evaluate-by draws p values = if going p then (λ _. seen-by (p .turn) (score-by p values)) else λ _. evaluate draws p
+unfoldable pub evaluate-by : Scoring → Position → List ℤ → ℤ
+evaluate-by sc p values = if going p then (λ _. seen-by (p .turn) (score-by p values)) else λ _. evaluate sc p

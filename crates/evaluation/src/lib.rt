@@ -8,15 +8,15 @@ ghost use lib.ListN.{set};
 ghost use Rattle.base.specs.Bits.{bit};
 ghost use Rattle.base.specs.Integers.{sum};
 ghost use Rattle.rules.specs.Board.{lines, mine};
-ghost use Rattle.rules.specs.Evaluation.{won, count, worth, board-line, seen-by, draw-value, evaluate};
+ghost use Rattle.rules.specs.Evaluation.{won, count, worth, board-line, seen-by, draw-value, scoring-with, evaluate};
 ghost use Rattle.boards.specs.Packed.{cell-at};
 ghost use Rattle.game.specs.Meaning.{position-of};
 ghost use Rattle.lines.specs.Masks.{line-at};
 ghost use Rattle.evaluation.specs.Values.{board-value, values-of, overall-value, score-by, evaluate-by};
 use boards::LocalBoards;
-use boards::WIN_MASKS;
-use boards::WIN_PATTERNS;
 use game::Game;
+use lines::WIN_MASKS;
+use lines::WIN_PATTERNS;
 use rules::DrawWinner;
 use rules::GameState;
 use rules::Player;
@@ -198,7 +198,7 @@ impl Values {
 
     // The evaluation of a position whose boards are said to have these values.
     pub fn evaluate(self, g: Game, draw_winner: DrawWinner) -> i64
-        ensures { λ r. ⌜ r ≡ evaluate-by «draw_winner» (position-of g) (self .boards) ⌝ }
+        ensures { λ r. ⌜ r ≡ evaluate-by (scoring-with «draw_winner») (position-of g) (self .boards) ⌝ }
     {
         let turn = g.next_player;
         let state = g.game_state;
@@ -217,7 +217,7 @@ impl Values {
 }
 
 pub fn evaluate(g: Game, draw_winner: DrawWinner) -> i64
-    ensures { λ r. ⌜ r ≡ evaluate «draw_winner» (position-of g) ⌝ }
+    ensures { λ r. ⌜ r ≡ evaluate (scoring-with «draw_winner») (position-of g) ⌝ }
 {
     Values::new(g).evaluate(g, draw_winner)
 }

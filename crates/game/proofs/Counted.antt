@@ -8,25 +8,25 @@ use native.Mathlib.Omega.{arith}
 use lib.Count.{ones}
 use lib.Dec.{T, eqb, lit<}
 use lib.ListN.{length, getD}
+use lib.Ieee.Bits.{is-true}
 use borrow.Author.Tests.{eq-eqb, ne-eqb, not-true, not-false}
 use Rattle.base.specs.Branch.{if_then_else_}
 use Rattle.base.specs.Bits.{bit, digits}
 use Rattle.base.specs.Lists.{all, keep, how-many, In, from, each, total}
 use Rattle.base.proofs.Agree.{same-by}
-use Rattle.base.proofs.Bool.{and→, →and, _⇒_, ⇒→, →⇒, is-true}
+use Rattle.base.proofs.Bool.{and→, →and, _⇒_, ⇒→, →⇒}
 use Rattle.base.proofs.Digits.{bit-shr}
 use Rattle.base.proofs.Lists.{all-each, each-all, in-from, from-in}
 use Rattle.base.proofs.Numbers.{digits-lt, bit-digits}
 use Rattle.base.proofs.Ones.{how-many-ones}
-use Rattle.rules.specs.declared.GameState.{GameState}
-use Rattle.rules.specs.declared.GameState.the-variants.{InPlay, Drawn, Won}
 use Rattle.rules.specs.Board.{same, side-number, same-cell, same-state, nine}
 use Rattle.rules.specs.Position.{same-due, Position, open-board, free-cell}
 use Rattle.rules.specs.Play.{move-of, board-of, cell-of}
 use Rattle.rules.specs.Moves.{places}
 use Rattle.rules.specs.Compare.{bound-depth, open-boards, equivalent}
-use Rattle.rules.proofs.Board.{same-self, in-nine, nine-in}
+use Rattle.rules.proofs.Board.{in-nine, nine-in}
 use Rattle.rules.proofs.Play.{board-of-move, cell-of-move}
+use Rattle.rules.proofs.Compare.{same-state-self}
 use Rattle.boards.specs.declared.local.LocalBoards.{LocalBoards}
 use Rattle.boards.specs.Cursor.{moves-left}
 use Rattle.boards.specs.Packed.{no-row, cell-at, place}
@@ -187,11 +187,6 @@ module _ (p : Position) (l k : LocalBoards) (n : ℕ) (e : n ≡ digits (open-bo
           each b c hb hc = →⇒ (open-board p b) _ (λ o. all-each (agree b) c nine (⇒→ (open-board p b) _ (all-each _ b nine t (in-nine b hb)) o) (in-nine c hc))
 
 -- ---- the comparison, part by part
-same-state-self : (g : GameState) → T (same-state g g)
-same-state-self InPlay = tt
-same-state-self Drawn = tt
-same-state-self (Won w) = same-self w
-
 module _ (p q : Position) (m n : ℕ) (em : m ≡ side-number (p .turn)) (en : n ≡ side-number (q .turn)) where
   sides : eqb m n ≡ same (p .turn) (q .turn)
   sides = rw (em, en) (same-number (p .turn) (q .turn))

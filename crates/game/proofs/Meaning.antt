@@ -6,12 +6,12 @@ use Prim.Native.Nat.{ℕ, _+_, _*_, _/_, _<_}
 use native.Mathlib.Decide.{decLt}
 use native.Mathlib.Omega.{arith}
 use lib.Bits.{bitXor, xor-comm, xor-zero-l}
-use lib.Dec.{T}
+use lib.Dec.{T, T-not}
 use lib.ListN.{length, getD, getD-replicate}
 use Rattle.base.specs.Branch.{if_then_else_}
 use Rattle.base.specs.Change.{put}
 use Rattle.base.proofs.Branch.{if-ind}
-use Rattle.base.proofs.Bool.{deny, is}
+use Rattle.base.proofs.Bool.{is}
 use Rattle.base.proofs.Change.{put-at}
 use Rattle.base.proofs.Digits.{bit-nought}
 use Rattle.rules.specs.declared.Player.{Player}
@@ -146,11 +146,11 @@ module _ (g : Game) (b c : ℕ) (n : length (g .«local_boards» .rows) ≡ 3) (
 module _ (g : Game) (m : ℕ) where
   pub game-accepted : T (accepts (position-of g) m) → game-after g m ≡ after-move g (board-of m) (cell-of m)
   unfolding game-after
-  game-accepted t = if-ind (λ (h : Game). h ≡ after-move g (board-of m) (cell-of m)) (accepts (position-of g) m) _ _ (λ _. refl) (λ d. absurd (deny (accepts (position-of g) m) d t))
+  game-accepted t = if-ind (λ (h : Game). h ≡ after-move g (board-of m) (cell-of m)) (accepts (position-of g) m) _ _ (λ _. refl) (λ d. absurd (T-not (accepts (position-of g) m) d t))
 
   pub game-refused : T (not (accepts (position-of g) m)) → game-after g m ≡ g
   unfolding game-after
-  game-refused t = if-ind (λ (h : Game). h ≡ g) (accepts (position-of g) m) _ _ (λ u. absurd (deny (accepts (position-of g) m) t u)) (λ _. refl)
+  game-refused t = if-ind (λ (h : Game). h ≡ g) (accepts (position-of g) m) _ _ (λ u. absurd (T-not (accepts (position-of g) m) t u)) (λ _. refl)
 
   -- the position after a tried move
   pub game-after-means : length (g .«local_boards» .rows) ≡ 3 → position-of (game-after g m) ≡ tried (position-of g) m

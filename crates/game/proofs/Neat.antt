@@ -34,6 +34,7 @@ use Rattle.boards.specs.Packed.{cell-from, no-row, row-of, place, cell-at, stat
 use Rattle.boards.specs.Rows.{row-cell}
 use Rattle.boards.specs.With.{row-with, with-cell, state-with, with-state}
 use Rattle.boards.proofs.Packed.{cell-in, cell-past-board, cell-past-cell, state-in, state-past}
+use Rattle.boards.proofs.Cells.{no-x}
 use Rattle.game.specs.declared.Game.{Game}
 use Rattle.game.specs.Meaning.{position-of}
 use Rattle.game.specs.After.{after-move, game-after}
@@ -93,10 +94,6 @@ row→ r t =
     →and (ltb (r .x) (2 ^ 27)) _ (lt→ltb _ _ (n .xs))
     (→and (ltb (r .o) (2 ^ 27)) _ (lt→ltb _ _ (n .os)) (rw (bit-ext (bitAnd (r .x) (r .o)) 0 (λ k. bit-and (r .x) (r .o) k ∙ n .apart k ∙ sym (bit-nought k))) tt))
 
-none-x : (p q : Bool) → T (blank (cell-from p q)) → p ≡ false
-none-x false q t = refl
-none-x true q t = absurd t
-
 none-o : (p q : Bool) → T (blank (cell-from p q)) → q ≡ false
 none-o false false t = refl
 none-o false true t = absurd t
@@ -109,7 +106,7 @@ module _ (r : Row) (k : ℕ) (h : k < 27) (n : NeatRow r) (t : T (blank (row-cel
   marked-x j (no e) = rw (unmarked (r .x) k j e) (n .apart j)
 
   marked-o : (j : ℕ) → Dec (j ≡ k) → (bit (r .x) j && bit (bitOr (r .o) (2 ^ k)) j) ≡ false
-  marked-o j (yes e) = rw (e, none-x (bit (r .x) k) (bit (r .o) k) t)
+  marked-o j (yes e) = rw (e, no-x (bit (r .x) k) (bit (r .o) k) t)
   marked-o j (no e) = rw (unmarked (r .o) k j e) (n .apart j)
 
   row-with-neat : (w : Player) → NeatRow (row-with w r k)

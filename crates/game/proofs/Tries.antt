@@ -19,7 +19,7 @@ use Rattle.game.specs.After.{after-move, game-after, refusal, Plays}
 use Rattle.game.proofs.Answers.{nought-accepts, refused-not-accepts}
 use Rattle.game.proofs.Meaning.{game-accepted, game-refused, game-after-means}
 
-some-number : (e : MoveError) → 0 < error-number e
+pub some-number : (e : MoveError) → 0 < error-number e
 some-number OutOfBounds = omega arith
 some-number GameOver = omega arith
 some-number WonBoard = omega arith

@@ -1,6 +1,6 @@
 -- The case of what follows the blank, and the tests of its bytes, choose the arm of the definition.
-use mathlib.Core.Path.{_≡_, refl, sym, _∙_, subst}
-use mathlib.Core.Bool.{Bool, true, false, not, _&&_}
+use mathlib.Core.Path.{_≡_, refl, sym, _∙_}
+use mathlib.Core.Bool.{Bool, true, false, not, and-eq-true-iff}
 use mathlib.Core.Option.{Option, none, some}
 use Prim.Native.Nat.{ℕ, _+_, _-_, _*_, _≤_}
 use native.Mathlib.Omega.{arith}
@@ -21,16 +21,9 @@ lacks d e = rw e (record { number = refl; says = refl })
 pub tells : (d : Option ℕ) (n : ℕ) → d ≡ some n → DepthIs d (Of n)
 tells d n e = rw e (record { number = refl; says = refl })
 
-both : (a b : Bool) → (a && b) ≡ true → (a ≡ true) × (b ≡ true)
-both true b e = (refl, e)
-both false b e = (e, subst (λ (c : Bool). b ≡ c) e (absurd-false e))
-  where
-    absurd-false : {x : Bool} → false ≡ true → x ≡ false
-    absurd-false e = cc
-
 -- a test that was passed bounds its byte
 pub digit-bounds : (a : ℕ) (r : Bool) → r ≡ is-digit a → r ≡ true → (48 ≤ a) × (a ≤ 57)
-digit-bounds a r e t = let d = both (leb 48 a) (leb a 57) (sym e ∙ t) in (leb-true 48 a (d .0), leb-true a 57 (d .1))
+digit-bounds a r e t = let d = and-eq-true-iff (leb 48 a) (leb a 57) .0 (sym e ∙ t) in (leb-true 48 a (d .0), leb-true a 57 (d .1))
 
 -- so two digits make a byte
 pub tens-fit : (a : ℕ) (r : Bool) → r ≡ is-digit a → not r ≡ false → Fits w8 (10 * (a - 48))

@@ -9,18 +9,18 @@ use native.Mathlib.Omega.{arith}
 use lib.Dec.{eqb}
 use lib.ListN.{length, take, set, length-append, length-take}
 use lib.Seq.{take-all, take-append-le, set-out}
-use borrow.Author.Tests.{lt-ltb, eqb-true, eq-eqb, ne-eqb}
-use Rattle.base.specs.Branch.{if_then_else_}
+use borrow.Author.Tests.{eqb-true, eq-eqb, ne-eqb}
 use Rattle.text.specs.Bytes.{blank}
-use Rattle.text.specs.Reading.{refuses, read}
-use Rattle.text.specs.ProgramLine.{Parted, no-blank, around, parted, depth-of, Asked, no-depth, asks, asks-with, asked-by, asked, line-refusal}
+use Rattle.text.specs.Reading.{read}
+use Rattle.text.specs.ProgramLine.{Parted, no-blank, around, parted, depth-of, asks-with, asked-by, asked}
 use Rattle.text.proofs.ProgramLine.{Parts, parted-parts, parted-blank, followed, parted-other}
 use Rattle.held.specs.declared.After.{After}
 use Rattle.held.specs.declared.After.the-variants.{Nothing}
 use Rattle.held.specs.declared.Held.{Held}
 use Rattle.text.specs.Padded.{padded}
-use Rattle.held.specs.HeldLine.{longer, depth-after, refusal-of, new-held, pushed, pushed-all, held-text, held-asks, Same-question, tail-of, before-blank, behind-blank, held-of}
+use Rattle.held.specs.HeldLine.{longer, depth-after, new-held, pushed, pushed-all, held-asks, Same-question, tail-of, before-blank, behind-blank, held-of}
 use Rattle.text.proofs.Padded.{set-padded, take-padded}
+use Rattle.text.proofs.Reading.{too-long-is-1}
 
 -- ---- one byte more
 tail-longer : (rest : List ℕ) (b : ℕ) → longer (tail-of rest) b ≡ tail-of (rest ++ (b ∷ []))
@@ -90,17 +90,13 @@ unfolding parted
 line-held line = pushed-all-held [] line
 
 -- ---- what it asks
-read-long : (t : List ℕ) → 256 < length t → read t ≡ refuses 1 0 0
-unfolding read if_then_else_
-read-long t h = rw (lt-ltb 256 (length t) h)
-
 -- 257 bytes of a text are enough
 pub read-first-257 : (t : List ℕ) → read (take 257 t) ≡ read t
 read-first-257 t = go (decLe (length t) 256)
   where
     go : Dec (length t ≤ 256) → read (take 257 t) ≡ read t
     go (yes h) = ap read (take-all 257 t (omega arith))
-    go (no h) = read-long (take 257 t) (omega (arith, length-take 257 t)) ∙ sym (read-long t (omega arith))
+    go (no h) = too-long-is-1 (take 257 t) (omega (arith, length-take 257 t)) ∙ sym (too-long-is-1 t (omega arith))
 
 -- the held bytes of a text
 held-first : (text rest : List ℕ) → take (min (min (length text) 257) 257) (padded 257 (text ++ rest)) ≡ take 257 text
@@ -135,17 +131,3 @@ asks-parted line (around text rest) h =
 -- for every list of bytes: 19 exactly where the line has no depth, else the same depth, and a text that is read alike
 pub held-asks-the-same : (line : List ℕ) → Same-question (held-asks (pushed-all new-held line)) (asked line)
 held-asks-the-same line = subst (λ (h : Held). Same-question (held-asks h) (asked line)) (sym (line-held line)) (asks-parted line (parted line) (parted-parts line))
-
--- so a line is refused by its number
-asks-refusal : (t : List ℕ) (d : Option ℕ) → refusal-of d ≡ line-refusal (asks-with t d)
-asks-refusal t none = refl
-asks-refusal t (some n) = refl
-
-same-refusal : (a b : Asked) → Same-question a b → line-refusal a ≡ line-refusal b
-same-refusal no-depth no-depth h = refl
-same-refusal no-depth (asks u m) h = absurd h
-same-refusal (asks t n) no-depth h = absurd h
-same-refusal (asks t n) (asks u m) h = refl
-
-pub held-refuses-the-same : (line : List ℕ) → refusal-of (depth-after (pushed-all new-held line .after)) ≡ line-refusal (asked line)
-held-refuses-the-same line = let h = pushed-all new-held line in asks-refusal (held-text h) (depth-after (h .after)) ∙ same-refusal (held-asks h) (asked line) (held-asks-the-same line)

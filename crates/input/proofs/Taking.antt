@@ -1,12 +1,12 @@
 -- A line taken byte by byte: what one byte does, and bytes one after the other.
-use mathlib.Core.Path.{_≡_, refl, sym, ap, _∙_}
+use mathlib.Core.Path.{_≡_, refl, sym, _∙_}
 use mathlib.Core.Bool.{Bool, true, false}
 use mathlib.Core.List.{List, [], _∷_, _++_, append-assoc, append-nil}
-use Prim.Native.Nat.{ℕ, zero, suc, _+_, _-_, _<_, _≤_, min}
+use Prim.Native.Nat.{ℕ, _+_, _<_, _≤_}
 use native.Mathlib.Numerals.{add-one}
 use native.Mathlib.Omega.{arith}
 use lib.Dec.{eqb}
-use lib.ListN.{length, getD, set, take, drop, length-take, length-drop, drop-of-length-le}
+use lib.ListN.{length, getD, set, take, drop, length-take, drop-of-length-le}
 use lib.Seq.{drop-cons, getD-take}
 use borrow.Author.Tests.{eq-eqb, ne-eqb}
 use Rattle.base.specs.Branch.{if_then_else_}
@@ -21,7 +21,7 @@ module _ (end : ℕ) (buffer : List ℕ) (line : Line) (kept : List ℕ) (i : �
       let e : i < end = omega (arith, length-take end buffer) in
       drop-cons (take end buffer) i 0 h ∙ rw (add-one i, getD-take end buffer i 0 e)
 
-  pub byte-taken : i < length (take end buffer) → (getD buffer i 0 ≡ 10 → ⊥) → taken line kept (drop i (take end buffer)) ≡ taken (longer line (getD buffer i 0)) (set kept (line .length) (getD buffer i 0)) (drop (i + 1) (take end buffer))
+  pub byte-taken : i < length (take end buffer) → (getD buffer i 0 ≡ 10 → ⊥) → taken line kept (drop i (take end buffer)) ≡ taken (longer line) (set kept (line .length) (getD buffer i 0)) (drop (i + 1) (take end buffer))
   unfolding taken if_then_else_
   byte-taken h ne = rw (next-byte h, ne-eqb (getD buffer i 0) 10 ne)
 
@@ -50,7 +50,7 @@ after-byte false l kept xs ys m h e = h e
 pub taken-append : (l : Line) (kept xs ys : List ℕ) → taken l kept xs .found ≡ false → taken l kept (xs ++ ys) ≡ taken (taken l kept xs .line) (taken l kept xs .kept) ys
 unfolding taken
 taken-append l kept [] ys e = refl
-taken-append l kept (b ∷ xs) ys e = after-byte (eqb b 10) l kept xs ys (taken (longer l b) (set kept (l .length) b)) (taken-append (longer l b) (set kept (l .length) b) xs ys) e
+taken-append l kept (b ∷ xs) ys e = after-byte (eqb b 10) l kept xs ys (taken (longer l) (set kept (l .length) b)) (taken-append (longer l) (set kept (l .length) b) xs ys) e
 
 -- ---- a read after another
 pub record Went (l₀ : Line) (kept₀ unused₀ : List ℕ) (l : Line) (kept unused : List ℕ) : Type 0 where

@@ -1,10 +1,9 @@
 -- A line that there is room for is kept as it came; the bytes after its end are left.
 use mathlib.Core.Path.{_≡_, refl, sym, ap, _∙_}
-use mathlib.Core.Bool.{Bool, true, false}
+use mathlib.Core.Bool.{true}
 use mathlib.Core.List.{List, [], _∷_, _++_, append-nil}
-use Prim.Native.Nat.{ℕ, zero, suc, _+_, _/_, _%_, _^_, _<_, _≤_}
+use Prim.Native.Nat.{ℕ, suc, _+_, _<_, _≤_}
 use native.Mathlib.Omega.{arith}
-use lib.Dec.{T, eqb}
 use lib.ListN.{length, set, take, length-append, length-set}
 use lib.Seq.{take-suc-set, append-snoc}
 use borrow.Author.Tests.{lt-ltb, le-leb, ne-eqb}
@@ -40,7 +39,7 @@ goes l kept came (b ∷ bs) rest u e k fits small =
     let len : one-more (l .length) ≡ length more = one-more-is (l .length) m ∙ ap suc e ∙ sym count in
     let put : take (length more) (set kept (l .length) b) ≡ more = rw (count, ← e) (take-suc-set kept (l .length) b n ∙ rw (e, k)) in
     let room : length (set kept (l .length) b) ≡ length kept = length-set kept (l .length) b in
-    let next = goes (longer l b) (set kept (l .length) b) more bs rest (u .1) len put (omega arith) (omega arith) in
+    let next = goes (longer l) (set kept (l .length) b) more bs rest (u .1) len put (omega arith) (omega arith) in
     rw (ne-eqb b 10 (u .0), ← append-snoc came b bs, ← room) next
 
 -- from a new line on
@@ -60,10 +59,3 @@ module _ (kept bs rest : List ℕ) (u : Unbroken bs) (fits : length bs ≤ lengt
 
   pub rest-left : taken new-line kept (bs ++ (10 ∷ rest)) .left ≡ rest
   rest-left = line-is-kept .left-is
-
--- ---- the last bytes of a line of any length
-pub last-byte : (l : Line) (a : ℕ) → a < 256 → longer l a .last % 256 ≡ a
-last-byte l a h = omega arith
-
-pub byte-before : (l : Line) (a : ℕ) → a < 256 → longer l a .last / 256 ≡ l .last % 2 ^ 56
-byte-before l a h = omega arith

@@ -2,7 +2,7 @@
 use mathlib.Core.Path.{_≡_}
 use mathlib.Core.Bool.{Bool, true, false, not, _&&_}
 use mathlib.Core.List.{List, [], _∷_, _++_}
-use Prim.Native.Nat.{ℕ, _+_, _*_, _%_, _^_}
+use Prim.Native.Nat.{ℕ, _+_}
 use lib.Dec.{eqb, leb, ltb}
 use lib.ListN.{length, set, take, drop}
 use Rattle.base.specs.Branch.{if_then_else_}
@@ -10,15 +10,15 @@ use Rattle.input.specs.declared.Line.{Line}
 use Rattle.input.specs.declared.Input.{Input}
 
 abbrev pub new-line : Line
-new-line = record { length = 0; last = 0 }
+new-line = record { length = 0 }
 
 -- one more, but for the largest number
 unfoldable pub one-more : ℕ → ℕ
 one-more n = if ltb n 0xffffffffffffffff then (λ _. n + 1) else λ _. n
 
 -- a line with one byte more
-abbrev pub longer : Line → ℕ → Line
-longer l b = record { length = one-more (l .length); last = l .last % 2 ^ 56 * 256 + b }
+abbrev pub longer : Line → Line
+longer l = record { length = one-more (l .length) }
 
 -- the line, or nothing if it is longer than what is kept
 unfoldable pub whole : Line → List ℕ → List ℕ
@@ -33,7 +33,7 @@ pub record Taken : Type 0 where
 
 unfoldable pub taken : Line → List ℕ → List ℕ → Taken
 taken l kept [] = record { line = l; kept = kept; left = []; found = false }
-taken l kept (b ∷ bs) = if eqb b 0x0a then (λ _. record { line = l; kept = kept; left = bs; found = true }) else λ _. taken (longer l b) (set kept (l .length) b) bs
+taken l kept (b ∷ bs) = if eqb b 0x0a then (λ _. record { line = l; kept = kept; left = bs; found = true }) else λ _. taken (longer l) (set kept (l .length) b) bs
 
 -- the bytes that are not yet used
 abbrev pub unused : Input → List ℕ → List ℕ

@@ -3,17 +3,15 @@ ghost use mathlib.Core.Path.{_≡_};
 ghost use mathlib.Core.Bool.{false};
 ghost use Prim.Native.Nat.{min};
 ghost use lib.ListN.{length, set};
-ghost use lib.Dec.{leb};
 ghost use Rattle.io.specs.Counts.{Counts};
 ghost use Rattle.input.specs.Lines.{new-line, longer, one-more, whole, ended, Takes, Reads};
 use libc::STDIN_FILENO;
 
 const LONGEST: usize = 18446744073709551615;
 
-// A line as far as it came: its length, and its last eight bytes as one number, the last one lowest.
+// A line as far as it came: its length.
 pub struct Line {
     pub length: usize,
-    pub last: u64,
 }
 
 // The bytes of the buffer from `at` up to `end` are not yet used. `found` says that the line's end was met.
@@ -38,29 +36,21 @@ fn least(a: usize, b: usize) -> usize
 }
 
 impl Line {
-    pub const NEW: Line = Line { length: 0, last: 0 };
+    pub const NEW: Line = Line { length: 0 };
 
     // One byte more. It is kept if there is room.
     pub fn push(self, b: u8, kept: &mut [u8]) -> Line
-        ensures { λ r. ⌜ (r ≡ longer self b) × (now (kept .exit) ≡ set (now (kept .entry)) (self .length) b) ⌝ }
+        ensures { λ r. ⌜ (r ≡ longer self) × (now (kept .exit) ≡ set (now (kept .entry)) (self .length) b) ⌝ }
     {
         let at = self.length;
         let longer = Line {
             length: one_more(at),
-            last: (self.last % 72057594037927936) * 256 + (b as u64),
         };
         if at < kept.len() {
             kept[at] = b;
             return longer;
         }
         longer
-    }
-
-    // Whether all of the line was kept.
-    pub fn is_whole(self, kept: &[u8]) -> bool
-        ensures { λ r. ⌜ r ≡ leb (self .length) (length (now (kept .entry))) ⌝ }
-    {
-        self.length <= kept.len()
     }
 
     // The line, or nothing if not all of it was kept.

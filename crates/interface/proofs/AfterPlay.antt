@@ -5,12 +5,12 @@ use Prim.Native.Nat.{ℕ}
 use native.Mathlib.Omega.{arith}
 use lib.Dec.{T, ltb→lt}
 use lib.ListN.{take, drop}
-use Rattle.rules.specs.declared.DrawWinner.the-variants.{Nobody}
 use Rattle.rules.specs.Position.{Position, start, going}
 use Rattle.rules.specs.Play.{reached}
 use Rattle.rules.specs.Endgame.{Analysis as Ends, analysis}
 use Rattle.rules.proofs.Sound.{good-is-sound, start-is-good, reached-good}
 use Rattle.rules.proofs.Endgame.{analysis-sound}
+use Rattle.theory.specs.Memory.{Responses}
 use Rattle.theory.specs.Reported.{Settings, Reported, reported}
 use Rattle.reference.specs.Reference.{game}
 use Rattle.game.specs.declared.Game.{Game}
@@ -27,7 +27,7 @@ use Rattle.minimax.proofs.Rules.{reported-rules}
 use Rattle.demands.specs.Claims.{NotStopped, MarkSays, Right, StatusHolds}
 use Rattle.demands.proofs.Claims.{reported-marks, reported-right, reported-holds}
 use Rattle.interface.specs.Position.{words-of, game-from}
-use Rattle.interface.specs.Calls.{draws-from, found}
+use Rattle.interface.specs.Calls.{scoring-from, responses-from, found}
 use Rattle.interface.proofs.PositionWords.{Byte, slice-comes-back}
 
 module _ (p ns ms : List ℕ) (depth allowance draws : ℕ) (answers report : List ℕ) (from : game-from p ≡ games-after new-game ns) where
@@ -37,11 +37,8 @@ module _ (p ns ms : List ℕ) (depth allowance draws : ℕ) (answers report : Li
   abbrev c : Settings
   c = record { max-depth = depth; allowance = allowance }
 
-  abbrev xs : List ℕ
-  xs = take 256 answers
-
-  abbrev os : List ℕ
-  os = take 256 (drop 256 answers)
+  abbrev rs : Responses
+  rs = responses-from answers
 
   abbrev x : Reported
   x = found p ms depth allowance draws answers [] report
@@ -52,11 +49,11 @@ module _ (p ns ms : List ℕ) (depth allowance draws : ℕ) (answers report : Li
   pub reached-is : position-of (games-after (game-from p) ms) ≡ q
   reached-is = ap position-of game-is ∙ new-played-means (ns ++ ms)
 
-  pub found-is : x ≡ reported (game (draws-from draws)) c q xs os []
-  found-is =
-      ap (λ (g : Game). reported (structs (draws-from draws)) c g xs os []) game-is
-      ∙ reported-rules (draws-from draws) c (games-after new-game (ns ++ ms)) (new-played-neat (ns ++ ms)) (new-played-hash (ns ++ ms)) xs os []
-      ∙ ap (λ (k : Position). reported (game (draws-from draws)) c k xs os []) (new-played-means (ns ++ ms))
+  pub reported-is : x ≡ reported (game (scoring-from draws)) c q rs []
+  reported-is =
+      ap (λ (g : Game). reported (structs (scoring-from draws)) c g rs []) game-is
+      ∙ reported-rules (scoring-from draws) c (games-after new-game (ns ++ ms)) (new-played-neat (ns ++ ms)) (new-played-hash (ns ++ ms)) rs []
+      ∙ ap (λ (k : Position). reported (game (scoring-from draws)) c k rs []) (new-played-means (ns ++ ms))
 
   module _ (t : T (going q)) where
     pub found-answered : analysis (position-of (games-after (game-from p) ms)) .refusal ≡ 0
@@ -64,15 +61,15 @@ module _ (p ns ms : List ℕ) (depth allowance draws : ℕ) (answers report : Li
         ap (λ (k : Position). analysis k .refusal) reached-is
         ∙ ap (λ (y : Ends). y .refusal) (analysis-sound q t (good-is-sound q (reached-good start start-is-good (ns ++ ms)) t) .2)
 
-    pub found-marks : MarkSays (draws-from draws) c xs os q x
-    found-marks = subst (MarkSays (draws-from draws) c xs os q) (sym found-is) (reported-marks (ns ++ ms) t (draws-from draws) c xs os)
+    pub found-marks : MarkSays (scoring-from draws) c rs q x
+    found-marks = subst (MarkSays (scoring-from draws) c rs q) (sym reported-is) (reported-marks (ns ++ ms) t (scoring-from draws) c rs)
 
-    pub found-right : NotStopped (draws-from draws) c xs os q → Right (draws-from draws) c xs os q x
-    found-right n = subst (Right (draws-from draws) c xs os q) (sym found-is) (reported-right (ns ++ ms) t (draws-from draws) c xs os n)
+    pub found-right : NotStopped (scoring-from draws) c rs q → Right (scoring-from draws) c rs q x
+    found-right n = subst (Right (scoring-from draws) c rs q) (sym reported-is) (reported-right (ns ++ ms) t (scoring-from draws) c rs n)
 
-    pub found-holds : draws ≡ 0 → StatusHolds c xs os q x (analysis q .status)
-    found-holds e = subst (λ (y : Reported). StatusHolds c xs os q y (analysis q .status))
-        (sym (found-is ∙ ap (λ (d : ℕ). reported (game (draws-from d)) c q xs os []) e)) (reported-holds (ns ++ ms) t c xs os)
+    pub found-holds : draws ≡ 0 → StatusHolds c rs q x (analysis q .status)
+    found-holds e = subst (λ (y : Reported). StatusHolds c rs q y (analysis q .status))
+        (sym (reported-is ∙ ap (λ (d : ℕ). reported (game (scoring-from d)) c q rs []) e)) (reported-holds (ns ++ ms) t c rs)
 
 -- ---- the words that calls since the empty board have left are such a position
 next-is-byte : (n : NextBoard) → T (neat-next n) → Byte n

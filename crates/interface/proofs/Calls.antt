@@ -1,10 +1,10 @@
 -- Each call, from what its parts give: asked wrongly it keeps all, asked rightly it leaves what was stored.
-use mathlib.Core.Path.{_≡_, refl, sym, ap, _∙_, subst}
+use mathlib.Core.Path.{_≡_, refl, sym, ap, _∙_}
 use mathlib.Core.Bool.{Bool, true, false, _&&_}
-use mathlib.Core.List.{List, [], _∷_, _++_}
-use Prim.Native.Nat.{ℕ, _+_, _≤_, _<_, min}
+use mathlib.Core.List.{List, [], _++_}
+use Prim.Native.Nat.{ℕ, _≤_, _<_, min}
 use native.Mathlib.Omega.{arith}
-use lib.Dec.{T, leb}
+use lib.Dec.{leb}
 use lib.ListN.{length, take, drop, length-take}
 use lib.Seq.{sets}
 use borrow.Author.Tests.{le-leb, lt-leb}
@@ -12,6 +12,8 @@ use Rattle.base.specs.Branch.{if_then_else_}
 use Rattle.rules.specs.declared.DrawWinner.{DrawWinner}
 use Rattle.rules.specs.Endgame.{analysis}
 use Rattle.rules.specs.Status.{as-byte}
+use Rattle.rules.specs.Evaluation.{Scoring, scoring-with}
+use Rattle.theory.specs.Memory.{Responses}
 use Rattle.theory.specs.Reported.{Reported, reported}
 use Rattle.text.specs.Reading.{Reading, reads, refuses, read}
 use Rattle.text.specs.Writing.{text-of}
@@ -30,18 +32,18 @@ use Rattle.endgame.specs.Means.{made-number, Analyses}
 use Rattle.minimax.specs.declared.Minimax.{Minimax}
 use Rattle.minimax.specs.declared.Report.{Report}
 use Rattle.minimax.specs.Structs.{structs}
-use Rattle.minimax.specs.State.{bytes-of}
+use Rattle.minimax.specs.State.{responses-of}
 use Rattle.minimax.specs.Report.{ending-number, report-of, reported-of}
 use Rattle.out.specs.declared.Out.{Out}
 use Rattle.line.specs.Answered.{answer-line, asked-text}
 use Rattle.held.specs.HeldLine.{new-held, pushed-all, held-asks}
-use Rattle.out.specs.OutBytes.{out-of, out-text}
+use Rattle.out.specs.OutBytes.{out-of}
 use Rattle.text.proofs.Padded.{length-padded}
 use Rattle.line.proofs.Answered.{line-is-answered}
 use Rattle.held.specs.declared.Held.{Held}
-use Rattle.interface.specs.Lent.{returned, left, Puts}
+use Rattle.interface.specs.Lent.{Puts}
 use Rattle.interface.specs.Position.{words-of, game-from, is-position}
-use Rattle.interface.specs.Calls.{Answers, Begins, read-number, read-place, Reads, Renders, answers-to, PlaysAll, draws-from, report-words, found, Analyzes}
+use Rattle.interface.specs.Calls.{Answers, Begins, read-number, read-place, Reads, Renders, answers-to, PlaysAll, draws-from, scoring-from, responses-from, responses-bytes, report-words, found, Analyzes}
 use Rattle.interface.proofs.Places.{left-written, left-kept, returned-bad, returned-well}
 use Rattle.interface.proofs.TriedMoves.{answers-length}
 
@@ -54,9 +56,6 @@ first-no a b p = ap (λ (x : Bool). x && b) p
 
 later-no : (a b : Bool) → a ≡ true → b ≡ false → (a && b) ≡ false
 later-no a b p q = ap (λ (x : Bool). x && b) p ∙ q
-
-pub is-so : (b : Bool) → b ≡ true → T b
-is-so b e = subst T (sym e) tt
 
 -- ---- answer
 module _ (line : List ℕ) (o : Out) (h : Held) (held : h ≡ pushed-all new-held line) (o-is : o ≡ out-of (asked-text (held-asks h)))
@@ -194,8 +193,8 @@ module _ (p ms : List ℕ) (depth allowance draws : ℕ) (answers words report :
   abbrev here : Game
   here = games-after (game-from p) ms
 
-  abbrev sought : DrawWinner → Game → List ℕ → List ℕ → Reported
-  sought w g xs os = reported (structs w) (record { max-depth = depth; allowance = allowance }) g xs os words
+  abbrev sought : Scoring → Game → Responses → Reported
+  sought sc g rs = reported (structs sc) (record { max-depth = depth; allowance = allowance }) g rs words
 
   kept-words : (t : List ℕ) (b : Bool) → b ≡ false → words ≡ (if b then (λ _. t) else λ _. words)
   unfolding if_then_else_
@@ -225,14 +224,11 @@ module _ (p ms : List ℕ) (depth allowance draws : ℕ) (answers words report :
             (later-no _ _ (le-leb 512 (length answers) a) (lt-leb 655 (length report) h))))
 
         module _ (b : 655 ≤ length report) (g : Game) (g-is : g ≡ here) (w : DrawWinner) (w-is : w ≡ draws-from draws) (m : Minimax)
-            (x-is : bytes-of (m .«answers_x») ≡ take 256 answers) (o-is : bytes-of (m .«answers_o») ≡ take 256 (drop 256 answers))
+            (rs-is : responses-of (m .responses) ≡ responses-from answers)
             (r : Report) (words-after : List ℕ)
             (r-is : report-of r words-after ≡ reported-of m g (record { «max_depth» = depth; allowance = allowance; «draw_winner» = w }) words) where
-          abbrev xs : List ℕ
-          xs = bytes-of (m .«answers_x»)
-
-          abbrev os : List ℕ
-          os = bytes-of (m .«answers_o»)
+          abbrev rs : Responses
+          rs = responses-of (m .responses)
 
           abbrev x : Reported
           x = found p ms depth allowance draws answers words report
@@ -240,10 +236,9 @@ module _ (p ms : List ℕ) (depth allowance draws : ℕ) (answers words report :
           found-is : report-of r words-after ≡ x
           found-is =
               r-is
-              ∙ ap (λ (k : DrawWinner). sought k g xs os) w-is
-              ∙ ap (λ (k : Game). sought (draws-from draws) k xs os) g-is
-              ∙ ap (λ (k : List ℕ). sought (draws-from draws) here k os) x-is
-              ∙ ap (λ (k : List ℕ). sought (draws-from draws) here (take 256 answers) k) o-is
+              ∙ ap (λ (k : DrawWinner). sought (scoring-with k) g rs) w-is
+              ∙ ap (λ (k : Game). sought (scoring-from draws) k rs) g-is
+              ∙ ap (λ (k : Responses). sought (scoring-from draws) here k) rs-is
 
           module _ (s : Analysis) (s-is : Analyses g s) where
             abbrev number : ℕ
@@ -264,11 +259,11 @@ module _ (p ms : List ℕ) (depth allowance draws : ℕ) (answers words report :
                 ∙ ap (λ (k : ℕ). report-words x k byte) number-is
                 ∙ ap (report-words x (analysis (position-of here) .refusal)) byte-is
 
-            answers-are : bytes-of (r .state .«answers_x») ++ bytes-of (r .state .«answers_o») ≡ x .answers-x ++ x .answers-o
-            answers-are = ap (λ (k : Reported). k .answers-x ++ k .answers-o) found-is
+            answers-are : responses-bytes (responses-of (r .state .responses)) ≡ responses-bytes (x .responses)
+            answers-are = ap (λ (k : Reported). responses-bytes (k .responses)) found-is
 
             pub analyzes-well : (answers-after report-after : List ℕ) (n : ℕ)
-                → Puts answers (bytes-of (r .state .«answers_x») ++ bytes-of (r .state .«answers_o»)) 512 answers-after
+                → Puts answers (responses-bytes (responses-of (r .state .responses))) 512 answers-after
                 → Puts report (report-words (report-of r []) number byte) 655 report-after
                 → n ≡ ending-number (r .ending) → Here answers-after words-after report-after n
             analyzes-well answers-after report-after n u v y =
@@ -276,7 +271,7 @@ module _ (p ms : List ℕ) (depth allowance draws : ℕ) (answers words report :
                 record {
                   returns = returned-well n (x .number) _ all (y ∙ ap (λ (k : Reported). k .number) found-is);
                   answers-is =
-                      left-written (x .answers-x ++ x .answers-o) answers answers-after _ all
+                      left-written (responses-bytes (x .responses)) answers answers-after _ all
                       (omega (arith, sym (ap length answers-are) ∙ u .many)) (u .stored ∙ ap (sets answers 0) answers-are);
                   words-is = left-words words-after (x .table) _ all (ap (λ (k : Reported). k .table) found-is);
                   report-is =

@@ -1,10 +1,10 @@
 -- Words within their bounds, word by word; a game comes back from its words.
-use mathlib.Core.Path.{_≡_, refl, sym, ap, _∙_, subst}
-use mathlib.Core.Bool.{Bool, true, false, cond, _&&_}
+use mathlib.Core.Path.{_≡_, refl, sym, ap, _∙_}
+use mathlib.Core.Bool.{Bool, true, false, _&&_}
 use mathlib.Core.List.{List, [], _∷_, _++_}
 use Prim.Native.Nat.{ℕ, zero, suc, _+_, _^_, _≤_, _<_}
 use native.Mathlib.Omega.{arith}
-use native.Mathlib.Numerals.{add-one, unary-clauses}
+use native.Mathlib.Numerals.{add-one}
 use lib.Dec.{T, leb, ltb, leb→le, le→leb, ltb→lt}
 use lib.ListN.{length, getD, drop, drop-of-length-le}
 use lib.Seq.{drop-cons}
@@ -126,7 +126,7 @@ pub game-made : (ws : List ℕ) (who : Player) (next : NextBoard) (a b c : Row) 
 unfolding game-from
 game-made ws who next a b c state p q r s t u = simp (p, q, r, s, t, u)
 
--- ---- a game comes back from its words: three rows, and a due board that is a byte
+-- ---- a game comes back from a slice that its words were left in: three rows, and a due board that is a byte
 side-back : (w : Player) → side-from (side-number w) ≡ w
 side-back X = refl
 side-back O = refl
@@ -145,27 +145,6 @@ due-back : (n : NextBoard) → Byte n → due-from (due-word n) ≡ n
 due-back Any h = refl
 due-back (Only b) h = simp (ne-eqb b 256 (λ e. omega arith))
 
-game-back : (who : Player) (next : NextBoard) (rs : List Row) (x o : ℕ) (state : GameState) (h : ℕ) → length rs ≡ 3 → Byte next
-    → game-from (words-of (record { «next_player» = who; «next_board» = next; «local_boards» = record { rows = rs }; «global_states» = record { x = x; o = o }; «game_state» = state; hash = h }))
-    ≡ record { «next_player» = who; «next_board» = next; «local_boards» = record { rows = rs }; «global_states» = record { x = x; o = o }; «game_state» = state; hash = h }
-unfolding game-from
-game-back who next [] x o state h n k = absurd (omega arith)
-game-back who next (a ∷ []) x o state h n k = absurd (omega arith)
-game-back who next (a ∷ b ∷ []) x o state h n k = absurd (omega arith)
-game-back who next (a ∷ b ∷ c ∷ []) x o state h n k = simp (side-back who, due-back next k, state-back state)
-game-back who next (a ∷ b ∷ c ∷ d ∷ rs) x o state h n k = absurd (omega arith)
-
-pub game-comes-back : (g : Game) → length (g .«local_boards» .rows) ≡ 3 → Byte (g .«next_board») → game-from (words-of g) ≡ g
-game-comes-back g = game-back (g .«next_player») (g .«next_board») (g .«local_boards» .rows) (g .«global_states» .x) (g .«global_states» .o) (g .«game_state») (g .hash)
-
--- words that are each within their bound are a position
-pub within-all : (bs ws : List ℕ) → length bs ≤ length ws → ((k : ℕ) → k < length bs → getD ws k 0 ≤ getD bs k 0) → T (within bs ws)
-unfolding within
-within-all [] ws h f = tt
-within-all (b ∷ bs) [] h f = absurd (omega arith)
-within-all (b ∷ bs) (w ∷ ws) h f = →and (leb w b) (within bs ws) (le→leb w b (f 0 (omega arith))) (within-all bs ws (omega arith) (λ k q. f (suc k) (omega arith)))
-
--- ---- a game also comes back from a longer slice that its words were left in
 slice-back : (who : Player) (next : NextBoard) (rs : List Row) (x o : ℕ) (state : GameState) (h : ℕ) (rest : List ℕ) → length rs ≡ 3 → Byte next
     → game-from (words-of (record { «next_player» = who; «next_board» = next; «local_boards» = record { rows = rs }; «global_states» = record { x = x; o = o }; «game_state» = state; hash = h }) ++ rest)
     ≡ record { «next_player» = who; «next_board» = next; «local_boards» = record { rows = rs }; «global_states» = record { x = x; o = o }; «game_state» = state; hash = h }

@@ -11,7 +11,9 @@ use Rattle.rules.specs.declared.DrawWinner.the-variants.{Nobody, Side}
 use Rattle.rules.specs.Play.{play}
 use Rattle.rules.specs.Status.{as-byte}
 use Rattle.rules.specs.Endgame.{analysis}
+use Rattle.rules.specs.Evaluation.{Scoring, scoring-with}
 use Rattle.theory.specs.Table.{word-of}
+use Rattle.theory.specs.Memory.{Responses}
 use Rattle.theory.specs.Deepening.{Stats}
 use Rattle.theory.specs.Reported.{Reported, reported}
 use Rattle.text.specs.Reading.{Reading, reads, refuses, read}
@@ -84,6 +86,16 @@ module _ (position moves answers : List ℕ) where
 abbrev pub draws-from : ℕ → DrawWinner
 draws-from n = cond (eqb n 0) Nobody (Side (side-from (n - 1)))
 
+abbrev pub scoring-from : ℕ → Scoring
+scoring-from n = scoring-with (draws-from n)
+
+-- the response tables as bytes: to X's moves, then to O's
+abbrev pub responses-from : List ℕ → Responses
+responses-from answers = record { to-x = take 256 answers; to-o = take 256 (drop 256 answers) }
+
+abbrev pub responses-bytes : Responses → List ℕ
+responses-bytes rs = rs .to-x ++ rs .to-o
+
 abbrev pub stats-words : Stats → List ℕ
 stats-words s =
     s .depth ∷ word-of (s .score) ∷ s .tally .visited ∷ s .tally .terminal ∷ s .tally .cuts ∷ s .tally .tt-hit ∷ s .tally .tt-suffice ∷ []
@@ -107,15 +119,13 @@ module _ (position moves : List ℕ) (depth allowance draws : ℕ) (answers word
   abbrev pub analysed : Game
   analysed = games-after (game-from position) moves
 
-  -- with the remembered answers to X's moves, then those to O's
   abbrev pub found : Reported
   found =
-      reported (structs (draws-from draws)) (record { max-depth = depth; allowance = allowance }) analysed
-      (take 256 answers) (take 256 (drop 256 answers)) words
+      reported (structs (scoring-from draws)) (record { max-depth = depth; allowance = allowance }) analysed (responses-from answers) words
 
   pub record Analyzes (answers-after words-after report-after : List ℕ) (r : ℕ) : Type 0 where
     pub returns : r ≡ returned analyze-ok (found .number)
-    pub answers-is : answers-after ≡ left analyze-ok (found .answers-x ++ found .answers-o) answers
+    pub answers-is : answers-after ≡ left analyze-ok (responses-bytes (found .responses)) answers
     pub words-is : words-after ≡ (if analyze-ok then (λ _. found .table) else λ _. words)
     pub report-is :
         report-after ≡ left analyze-ok (report-words found (analysis (position-of analysed) .refusal) (as-byte (analysis (position-of analysed) .status))) report

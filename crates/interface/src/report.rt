@@ -7,21 +7,22 @@ ghost use lib.ListN.{length, take, drop};
 ghost use lib.Seq.{sets};
 ghost use Rattle.theory.specs.Limits.{console};
 ghost use Rattle.endgame.specs.Means.{made-number};
-ghost use Rattle.minimax.specs.State.{bytes-of};
+ghost use Rattle.minimax.specs.State.{bytes-of, responses-of};
 ghost use Rattle.minimax.specs.Report.{stats-of, is-spent, ending-stopped, report-of};
 ghost use Rattle.interface.specs.Lent.{Puts};
-ghost use Rattle.interface.specs.Calls.{draws-from, stats-words, all-stats, head-words, report-words};
+ghost use Rattle.interface.specs.Calls.{draws-from, responses-from, responses-bytes, stats-words, all-stats, head-words, report-words};
 use crate::lent;
 use crate::position::side_from;
 use boards::Move;
+use boards::PLACES;
 use endgame::Analysis;
 use minimax::Ending;
 use minimax::Minimax;
 use minimax::Report;
+use minimax::ResponseTables;
 use minimax::SearchError;
 use minimax::Stats;
 use rules::DrawWinner;
-use table::PLACES;
 
 pub(crate) fn draws_from(w: u64) -> DrawWinner
     ensures { λ r. ⌜ r ≡ draws-from w ⌝ }
@@ -48,14 +49,12 @@ fn moves_from(bytes: &[u8], at: usize) -> [Move; 256]
 
 pub(crate) fn memory(answers: &[u8]) -> Minimax
     requires { ⌜ 512 ≤ length (now answers) ⌝ }
-    ensures { λ r. ⌜ (bytes-of (r .«answers_x») ≡ take 256 (now (answers .entry)))
-        × (bytes-of (r .«answers_o») ≡ take 256 (drop 256 (now (answers .entry)))) ⌝ }
+    ensures { λ r. ⌜ responses-of (r .responses) ≡ responses-from (now (answers .entry)) ⌝ }
 {
-    let answers_x = moves_from(answers, 0);
-    let answers_o = moves_from(answers, 256);
+    let x = moves_from(answers, 0);
+    let o = moves_from(answers, 256);
     Minimax {
-        answers_x,
-        answers_o,
+        responses: ResponseTables { x, o },
     }
 }
 
@@ -72,13 +71,13 @@ fn put_moves(out: &mut [u8], at: usize, moves: [Move; 256])
 
 pub(crate) fn put_memory(answers: &mut [u8], state: Minimax)
     requires { ⌜ 512 ≤ length (now answers) ⌝ }
-    ensures { λ _. ⌜ Puts (now (answers .entry)) (bytes-of (state .«answers_x») ++ bytes-of (state .«answers_o»)) 512
-        (now (answers .exit)) ⌝ }
+    ensures { λ _. ⌜ Puts (now (answers .entry)) (responses-bytes (responses-of (state .responses))) 512 (now (answers .exit)) ⌝ }
 {
-    let answers_x = state.answers_x;
-    let answers_o = state.answers_o;
-    put_moves(answers, 0, answers_x);
-    put_moves(answers, 256, answers_o);
+    let responses = state.responses;
+    let x = responses.x;
+    let o = responses.o;
+    put_moves(answers, 0, x);
+    put_moves(answers, 256, o);
 }
 
 fn spent(why: SearchError) -> u64

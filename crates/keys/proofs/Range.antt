@@ -1,11 +1,10 @@
 -- The key of a cell by the range of its board and cell.
-use mathlib.Core.Path.{_≡_, refl, sym}
-use mathlib.Core.Bool.{Bool, true, false, not, _&&_}
-use Prim.Native.Nat.{ℕ, _≤_, _<_}
-use native.Mathlib.Omega.{arith}
-use lib.Dec.{T, ltb, ltb→lt, lt→ltb}
+use mathlib.Core.Path.{_≡_, refl}
+use mathlib.Core.Bool.{_&&_}
+use Prim.Native.Nat.{ℕ, _<_}
+use lib.Dec.{ltb, ltb→lt, lt→ltb, T-not}
 use Rattle.rules.specs.declared.CellState.{CellState}
-use Rattle.base.proofs.Bool.{and→, →and, deny}
+use Rattle.base.proofs.Bool.{and→, →and}
 use Rattle.base.proofs.Branch.{if-ind}
 use Rattle.rules.specs.Hash.{cell-key}
 use Rattle.keys.specs.Keys.{cell-key-in}
@@ -14,7 +13,7 @@ module _ (b c : ℕ) (s : CellState) where
   pub key-in-range : b < 9 → c < 9 → cell-key b c s ≡ cell-key-in b c s
   unfolding cell-key-in
   key-in-range h k = if-ind (λ (n : ℕ). cell-key b c s ≡ n) (ltb b 9 && ltb c 9) _ _ (λ _. refl)
-      (λ t. absurd (deny (ltb b 9 && ltb c 9) t (→and (ltb b 9) _ (lt→ltb b 9 h) (lt→ltb c 9 k))))
+      (λ t. absurd (T-not (ltb b 9 && ltb c 9) t (→and (ltb b 9) _ (lt→ltb b 9 h) (lt→ltb c 9 k))))
 
   pub no-key-out-of-range : (b < 9 → c < 9 → ⊥) → 0 ≡ cell-key-in b c s
   unfolding cell-key-in

@@ -18,7 +18,9 @@ use Rattle.rules.specs.Moves.{moves}
 use Rattle.rules.specs.Hash.{hash}
 use Rattle.rules.specs.Status.{Status as Set}
 use Rattle.rules.specs.Endgame.{Analysis as Analysed, analysis}
+use Rattle.rules.specs.Evaluation.{no-draw-winner}
 use Rattle.rules.proofs.Endgame.{analysis-cases}
+use Rattle.theory.specs.Memory.{no-responses}
 use Rattle.theory.specs.Reported.{Reported, reported}
 use Rattle.text.specs.Reading.{Reading, reads, refuses, read}
 use Rattle.text.specs.ProgramLine.{Asked, no-depth, asks, asks-with, asked, answer-text, refusal-text}
@@ -37,7 +39,7 @@ use Rattle.notation.specs.Parsed.{kind-number, reading-of, game-for, Parses}
 use Rattle.notation.proofs.ReadGames.{read-gives-a-game}
 use Rattle.minimax.specs.declared.Minimax.{Minimax}
 use Rattle.minimax.specs.declared.Report.{Report}
-use Rattle.minimax.specs.Report.{empty-answers, report-of, reported-of}
+use Rattle.minimax.specs.Report.{empty-responses, report-of, reported-of}
 use Rattle.minimax.specs.Structs.{structs}
 use Rattle.minimax.proofs.Reports.{bytes-empty}
 use Rattle.minimax.proofs.Rules.{reported-rules}
@@ -46,18 +48,18 @@ use Rattle.held.specs.declared.Depth.the-variants.{Of, Lacking}
 use Rattle.out.specs.declared.Out.{Out}
 use Rattle.held.specs.HeldLine.{DepthIs, new-held, pushed-all, held-asks, Same-question}
 use Rattle.out.specs.OutBytes.{out-of, out-text}
-use Rattle.line.specs.Answered.{settings, no-answers, searched, report-text, position-text, reading-text, asked-text, answer-line}
+use Rattle.line.specs.Answered.{settings, searched, report-text, position-text, reading-text, asked-text, answer-line}
 use Rattle.held.proofs.HeldLine.{held-asks-the-same}
 use Rattle.out.proofs.OutBytes.{written-whole}
 use Rattle.line.proofs.Bounds.{moves-short, Small, searched-small}
 
 -- ---- the search, from fresh memory and with no words
-pub search-searched : (r : Report) (m : Minimax) (g : Game) (depth : ℕ) (words : List ℕ) → T (neat g) → g .hash ≡ hash (position-of g) → m ≡ empty-answers → length words ≡ 0 →
+pub search-searched : (r : Report) (m : Minimax) (g : Game) (depth : ℕ) (words : List ℕ) → T (neat g) → g .hash ≡ hash (position-of g) → m ≡ empty-responses → length words ≡ 0 →
     report-of r words ≡ reported-of m g (record { «max_depth» = depth; allowance = 1000000; «draw_winner» = Nobody }) [] → report-of r [] ≡ searched depth (position-of g)
 search-searched r m g depth [] n f e l h =
     h ∙ ap (λ (m : Minimax). reported-of m g (record { «max_depth» = depth; allowance = 1000000; «draw_winner» = Nobody }) []) e
-    ∙ ap (λ (xs : List ℕ). reported (structs Nobody) (settings depth) g xs xs []) (bytes-empty 256)
-    ∙ reported-rules Nobody (settings depth) g n f no-answers no-answers []
+    ∙ ap (λ (xs : List ℕ). reported (structs no-draw-winner) (settings depth) g (record { to-x = xs; to-o = xs }) []) (bytes-empty 256)
+    ∙ reported-rules no-draw-winner (settings depth) g n f no-responses []
 search-searched r m g depth (w ∷ ws) n f e l h = absurd (omega arith)
 
 -- ---- its report

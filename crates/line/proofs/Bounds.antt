@@ -12,14 +12,14 @@ use Rattle.base.specs.Lists.{keep, each}
 use Rattle.base.specs.Checks.{first-failed}
 use Rattle.base.proofs.Branch.{if-ind}
 use Rattle.base.proofs.Integers.{hi, lo, zarith, hi-le, lo-le, within-abs}
-use Rattle.rules.specs.declared.DrawWinner.the-variants.{Nobody}
 use Rattle.rules.specs.Position.{Position}
 use Rattle.rules.specs.Play.{no-move, accepts}
 use Rattle.rules.specs.Moves.{places, moves}
+use Rattle.rules.specs.Evaluation.{no-draw-winner}
 use Rattle.theory.specs.Limits.{console}
 use Rattle.theory.specs.Game.{Game}
 use Rattle.theory.specs.PlainMinimax.{lowest, highest}
-use Rattle.theory.specs.Memory.{Memory, begin, fresh-memory}
+use Rattle.theory.specs.Memory.{Responses, no-responses, Memory, begin, fresh-memory}
 use Rattle.theory.specs.OrderedSearch.{at-most, Outcome, stopped, found}
 use Rattle.theory.specs.Deepening.{Whole, nothing-yet, one-deeper, Answer, decided, on-outcome, deepen, analyze}
 use Rattle.theory.specs.Reported.{Settings, entry-refusal, Reported, report, refused-entry, reported}
@@ -30,7 +30,7 @@ use Rattle.theory.proofs.Places.{analyze-places}
 use Rattle.reference.specs.Reference.{game}
 use Rattle.minimax.proofs.Refusals.{limits}
 use Rattle.minimax.proofs.Turns.{value-within}
-use Rattle.line.specs.Answered.{settings, no-answers, searched}
+use Rattle.line.specs.Answered.{settings, searched}
 
 -- ---- there are 81 moves at most
 keep-short : (f : ℕ → Bool) (xs : List ℕ) → length (keep f xs) ≤ length xs
@@ -86,8 +86,9 @@ module _ (c : Settings) (words : ℕ) where
       (λ _. if-ind (λ (n : ℕ). n ≤ 18) _ _ _
       (λ _. if-ind (λ (n : ℕ). n ≤ 18) _ _ _ (λ _. omega arith) (λ _. omega arith)) (λ _. omega arith)) (λ _. omega arith)
 
-report-small : (x : Answer) → Bounded (console .deepest) 1000000 x → length (x .whole .line) ≡ x .whole .depth → Small (report x)
-report-small x b e = record {
+report-small : (G : Game) (p : G .Pos) (x : Answer) → Bounded (console .deepest) 1000000 x → length (x .whole .line) ≡ x .whole .depth
+    → Small (report G p x)
+report-small G p x b e = record {
   number-small = if-ind (λ (n : ℕ). n ≤ 18) _ _ _ (λ _. omega arith) (λ _. omega arith);
   depth-small = b .deep;
   score-small = within-abs (2 ^ 60 + 1) (x .whole .score) (hi-le (x .whole .score) _ (b .high), lo-le (x .whole .score) _ (b .low));
@@ -95,15 +96,15 @@ report-small x b e = record {
   line-long = simp (length-append, length-replicate) (omega (arith, b .deep));
 }
 
-refused-small : (n : ℕ) (xs os words : List ℕ) → n ≤ 18 → Small (refused-entry n xs os words)
-refused-small n xs os words h = record { number-small = h; depth-small = omega arith; score-small = omega arith; count-small = omega arith; line-long = length-replicate (console .deepest) no-move }
+refused-small : (n : ℕ) (rs : Responses) (words : List ℕ) → n ≤ 18 → Small (refused-entry n rs words)
+refused-small n rs words h = record { number-small = h; depth-small = omega arith; score-small = omega arith; count-small = omega arith; line-long = length-replicate (console .deepest) no-move }
 
 pub searched-small : (depth : ℕ) (p : Position) → Small (searched depth p)
 unfolding reported
 searched-small depth p =
     if-ind Small _ _ _
     (λ t. let l = limits (settings depth) 0 (sym (eqb→eq _ 0 t)) in
-    let s = fresh-memory no-answers no-answers [] in
-    let a = analyze-bounded (game Nobody) (value-within Nobody) 1000000 p (settings depth .max-depth) s (omega arith) in
-    report-small (analyze (game Nobody) (at-most 1000000) (settings depth .max-depth) p s) (record { deep = omega arith; low = a .low; high = a .high; counted = a .counted }) (analyze-places (game Nobody) (at-most 1000000) (settings depth .max-depth) p s))
-    (λ _. refused-small _ no-answers no-answers [] (entry-small (settings depth) 0))
+    let s = fresh-memory no-responses [] in
+    let a = analyze-bounded (game no-draw-winner) (value-within no-draw-winner) 1000000 p (settings depth .max-depth) s (omega arith) in
+    report-small (game no-draw-winner) p (analyze (game no-draw-winner) (at-most 1000000) (settings depth .max-depth) p s) (record { deep = omega arith; low = a .low; high = a .high; counted = a .counted }) (analyze-places (game no-draw-winner) (at-most 1000000) (settings depth .max-depth) p s))
+    (λ _. refused-small _ no-responses [] (entry-small (settings depth) 0))

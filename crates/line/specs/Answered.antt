@@ -2,29 +2,25 @@
 use mathlib.Core.List.{List, []}
 use Prim.Native.Nat.{ℕ}
 use lib.Dec.{eqb}
-use lib.ListN.{length, replicate}
+use lib.ListN.{length}
 use Rattle.base.specs.Branch.{if_then_else_}
-use Rattle.rules.specs.declared.DrawWinner.the-variants.{Nobody}
 use Rattle.rules.specs.Position.{Position}
-use Rattle.rules.specs.Play.{no-move}
 use Rattle.rules.specs.Moves.{moves}
 use Rattle.rules.specs.Status.{Status}
 use Rattle.rules.specs.Endgame.{analysis}
+use Rattle.rules.specs.Evaluation.{no-draw-winner}
+use Rattle.theory.specs.Memory.{no-responses}
 use Rattle.theory.specs.Reported.{Settings, Reported, reported}
 use Rattle.reference.specs.Reference.{game}
 use Rattle.text.specs.Reading.{Reading, reads, refuses, read}
 use Rattle.text.specs.ProgramLine.{Asked, no-depth, asks, asked, answer-text, refusal-text}
 
--- ---- the program's search: no draw winner, fresh memory, the table off
+-- ---- the program's search: no draw winner, no responses yet, the table off
 abbrev pub settings : ℕ → Settings
 settings depth = record { max-depth = depth; allowance = 1000000 }
 
--- a side's remembered answers, none yet
-abbrev pub no-answers : List ℕ
-no-answers = replicate 256 no-move
-
 abbrev pub searched : ℕ → Position → Reported
-searched depth p = reported (game Nobody) (settings depth) p no-answers no-answers []
+searched depth p = reported (game no-draw-winner) (settings depth) p no-responses []
 
 -- ---- the answer
 -- 15 or 18; else what is reported, with the status and the number of legal moves

@@ -1,8 +1,8 @@
 -- The lines: the two tables agree, the masks find a line wherever three digits make one, and what nine digits say of a board's state.
 use mathlib.Core.Path.{_≡_, refl, sym, ap, _∙_}
-use mathlib.Core.Bool.{Bool, true, false, not, _||_, _&&_}
-use mathlib.Core.List.{List, [], _∷_, map}
-use Prim.Native.Nat.{ℕ, zero, suc, _+_, _%_, _≤_, _<_}
+use mathlib.Core.Bool.{Bool, true, false, not, _||_, _&&_, Bool·not-not}
+use mathlib.Core.List.{[], map}
+use Prim.Native.Nat.{ℕ, _+_, _%_, _≤_, _<_}
 use native.Mathlib.Numerals.{add-one}
 use native.Mathlib.Nat.{mod-lt}
 use native.Mathlib.Omega.{arith}
@@ -19,8 +19,8 @@ use Rattle.base.specs.Lists.{any, all, In}
 use Rattle.base.proofs.Bool.{and→}
 use Rattle.base.proofs.Agree.{any-same}
 use Rattle.base.proofs.Every.{upTo-at, same-below}
-use Rattle.base.proofs.Lists.{all-each, from-in}
-use Rattle.base.proofs.Numbers.{bit-masked, bit-digits, digits-lt, not-twice}
+use Rattle.base.proofs.Lists.{all-each, from-in, default-unused}
+use Rattle.base.proofs.Numbers.{bit-masked, bit-digits, digits-lt}
 use Rattle.rules.specs.Board.{nine, Line, lines, has-line, result}
 use Rattle.lines.specs.Masks.{line-at, masks, mask-of, indices, pattern-at}
 
@@ -36,11 +36,6 @@ three-places : (i : ℕ) → i < 8 → length (getD (map indices lines) i []) �
 unfolding has-three
 three-places i h = eqb→eq (length (getD (map indices lines) i [])) 3 (upTo-at has-three 8 tt i h)
 
-any-default : (xs : List ℕ) (k a b : ℕ) → k < length xs → getD xs k a ≡ getD xs k b
-any-default [] k a b h = absurd (omega arith)
-any-default (x ∷ xs) zero a b h = refl
-any-default (x ∷ xs) (suc k) a b h = any-default xs k a b (omega arith)
-
 module _ (i j : ℕ) where
   pub past-lines : 8 ≤ i → 9 ≡ pattern-at i j
   past-lines h = rw (List·getD-eq-default (map indices lines) [] h)
@@ -49,7 +44,7 @@ module _ (i j : ℕ) where
   past-places h k = let e = three-places i h in sym (List·getD-eq-default (getD (map indices lines) i []) 9 (omega arith))
 
   pub reads-place : i < 8 → j < 3 → getD (getD (map indices lines) i []) j 0 ≡ pattern-at i j
-  reads-place h k = let e = three-places i h in any-default (getD (map indices lines) i []) j 0 9 (omega arith)
+  reads-place h k = let e = three-places i h in default-unused (getD (map indices lines) i []) j 0 9 (omega arith)
 
 -- ---- the two tables at line i
 abbrev pub mask-at : ℕ → ℕ
@@ -142,7 +137,7 @@ full-of-digits : (left : ℕ → Bool) → eqb (digits (λ k. not (left k)) 9) 5
 full-of-digits left =
     small-full (digits (λ k. not (left k)) 9) (digits-lt (λ k. not (left k)) 9)
     ∙ ap not (any-same (λ k. not (bit (digits (λ k. not (left k)) 9) k)) left nine
-    (λ k i. ap not (bit-digits (λ k. not (left k)) 9 k (from-in 0 9 k i .1)) ∙ not-twice (left k)))
+    (λ k i. ap not (bit-digits (λ k. not (left k)) 9 k (from-in 0 9 k i .1)) ∙ Bool·not-not (left k)))
 
 module _ (w : Player) (own left : ℕ → Bool) where
   pub is-won : has-line own ≡ true → Won w ≡ result w own left

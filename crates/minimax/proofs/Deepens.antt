@@ -4,39 +4,35 @@ use mathlib.Core.Bool.{Bool, true, false}
 use mathlib.Core.List.{List, [], _∷_, _++_}
 use Prim.Native.Nat.{ℕ, suc, _+_, _-_, _≤_, _<_}
 use native.Mathlib.Omega.{arith}
-use lib.IntN.{ℤ}
 use lib.ListN.{length, drop, replicate}
 use Rattle.base.specs.Branch.{if_then_else_}
 use Rattle.base.proofs.Integers.{hi, lo, zarith}
 use Rattle.rules.specs.Play.{no-move}
-use Rattle.theory.specs.Game.{Game as Searched}
 use Rattle.theory.specs.PlainMinimax.{lowest, highest}
 use Rattle.theory.specs.Memory.{Memory, begin, fresh-memory}
 use Rattle.theory.specs.OrderedSearch.{at-most, Outcome, stopped, found, search}
 use Rattle.theory.specs.Deepening.{Whole, nothing-yet, one-deeper, Answer, decided, on-outcome, deepen, analyze}
 use Rattle.theory.proofs.Growth.{Ends, search-allowed}
-use Rattle.boards.specs.declared.moves.Move.{Move}
 use Rattle.game.specs.declared.Game.{Game}
 use Rattle.minimax.specs.declared.Config.{Config}
 use Rattle.minimax.specs.declared.Minimax.{Minimax}
 use Rattle.minimax.specs.declared.Depths.{Depths}
 use Rattle.minimax.specs.declared.search.Search.{Search}
-use Rattle.minimax.specs.declared.search.Line.{Line}
 use Rattle.game.specs.Meaning.{position-of}
 use Rattle.evaluation.specs.declared.Values.{Values}
 use Rattle.evaluation.specs.Values.{values-of}
 use Rattle.minimax.specs.declared.search.Ask.{Ask}
 use Rattle.minimax.specs.declared.search.Found.{Found}
 use Rattle.minimax.specs.Structs.{structs}
-use Rattle.minimax.specs.State.{bytes-of, memory-of, line-of, outcome-of, searched, Within, Asked, Counted, Gives}
-use Rattle.minimax.specs.Report.{tally-of, whole-of, Empty-on, answer-of}
+use Rattle.minimax.specs.State.{bytes-of, responses-of, memory-of, line-of, outcome-of, searched, Asked, Counted, Gives, tally-of}
+use Rattle.minimax.specs.Report.{scoring-of, whole-of, Empty-on, answer-of}
 use Rattle.minimax.proofs.Outcomes.{outcome-stopped, outcome-found}
 use Rattle.minimax.proofs.Rooms.{take-next, rest-next}
 use Rattle.minimax.proofs.Reports.{drop-bytes, bytes-empty}
 
 -- what is left to search from the whole depths w on
 abbrev left-from : Game → Config → Whole → Memory → Answer
-left-from g c w m = deepen (structs (c .«draw_winner»)) (at-most (c .allowance)) (c .«max_depth» - w .depth) g w m
+left-from g c w m = deepen (structs (scoring-of c)) (at-most (c .allowance)) (c .«max_depth» - w .depth) g w m
 
 pub record Going (g : Game) (c : Config) (words₀ : List ℕ) (whole₀ : Depths) (s₀ : Search) (words : List ℕ) (whole : Depths) (s : Search) : Type 0 where
   pub same : left-from g c (whole-of whole) (memory-of s words) ≡ left-from g c (whole-of whole₀) (memory-of s₀ words₀)
@@ -46,7 +42,7 @@ pub record Going (g : Game) (c : Config) (words₀ : List ℕ) (whole₀ : Depth
   pub long : length words ≡ length words₀
 
 module _ (m : Minimax) (g : Game) (c : Config) (words : List ℕ) (whole : Depths) (s : Search) (none : (whole-of whole ≡ nothing-yet) × Empty-on whole)
-    (begun : (ws : List ℕ) → memory-of s ws ≡ fresh-memory (bytes-of (m .«answers_x»)) (bytes-of (m .«answers_o»)) ws) where
+    (begun : (ws : List ℕ) → memory-of s ws ≡ fresh-memory (responses-of (m .responses)) ws) where
   pub going-first : Going g c words whole s words whole s
   going-first =
       let d : whole .depth ≡ 0 = ap (λ (w : Whole). w .depth) (none .0) in
@@ -57,7 +53,7 @@ module _ (m : Minimax) (g : Game) (c : Config) (words : List ℕ) (whole : Depth
   unfolding analyze
   going-all = let e : c .«max_depth» - 0 ≡ c .«max_depth» = omega arith in
       ap₂ (λ (w : Whole) (x : Memory). left-from g c w x) (none .0) (begun words)
-      ∙ ap (λ (k : ℕ). deepen (structs (c .«draw_winner»)) (at-most (c .allowance)) k g nothing-yet (fresh-memory (bytes-of (m .«answers_x»)) (bytes-of (m .«answers_o»)) words)) e
+      ∙ ap (λ (k : ℕ). deepen (structs (scoring-of c)) (at-most (c .allowance)) k g nothing-yet (fresh-memory (responses-of (m .responses)) words)) e
 
 module _ (g : Game) (c : Config) (words₀ : List ℕ) (whole₀ : Depths) (s₀ : Search) (words : List ℕ) (whole : Depths) (s : Search) (going : Going g c words₀ whole₀ s₀ words whole s) where
   abbrev all-of-it : Answer
@@ -67,7 +63,7 @@ module _ (g : Game) (c : Config) (words₀ : List ℕ) (whole₀ : Depths) (s₀
   pub going-done : c .«max_depth» ≤ whole .depth → record { is-stopped = false; whole = whole-of whole; memory = memory-of s words } ≡ all-of-it
   unfolding deepen
   going-done h = let e : 0 ≡ c .«max_depth» - whole .depth = omega arith in
-      ap (λ (k : ℕ). deepen (structs (c .«draw_winner»)) (at-most (c .allowance)) k g (whole-of whole) (memory-of s words)) e ∙ going .same
+      ap (λ (k : ℕ). deepen (structs (scoring-of c)) (at-most (c .allowance)) k g (whole-of whole) (memory-of s words)) e ∙ going .same
 
   -- one depth more
   module _ (most : c .«max_depth» ≤ 81) (allowance : c .allowance ≤ 1000000000) (more : whole .depth < c .«max_depth») (values : Values) (valued : values .boards ≡ values-of (position-of g)) (ask : Ask)
@@ -90,7 +86,7 @@ module _ (g : Game) (c : Config) (words₀ : List ℕ) (whole₀ : Depths) (s₀
         record { within = omega (arith, going .allowed); visited-within = omega arith; terminal-within = omega arith; cuts-within = omega arith; hits-within = omega arith; suffice-within = omega arith }
 
     abbrev searched-next : Outcome
-    searched-next = search (structs (c .«draw_winner»)) (at-most (c .allowance)) (suc (whole .depth)) g lowest highest (line-of (whole .line) (whole .depth) ++ (no-move ∷ [])) no-move (begin (memory-of s words))
+    searched-next = search (structs (scoring-of c)) (at-most (c .allowance)) (suc (whole .depth)) g lowest highest (line-of (whole .line) (whole .depth) ++ (no-move ∷ [])) no-move (begin (memory-of s words))
 
     one : whole .depth + 1 ≡ suc (whole .depth)
     one = omega arith
@@ -104,22 +100,22 @@ module _ (g : Game) (c : Config) (words₀ : List ℕ) (whole₀ : Depths) (s₀
       outcome-is : searched-next ≡ outcome-of ask r words'
       unfolding searched
       outcome-is =
-          (λ i. search (structs (c .«draw_winner»)) (at-most (c .allowance)) (suc (whole .depth)) g lowest highest (sym line-longer i) no-move (sym (begun words) i))
-          ∙ ap (λ (d : ℕ). search (structs (c .«draw_winner»)) (at-most (c .allowance)) d g lowest highest (line-of (whole .line) d) no-move (memory-of t words)) (sym one)
+          (λ i. search (structs (scoring-of c)) (at-most (c .allowance)) (suc (whole .depth)) g lowest highest (sym line-longer i) no-move (sym (begun words) i))
+          ∙ ap (λ (d : ℕ). search (structs (scoring-of c)) (at-most (c .allowance)) d g lowest highest (line-of (whole .line) d) no-move (memory-of t words)) (sym one)
           ∙ sym (ap (λ (y : Ask). searched y t (whole .line) words) ask-is) ∙ sym (gives .same)
 
       abbrev next-depth : ℕ → Outcome → Answer
       next-depth k o = on-outcome o
           (λ x. record { is-stopped = true; whole = whole-of whole; memory = x })
           (λ z line x. let w = one-deeper (whole-of whole) z line (x .tally) in
-          if decided z then (λ _. record { is-stopped = false; whole = w; memory = x }) else λ _. deepen (structs (c .«draw_winner»)) (at-most (c .allowance)) k g w x)
+          if decided z then (λ _. record { is-stopped = false; whole = w; memory = x }) else λ _. deepen (structs (scoring-of c)) (at-most (c .allowance)) k g w x)
 
       next-is : next-depth (c .«max_depth» - (whole .depth + 1)) (outcome-of ask r words') ≡ all-of-it
       unfolding deepen
       next-is =
           let e : suc (c .«max_depth» - (whole .depth + 1)) ≡ c .«max_depth» - whole .depth = omega arith in
           ap (next-depth (c .«max_depth» - (whole .depth + 1))) (sym outcome-is)
-          ∙ ap (λ (k : ℕ). deepen (structs (c .«draw_winner»)) (at-most (c .allowance)) k g (whole-of whole) (memory-of s words)) e ∙ going .same
+          ∙ ap (λ (k : ℕ). deepen (structs (scoring-of c)) (at-most (c .allowance)) k g (whole-of whole) (memory-of s words)) e ∙ going .same
 
       -- the allowance is spent
       pub going-stopped : r .stopped ≡ true → record { is-stopped = true; whole = whole-of whole; memory = memory-of (r .state) words' } ≡ all-of-it
@@ -136,7 +132,7 @@ module _ (g : Game) (c : Config) (words₀ : List ℕ) (whole₀ : Depths) (s₀
         allowed-on : r .state .count ≤ c .allowance
         unfolding Ends begin
         allowed-on = subst (Ends (λ x. x .count ≤ c .allowance)) (outcome-is ∙ found-is)
-            (search-allowed (structs (c .«draw_winner»)) (c .allowance) (suc (whole .depth)) g lowest highest (line-of (whole .line) (whole .depth) ++ (no-move ∷ [])) no-move (begin (memory-of s words)) (going .allowed))
+            (search-allowed (structs (scoring-of c)) (c .allowance) (suc (whole .depth)) g lowest highest (line-of (whole .line) (whole .depth) ++ (no-move ∷ [])) no-move (begin (memory-of s words)) (going .allowed))
 
         module _ (whole' : Depths) (deeper : (whole-of whole' ≡ one-deeper (whole-of whole) (r .score) (line-of (r .line) (whole .depth + 1)) (tally-of (r .state))) × Empty-on whole' × (whole' .line ≡ r .line)) (x : Bool) (xe : x ≡ decided (whole' .score)) where
           decided-is : (b : Bool) → x ≡ b → decided (r .score) ≡ b
@@ -156,8 +152,8 @@ module _ (g : Game) (c : Config) (words₀ : List ℕ) (whole₀ : Depths) (s₀
               let d : whole' .depth ≡ suc (whole .depth) = ap (λ (w : Whole). w .depth) (deeper .0) in
               let k : c .«max_depth» - whole' .depth ≡ c .«max_depth» - (whole .depth + 1) = omega arith in
               record {
-                same = ap (λ (n : ℕ). deepen (structs (c .«draw_winner»)) (at-most (c .allowance)) n g (whole-of whole') (memory-of (r .state) words')) k
-                    ∙ ap (λ (w : Whole). deepen (structs (c .«draw_winner»)) (at-most (c .allowance)) (c .«max_depth» - (whole .depth + 1)) g w (memory-of (r .state) words')) (deeper .0)
+                same = ap (λ (n : ℕ). deepen (structs (scoring-of c)) (at-most (c .allowance)) n g (whole-of whole') (memory-of (r .state) words')) k
+                    ∙ ap (λ (w : Whole). deepen (structs (scoring-of c)) (at-most (c .allowance)) (c .«max_depth» - (whole .depth + 1)) g w (memory-of (r .state) words')) (deeper .0)
                     ∙ sym (ap (next-depth (c .«max_depth» - (whole .depth + 1))) found-is ∙ rw (decided-is false q)) ∙ next-is;
                 empty = deeper .1;
                 most = omega arith;

@@ -1,6 +1,6 @@
 -- Entering a position: each way on from there is an arm of the definition, and each count is paid for by the position entered.
 use mathlib.Core.Path.{_≡_, refl, sym, ap, ap₂, _∙_, subst}
-use mathlib.Core.Bool.{Bool, true, false, not, _||_, true≢false, false≢true}
+use mathlib.Core.Bool.{Bool, true, false, not, _||_, true≢false}
 use mathlib.Core.List.{List, []}
 use mathlib.Core.Option.{Option, none}
 use Prim.Native.Nat.{ℕ, suc, _+_, _-_, _≤_, _<_}
@@ -28,7 +28,7 @@ use Rattle.minimax.specs.declared.search.Search.{Search}
 use Rattle.minimax.specs.declared.search.Line.{Line}
 use Rattle.minimax.specs.declared.search.Ask.{Ask}
 use Rattle.minimax.specs.declared.search.Found.{Found}
-use Rattle.minimax.specs.State.{memory-of, line-of, asked-game, searched, over-left, over-all, outcome-of, then-told, Asked, Counted, Ready, Gives}
+use Rattle.minimax.specs.State.{asked-scoring, memory-of, line-of, asked-game, searched, over-left, over-all, outcome-of, then-told, Asked, Counted, Ready, Gives}
 use Rattle.minimax.proofs.Outcomes.{outcome-stopped, outcome-found}
 use Rattle.order.proofs.Orders.{emptied}
 use Rattle.minimax.proofs.Lines.{set-first-place, set-first-drop, empty-places}
@@ -84,21 +84,21 @@ module _ (a : Ask) (s : Search) (l : Line) (words : List ℕ) where
   })
 
   module _ (more : s .count < a .allowance) where
-    leaf-is : (z : (eqb (a .depth) 0 || not (going (position-of (a .game)))) ≡ true) → searched a s l words ≡ found (evaluate (a .«draw_winner») (position-of (a .game))) (line-of l (a .depth)) (leaf (enter (memory-of s words)))
+    leaf-is : (z : (eqb (a .depth) 0 || not (going (position-of (a .game)))) ≡ true) → searched a s l words ≡ found (evaluate (asked-scoring a) (position-of (a .game))) (line-of l (a .depth)) (leaf (enter (memory-of s words)))
     unfolding searched
     leaf-is = go (eqb (a .depth) 0) refl
       where
-        go : (x : Bool) → eqb (a .depth) 0 ≡ x → (x || not (going (position-of (a .game)))) ≡ true → search (asked-game a) (at-most (a .allowance)) (a .depth) (a .game) (a .alpha) (a .beta) (line-of l (a .depth)) (a .prev .bits) (memory-of s words) ≡ found (evaluate (a .«draw_winner») (position-of (a .game))) (line-of l (a .depth)) (leaf (enter (memory-of s words)))
+        go : (x : Bool) → eqb (a .depth) 0 ≡ x → (x || not (going (position-of (a .game)))) ≡ true → search (asked-game a) (at-most (a .allowance)) (a .depth) (a .game) (a .alpha) (a .beta) (line-of l (a .depth)) (a .prev .bits) (memory-of s words) ≡ found (evaluate (asked-scoring a) (position-of (a .game))) (line-of l (a .depth)) (leaf (enter (memory-of s words)))
         go true x z = search-leaf-zero _ _ _ _ _ _ _ _ _ (more-is a s more) (eqb-true (a .depth) 0 x)
         go false x z = search-leaf-over _ _ _ _ _ _ _ _ _ (more-is a s more) z
 
     -- a leaf
     pub leaf-gives : (s₁ : Search) → ((ws : List ℕ) → memory-of s₁ ws ≡ enter (memory-of s ws)) → (s₂ : Search) → ((ws : List ℕ) → memory-of s₂ ws ≡ leaf (memory-of s₁ ws))
         → (x : Bool) → x ≡ (eqb (a .depth) 0 || not (going (position-of (a .game)))) → x ≡ true
-        → (f : Found) → f ≡ record { state = s₂; line = l; score = evaluate (a .«draw_winner») (position-of (a .game)); stopped = false } → Gives a l f words (searched a s l words)
+        → (f : Found) → f ≡ record { state = s₂; line = l; score = evaluate (asked-scoring a) (position-of (a .game)); stopped = false } → Gives a l f words (searched a s l words)
     leaf-gives s₁ entered s₂ w x t u f q = subst (λ (y : Found). Gives a l y words (searched a s l words)) (sym q) (record {
       same = outcome-found a _ words refl
-          ∙ ap (λ (m : Memory). found (evaluate (a .«draw_winner») (position-of (a .game))) (line-of l (a .depth)) m) (w words ∙ ap leaf (entered words))
+          ∙ ap (λ (m : Memory). found (evaluate (asked-scoring a) (position-of (a .game))) (line-of l (a .depth)) m) (w words ∙ ap leaf (entered words))
           ∙ sym (leaf-is (sym t ∙ u));
       places = λ _. refl;
     })

@@ -10,7 +10,7 @@ use Rattle.rules.specs.Board.{other}
 use Rattle.rules.specs.Play.{accepts, no-move}
 use Rattle.rules.specs.Moves.{moves}
 use Rattle.theory.specs.Table.{Entry as Meant, store, bound-of}
-use Rattle.theory.specs.Memory.{some-move, hints, answers-to}
+use Rattle.theory.specs.Memory.{some-move, hints, responses-to}
 use Rattle.theory.specs.OrderedSearch.{stopped, found, unless-stopped, told, fresh, candidates}
 use Rattle.boards.specs.declared.moves.Move.{Move}
 use Rattle.game.specs.Meaning.{position-of}
@@ -66,7 +66,7 @@ some-by n ms = twice (eqb n no-move) n ms
 
 module _ (a : Ask) (s : Search) (words : List ℕ) (l : Line) (answer line second : Move) where
   hinted : second ≡ (if eqb (answer .bits) no-move then (λ _. line) else λ _. answer)
-      → answer .bits ≡ getD (answers-to (memory-of s words) (other (a .game .«next_player»))) (a .prev .bits) no-move
+      → answer .bits ≡ getD (responses-to (memory-of s words) (other (a .game .«next_player»))) (a .prev .bits) no-move
       → line .bits ≡ getD (line-of l (a .depth)) 0 no-move
       → some-move (second .bits) ≡ hints (a .game .«next_player») (memory-of s words) (a .prev .bits) (line-of l (a .depth))
   unfolding hints
@@ -78,7 +78,7 @@ module _ (a : Ask) (s : Search) (words : List ℕ) (l : Line) (answer line secon
   pub walk-candidates : (first : Move) (w : Walk)
       → (order-left (w .left) ≡ some-move (first .bits) ++ (some-move (second .bits) ++ moves (position-of (a .game)))) × ((k : ℕ) → marked (w .seen) k ≡ false)
       → second ≡ (if eqb (answer .bits) no-move then (λ _. line) else λ _. answer)
-      → answer .bits ≡ getD (answers-to (memory-of s words) (other (a .game .«next_player»))) (a .prev .bits) no-move
+      → answer .bits ≡ getD (responses-to (memory-of s words) (other (a .game .«next_player»))) (a .prev .bits) no-move
       → line .bits ≡ getD (line-of l (a .depth)) 0 no-move
       → walk-left (a .game) w ≡ candidates (asked-game a) (some-move (first .bits)) (memory-of s words) (a .game) (a .prev .bits) (line-of l (a .depth))
   unfolding candidates

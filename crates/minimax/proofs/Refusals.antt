@@ -13,7 +13,7 @@ use Rattle.base.proofs.Branch.{if-ind}
 use Rattle.base.proofs.Bool.{and→}
 use Rattle.theory.specs.Limits.{console}
 use Rattle.theory.specs.Game.{Game}
-use Rattle.theory.specs.Memory.{fresh-memory}
+use Rattle.theory.specs.Memory.{Responses, fresh-memory}
 use Rattle.theory.specs.OrderedSearch.{at-most}
 use Rattle.theory.specs.Deepening.{analyze}
 use Rattle.theory.specs.Reported.{Settings, entry-refusal, report, refused-entry, reported}
@@ -109,15 +109,15 @@ not-nought Allowance q = omega arith
 not-nought Words q = omega arith
 not-nought Spent q = omega arith
 
-module _ (G : Game) (c : Settings) (p : G .Pos) (xs os words : List ℕ) where
-  pub refused-reported : (e : SearchError) → error-number e ≡ entry-refusal c (length words) → refused-with e xs os words ≡ reported G c p xs os words
+module _ (G : Game) (c : Settings) (p : G .Pos) (rs : Responses) (words : List ℕ) where
+  pub refused-reported : (e : SearchError) → error-number e ≡ entry-refusal c (length words) → refused-with e rs words ≡ reported G c p rs words
   unfolding reported if_then_else_
   refused-reported e q = rw (sym q, ne-eqb (error-number e) 0 (not-nought e), not-spent c (length words) e q)
 
-  pub accepted-reported : 0 ≡ entry-refusal c (length words) → report (analyze G (at-most (c .allowance)) (c .max-depth) p (fresh-memory xs os words)) ≡ reported G c p xs os words
+  pub accepted-reported : 0 ≡ entry-refusal c (length words) → report G p (analyze G (at-most (c .allowance)) (c .max-depth) p (fresh-memory rs words)) ≡ reported G c p rs words
   unfolding reported if_then_else_
   accepted-reported q = rw (sym q)
 
-  pub turned-reported : eqb (entry-refusal c (length words)) 0 ≡ false → reported G c p xs os words ≡ refused-entry (entry-refusal c (length words)) xs os words
+  pub turned-reported : eqb (entry-refusal c (length words)) 0 ≡ false → reported G c p rs words ≡ refused-entry (entry-refusal c (length words)) rs words
   unfolding reported if_then_else_
   turned-reported q = rw q

@@ -1,6 +1,6 @@
 -- What is reported of the whole depths, and how the search ended.
-use mathlib.Core.Path.{_≡_, refl, sym, ap, ap₂, _∙_, subst}
-use mathlib.Core.Bool.{Bool, true, false, _&&_, _||_}
+use mathlib.Core.Path.{_≡_, refl, sym, ap, ap₂, _∙_}
+use mathlib.Core.Bool.{Bool, true, false, _&&_}
 use mathlib.Core.List.{List, [], _∷_, _++_, map}
 use Prim.Native.Nat.{ℕ, zero, suc, _+_, _-_, _≤_, _<_}
 use native.Mathlib.Omega.{arith}
@@ -10,9 +10,8 @@ use lib.ListN.{length, set, take, drop, replicate, length-map}
 use lib.Signed.{leZ}
 use Rattle.base.specs.Branch.{if_then_else_}
 use Rattle.rules.specs.Play.{no-move}
-use Rattle.rules.specs.Evaluation.{won, lost}
-use Rattle.theory.specs.Memory.{Tally}
-use Rattle.theory.specs.Deepening.{Stats as Meant, Whole, one-deeper, decided}
+use Rattle.rules.specs.Evaluation.{Scoring, won, lost}
+use Rattle.theory.specs.Deepening.{Stats as Meant, one-deeper, decided}
 use Rattle.theory.specs.Reported.{no-stats, filled, report}
 use Rattle.boards.specs.declared.moves.Move.{Move}
 use Rattle.minimax.specs.declared.Stats.{Stats}
@@ -20,13 +19,13 @@ use Rattle.minimax.specs.declared.Ending.{Ending}
 use Rattle.minimax.specs.declared.Ending.the-variants.{Whole as EndsWhole, Stopped, Refused}
 use Rattle.minimax.specs.declared.SearchError.the-variants.{Spent}
 use Rattle.minimax.specs.declared.Depths.{Depths}
-use Rattle.minimax.specs.declared.Report.{Report}
 use Rattle.minimax.specs.declared.search.Search.{Search}
-use Rattle.minimax.specs.declared.search.Line.{Line}
 use Rattle.minimax.specs.declared.search.Found.{Found}
-use Rattle.minimax.specs.State.{byte-of, bytes-of, memory-of, line-of}
-use Rattle.minimax.specs.Report.{tally-of, stats-of, ending-number, ending-stopped, whole-of, Empty-on, report-of}
-use Rattle.minimax.proofs.Rooms.{drop-next, take-next, take-drop, length-of-take, take-set, drop-set, rest-next}
+use Rattle.game.specs.declared.Game.{Game}
+use Rattle.minimax.specs.Structs.{structs}
+use Rattle.minimax.specs.State.{byte-of, bytes-of, responses-of, memory-of, line-of, tally-of, tables-of}
+use Rattle.minimax.specs.Report.{stats-of, ending-number, ending-stopped, whole-of, Empty-on, report-of}
+use Rattle.minimax.proofs.Rooms.{drop-next, take-drop, length-of-take, take-set, drop-set, rest-next}
 
 -- ---- how it ended
 module _ (d : ℕ) (stopped : Bool) where
@@ -113,10 +112,11 @@ bytes-empty (suc n) = ap (_∷_ no-move) (bytes-empty n)
 
 module _ (d : Depths) (s : Search) (stopped : Bool) (empty : Empty-on d) (long : length (d .line .moves) ≡ 81) (stats-long : length (d .stats) ≡ 81)
     (ending : Ending) (ended : (ending-number ending ≡ (if stopped && eqb (d .depth) 0 then (λ _. 18) else λ _. 0)) × (ending-stopped ending ≡ stopped)) where
-  pub report-made : (z : ℤ) → z ≡ d .score → (words : List ℕ)
-      → report-of (record { state = record { «answers_x» = s .«answers_x»; «answers_o» = s .«answers_o» }; ending = ending; depth = d .depth; score = z; count = s .count; line = d .line .moves; stats = d .stats }) words
-      ≡ report (record { is-stopped = stopped; whole = whole-of d; memory = memory-of s words })
-  report-made z e words = λ i. record {
+  -- of any search, since only its answer is looked at
+  pub report-made : (z : ℤ) → z ≡ d .score → (sc : Scoring) (game : Game) (words : List ℕ)
+      → report-of (record { state = record { responses = tables-of s }; ending = ending; depth = d .depth; score = z; count = s .count; line = d .line .moves; stats = d .stats }) words
+      ≡ report (structs sc) game (record { is-stopped = stopped; whole = whole-of d; memory = memory-of s words })
+  report-made z e sc game words = λ i. record {
     number = ended .0 i;
     is-stopped = ended .1 i;
     depth = d .depth;
@@ -124,8 +124,7 @@ module _ (d : Depths) (s : Search) (stopped : Bool) (empty : Empty-on d) (long :
     line = line-is i;
     stats = stats-is i;
     count = s .count;
-    answers-x = bytes-of (s .«answers_x»);
-    answers-o = bytes-of (s .«answers_o»);
+    responses = responses-of (tables-of s);
     table = words;
   }
     where

@@ -1,11 +1,9 @@
 -- Lists of 81 places: the first d, and the empty ones from there on.
-use mathlib.Core.Path.{_≡_, refl, sym, ap, ap₂, _∙_, subst}
-use mathlib.Core.Bool.{Bool, true, false}
-use mathlib.Core.List.{List, [], _∷_, _++_, map}
+use mathlib.Core.Path.{_≡_, refl, ap}
+use mathlib.Core.List.{List, [], _∷_, _++_}
 use Prim.Native.Nat.{ℕ, zero, suc, _+_, _-_, _≤_, _<_}
 use native.Mathlib.Omega.{arith}
-use native.Mathlib.Numerals.{unary-clauses}
-use lib.ListN.{length, set, take, drop, replicate, length-map}
+use lib.ListN.{length, set, take, drop, replicate}
 
 -- ---- lists of 81 places, empty from d on
 module _ {A : Type 0} where

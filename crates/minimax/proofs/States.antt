@@ -3,7 +3,7 @@ use mathlib.Core.Path.{_≡_, refl, sym, ap, _∙_}
 use mathlib.Core.List.{List, [], _∷_}
 use Prim.Native.Nat.{ℕ, zero, suc, _+_, _<_}
 use native.Mathlib.Omega.{arith}
-use native.Mathlib.Numerals.{unary-clauses}
+use native.Mathlib.Numerals.{unary-clauses, add-one}
 use lib.ListN.{length, getD, set}
 use lib.Dec.{eqb}
 use mathlib.Core.Bool.{true, false}
@@ -12,16 +12,17 @@ use Rattle.rules.specs.declared.Player.{Player}
 use Rattle.rules.specs.declared.Player.the-variants.{X, O}
 use Rattle.rules.specs.Board.{other}
 use Rattle.rules.specs.Play.{no-move}
-use Rattle.theory.specs.Memory.{begin, enter, leaf, hit, answered, answers-to, cut}
+use Rattle.theory.specs.Memory.{Responses, Memory, begin, enter, leaf, hit, answered, responses-to, cut}
 use Rattle.boards.specs.declared.moves.Move.{Move}
+use Rattle.minimax.specs.declared.ResponseTables.{ResponseTables}
 use Rattle.minimax.specs.declared.search.Search.{Search}
-use Rattle.minimax.specs.State.{byte-of, bytes-of, memory-of}
+use Rattle.minimax.specs.State.{byte-of, bytes-of, responses-of, memory-of}
 
 -- the state with other counts
 abbrev with-counts : Search → ℕ → ℕ → ℕ → ℕ → ℕ → ℕ → Search
 with-counts s count visited terminal cuts hits suffice = record {
-  «answers_x» = s .«answers_x»;
-  «answers_o» = s .«answers_o»;
+  «responses_x» = s .«responses_x»;
+  «responses_o» = s .«responses_o»;
   count = count;
   visited = visited;
   terminal = terminal;
@@ -62,21 +63,58 @@ set-bytes [] i m = refl
 set-bytes (x ∷ l) zero m = refl
 set-bytes (x ∷ l) (suc i) m = ap (_∷_ (x .bits)) (set-bytes l i m)
 
--- ---- remembered answers
+-- ---- response tables
 module _ (s : Search) (words : List ℕ) (prev : Move) where
-  pub answer-by : (l : List Move) (w : Player) → answers-to (memory-of s words) (other w) ≡ bytes-of l → prev .bits < length l → (d : Move) → byte-of (getD l (prev .bits) d) ≡ getD (answers-to (memory-of s words) (other w)) (prev .bits) no-move
-  answer-by l w e h d = getD-bytes l (prev .bits) d no-move h ∙ ap (λ (bs : List ℕ). getD bs (prev .bits) no-move) (sym e)
+  pub response-by : (l : List Move) (w : Player) → responses-to (memory-of s words) (other w) ≡ bytes-of l → prev .bits < length l → (d : Move) → byte-of (getD l (prev .bits) d) ≡ getD (responses-to (memory-of s words) (other w)) (prev .bits) no-move
+  response-by l w e h d = getD-bytes l (prev .bits) d no-move h ∙ ap (λ (bs : List ℕ). getD bs (prev .bits) no-move) (sym e)
 
 module _ (s : Search) (words : List ℕ) (prev m : Move) where
-  pub cut-x : (w : Player) → w ≡ X → memory-of (record { «answers_x» = s .«answers_x»; «answers_o» = set (s .«answers_o») (prev .bits) m; count = s .count; visited = s .visited; terminal = s .terminal; cuts = s .cuts + 1; «tt_hit» = s .«tt_hit»; «tt_suffice» = s .«tt_suffice» }) words ≡ cut w (memory-of s words) (prev .bits) (m .bits)
-  unfolding cut
-  cut-x w e = rw (e, set-bytes) (simp unary-clauses refl)
+  -- one more cut, and other tables
+  abbrev after-cut : ResponseTables → Search
+  after-cut tables = record {
+    «responses_x» = tables .x;
+    «responses_o» = tables .o;
+    count = s .count;
+    visited = s .visited;
+    terminal = s .terminal;
+    cuts = s .cuts + 1;
+    «tt_hit» = s .«tt_hit»;
+    «tt_suffice» = s .«tt_suffice»;
+  }
 
-  pub cut-o : (w : Player) → w ≡ O → memory-of (record { «answers_x» = set (s .«answers_x») (prev .bits) m; «answers_o» = s .«answers_o»; count = s .count; visited = s .visited; terminal = s .terminal; cuts = s .cuts + 1; «tt_hit» = s .«tt_hit»; «tt_suffice» = s .«tt_suffice» }) words ≡ cut w (memory-of s words) (prev .bits) (m .bits)
-  unfolding cut
-  cut-o w e = rw (e, set-bytes) (simp unary-clauses refl)
+  abbrev cut-means : Responses → Memory
+  cut-means rs = record {
+    count = s .count;
+    tally = record { visited = s .visited; terminal = s .terminal; cuts = suc (s .cuts); tt-hit = s .«tt_hit»; tt-suffice = s .«tt_suffice» };
+    responses = rs;
+    table = words;
+  }
 
--- ---- the remembered answer, or lacking one the line's move
+  cut-with : (tables : ResponseTables) (rs : Responses) → responses-of tables ≡ rs → memory-of (after-cut tables) words ≡ cut-means rs
+  cut-with tables rs e = λ i. record {
+    count = s .count;
+    tally = record { visited = s .visited; terminal = s .terminal; cuts = add-one (s .cuts) i; tt-hit = s .«tt_hit»; tt-suffice = s .«tt_suffice» };
+    responses = e i;
+    table = words;
+  }
+
+  pub cut-x : (w : Player) → w ≡ X
+      → memory-of (after-cut (record { x = s .«responses_x»; o = set (s .«responses_o») (prev .bits) m })) words
+      ≡ cut w (memory-of s words) (prev .bits) (m .bits)
+  unfolding cut
+  cut-x w e = cut-with (record { x = s .«responses_x»; o = set (s .«responses_o») (prev .bits) m }) _
+      (λ i. record { to-x = bytes-of (s .«responses_x»); to-o = set-bytes (s .«responses_o») (prev .bits) m i })
+      ∙ ap (λ (v : Player). cut v (memory-of s words) (prev .bits) (m .bits)) (sym e)
+
+  pub cut-o : (w : Player) → w ≡ O
+      → memory-of (after-cut (record { x = set (s .«responses_x») (prev .bits) m; o = s .«responses_o» })) words
+      ≡ cut w (memory-of s words) (prev .bits) (m .bits)
+  unfolding cut
+  cut-o w e = cut-with (record { x = set (s .«responses_x») (prev .bits) m; o = s .«responses_o» }) _
+      (λ i. record { to-x = set-bytes (s .«responses_x») (prev .bits) m i; to-o = bytes-of (s .«responses_o») })
+      ∙ ap (λ (v : Player). cut v (memory-of s words) (prev .bits) (m .bits)) (sym e)
+
+-- ---- the response, or lacking one the line's move
 module _ (answer line : Move) where
   pub hint-line : eqb (answer .bits) no-move ≡ true → line ≡ (if eqb (answer .bits) no-move then (λ _. line) else λ _. answer)
   unfolding if_then_else_

@@ -4,19 +4,18 @@ use mathlib.Core.Bool.{Bool, true, false, not, _||_, true≢false}
 use mathlib.Core.List.{List, [], _∷_}
 use Prim.Native.Nat.{ℕ, _+_, _-_, _*_, _≤_, _<_}
 use native.Mathlib.Omega.{arith}
-use lib.Dec.{T, eqb}
+use lib.Dec.{T, eqb, T-not}
 use lib.IntN.{ℤ, pos, negℤ}
 use lib.ListN.{length, drop}
 use lib.Signed.{leZ, ltZ, _≤ℤ_}
 use borrow.Author.Tests.{eqb-true, eq-eqb}
-use Rattle.base.proofs.Bool.{deny, is}
+use Rattle.base.proofs.Bool.{is}
 use Rattle.base.proofs.Integers.{hi, lo, zarith}
 use mathlib.Core.Logic.{inl, inr}
 use Rattle.rules.specs.Position.{going}
 use Rattle.rules.specs.Play.{board-of, accepts, no-move}
-use Rattle.rules.specs.Evaluation.{evaluate}
+use Rattle.rules.specs.Evaluation.{Scoring, evaluate}
 use Rattle.rules.proofs.Evaluation.{value-inside, finished-within}
-use Rattle.rules.specs.declared.DrawWinner.{DrawWinner}
 use Rattle.rules.specs.Position.{Position}
 use Rattle.theory.specs.PlainMinimax.{lowest, highest}
 use Rattle.theory.specs.Memory.{Memory, enter, leaf, cut, some-move}
@@ -39,7 +38,7 @@ use Rattle.minimax.specs.declared.search.Best.{Best}
 use Rattle.minimax.specs.declared.search.Found.{Found}
 use Rattle.order.specs.Order.{walk-left, NextOf}
 use Rattle.order.proofs.Walks.{NextIs, next-left, left-accepted, none-refused}
-use Rattle.minimax.specs.State.{memory-of, line-of, empty-line, asked-game, outcome-of, searched, over-left, over-all, values-below, Within, Asked, Counted, Ready, Gives}
+use Rattle.minimax.specs.State.{asked-scoring, memory-of, line-of, empty-line, asked-game, outcome-of, searched, over-left, over-all, values-below, Within, Asked, Counted, Ready, Gives}
 use Rattle.minimax.proofs.Scores.{neg-within}
 use Rattle.minimax.proofs.Outcomes.{outcome-stopped, outcome-found}
 use Rattle.minimax.proofs.Entering.{Begun as Entering, may-enter, may-leaf, stop-gives, leaf-gives}
@@ -51,7 +50,7 @@ module _ {g : Game} {w : Walk} {child : Child} (n : NextOf g w child) where
     where
       go : (ms : List ℕ) → walk-left g w ≡ ms → NextIs g ms child → walk-left g w ≡ []
       go [] q h = q
-      go (m ∷ ms) q h = absurd (deny (accepts (position-of g) no-move) (none-refused (position-of g))
+      go (m ∷ ms) q h = absurd (T-not (accepts (position-of g) no-move) (none-refused (position-of g))
           (subst (λ (z : ℕ). T (accepts (position-of g) z)) (sym (h .0) ∙ eqb-true _ no-move e) (left-accepted _ _ _ m ms q)))
 
   pub walk-goes : eqb (child .m .bits) no-move ≡ false → (walk-left g w ≡ child .m .bits ∷ walk-left g (child .walk)) × (child .game ≡ game-after g (child .m .bits))
@@ -62,11 +61,11 @@ module _ {g : Game} {w : Walk} {child : Child} (n : NextOf g w child) where
       go (m ∷ ms) q h = (q ∙ ap₂ _∷_ (sym (h .0)) (sym (h .2)), h .1 ∙ ap (game-after g) (sym (h .0)))
 
 -- ---- every value is within the root's window
-pub value-within : (draws : DrawWinner) (p : Position) → (lowest ≤ℤ evaluate draws p) × (evaluate draws p ≤ℤ highest)
+pub value-within : (sc : Scoring) (p : Position) → (lowest ≤ℤ evaluate sc p) × (evaluate sc p ≤ℤ highest)
 unfolding hi lo
-value-within draws p = elim (is (going p)) [
-  | inl t ↦ let h = value-inside draws p t in (omega (zarith, h .0), omega (zarith, h .1))
-  | inr t ↦ let h = finished-within draws p t in (omega (zarith, h .0), omega (zarith, h .1))
+value-within sc p = elim (is (going p)) [
+  | inl t ↦ let h = value-inside sc p t in (omega (zarith, h .0), omega (zarith, h .1))
+  | inr t ↦ let h = finished-within sc p t in (omega (zarith, h .0), omega (zarith, h .1))
 ]
 
 -- ---- what is found, told by its parts
@@ -243,7 +242,7 @@ module _ {h : Held} (m : Met h) where
 
       pub leaf-below : (s₂ : Search) → ((ws : List ℕ) → memory-of s₂ ws ≡ leaf (memory-of s₁ ws))
           → (x : Bool) → x ≡ (eqb (m .under .depth) 0 || not (going (position-of (m .under .game)))) → x ≡ true
-          → (z : ℤ) → z ≡ evaluate (m .under .«draw_winner») (position-of (m .under .game))
+          → (z : ℤ) → z ≡ evaluate (asked-scoring (m .under)) (position-of (m .under .game))
           → Gives (m .under) (at h .local) (record { state = s₂; line = at h .local; score = z; stopped = false }) (at h .words) (searched (m .under) (at h .s) (at h .local) (at h .words))
       leaf-below s₂ w x t u z e = leaf-gives (m .under) (at h .s) (at h .local) (at h .words) more-below s₁ entered s₂ w x t u _
           (ap (λ (y : ℤ). record { state = s₂; line = at h .local; score = y; stopped = false }) e)
@@ -298,7 +297,7 @@ module _ {h : Held} {m : Met h} (x : Brought m false) where
       let low = neg-within (a h .beta) (h .begun .asked .beta-within) in
       let high = neg-within (at h .best .score) (h .turn .score) in
       let w = subst (Finds (λ z _ _. (lowest ≤ℤ z) × (z ≤ℤ highest))) found-is
-      (search-range (asked-game (a h)) (λ g. value-within (a h .«draw_winner») (position-of g)) _ _ _ _ _ _ _ _ (low .low) (low .high) (high .low) (high .high)) in
+      (search-range (asked-game (a h)) (λ g. value-within (asked-scoring (a h)) (position-of g)) _ _ _ _ _ _ _ _ (low .low) (low .high) (high .low) (high .high)) in
       record { low = w .0; high = w .1 }
 
   -- what raising the lower edge asks

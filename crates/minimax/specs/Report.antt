@@ -6,8 +6,9 @@ use Prim.Native.Nat.{ℕ, _-_, _≤_}
 use lib.IntN.{pos}
 use lib.ListN.{take, drop, replicate}
 use Rattle.rules.specs.Play.{no-move}
+use Rattle.rules.specs.Evaluation.{Scoring, scoring-with}
 use Rattle.theory.specs.Limits.{console}
-use Rattle.theory.specs.Memory.{Tally, fresh-memory}
+use Rattle.theory.specs.Memory.{Responses, fresh-memory, counts}
 use Rattle.theory.specs.OrderedSearch.{at-most}
 use Rattle.theory.specs.Deepening.{Stats as Meant, Whole, Answer, analyze}
 use Rattle.theory.specs.Reported.{Settings, Reported, no-stats, reported}
@@ -24,9 +25,8 @@ use Rattle.minimax.specs.declared.Report.{Report}
 use Rattle.minimax.specs.declared.Entry.{Entry}
 use Rattle.minimax.specs.declared.Entry.the-variants.{Allowed, Refused as Turned}
 use Rattle.minimax.specs.declared.Depths.{Depths}
-use Rattle.minimax.specs.declared.search.Search.{Search}
 use Rattle.minimax.specs.Structs.{structs}
-use Rattle.minimax.specs.State.{bytes-of, line-of}
+use Rattle.minimax.specs.State.{bytes-of, responses-of, line-of}
 
 -- document 01's numbers
 abbrev pub error-number : SearchError → ℕ
@@ -52,18 +52,18 @@ ending-stopped EndsWhole = false
 ending-stopped Stopped = true
 ending-stopped (Refused e) = is-spent e
 
-abbrev pub tally-of : Search → Tally
-tally-of s = record { visited = s .visited; terminal = s .terminal; cuts = s .cuts; tt-hit = s .«tt_hit»; tt-suffice = s .«tt_suffice» }
-
 abbrev pub stats-of : Stats → Meant
 stats-of s = record {
   depth = s .depth;
   score = s .score;
-  tally = record { visited = s .visited; terminal = s .terminal; cuts = s .cuts; tt-hit = s .«tt_hit»; tt-suffice = s .«tt_suffice» };
+  tally = counts (s .visited) (s .terminal) (s .cuts) (s .«tt_hit») (s .«tt_suffice»);
 }
 
 abbrev pub settings-of : Config → Settings
 settings-of c = record { max-depth = c .«max_depth»; allowance = c .allowance }
+
+abbrev pub scoring-of : Config → Scoring
+scoring-of c = scoring-with (c .«draw_winner»)
 
 abbrev pub report-of : Report → List ℕ → Reported
 report-of r words = record {
@@ -74,14 +74,13 @@ report-of r words = record {
   line = bytes-of (r .line);
   stats = map stats-of (r .stats);
   count = r .count;
-  answers-x = bytes-of (r .state .«answers_x»);
-  answers-o = bytes-of (r .state .«answers_o»);
+  responses = responses-of (r .state .responses);
   table = words;
 }
 
 -- refused at the entry
-abbrev pub refused-with : SearchError → List ℕ → List ℕ → List ℕ → Reported
-refused-with e xs os words = record {
+abbrev pub refused-with : SearchError → Responses → List ℕ → Reported
+refused-with e rs words = record {
   number = error-number e;
   is-stopped = is-spent e;
   depth = 0;
@@ -89,8 +88,7 @@ refused-with e xs os words = record {
   line = replicate (console .deepest) no-move;
   stats = replicate (console .deepest) no-stats;
   count = 0;
-  answers-x = xs;
-  answers-o = os;
+  responses = rs;
   table = words;
 }
 
@@ -100,7 +98,12 @@ entry-number (Turned e) = error-number e
 
 -- ---- the whole depths
 abbrev pub whole-of : Depths → Whole
-whole-of d = record { depth = d .depth; score = d .score; line = line-of (d .line) (d .depth); stats = take (d .depth) (map stats-of (d .stats)) }
+whole-of d = record {
+  depth = d .depth;
+  score = d .score;
+  line = line-of (d .line) (d .depth);
+  stats = take (d .depth) (map stats-of (d .stats));
+}
 
 -- the places after the last whole depth are empty
 pub record Empty-on (d : Depths) : Type 0 where
@@ -108,12 +111,14 @@ pub record Empty-on (d : Depths) : Type 0 where
   pub line-empty : drop (d .depth) (d .line .moves) ≡ replicate (console .deepest - d .depth) (record { bits = no-move })
   pub stats-empty : drop (d .depth) (map stats-of (d .stats)) ≡ replicate (console .deepest - d .depth) no-stats
 
-abbrev pub empty-answers : Minimax
-empty-answers = record { «answers_x» = replicate 256 (record { bits = no-move }); «answers_o» = replicate 256 (record { bits = no-move }) }
+-- no move has a response
+abbrev pub empty-responses : Minimax
+empty-responses = let none : List Move = replicate 256 (record { bits = no-move }) in record { responses = record { x = none; o = none } }
 
 -- the definition's answer and report, of a game as a struct
 abbrev pub answer-of : Minimax → Game → Config → List ℕ → Answer
-answer-of m g c words = analyze (structs (c .«draw_winner»)) (at-most (c .allowance)) (c .«max_depth») g (fresh-memory (bytes-of (m .«answers_x»)) (bytes-of (m .«answers_o»)) words)
+answer-of m g c words =
+    analyze (structs (scoring-of c)) (at-most (c .allowance)) (c .«max_depth») g (fresh-memory (responses-of (m .responses)) words)
 
 abbrev pub reported-of : Minimax → Game → Config → List ℕ → Reported
-reported-of m g c words = reported (structs (c .«draw_winner»)) (settings-of c) g (bytes-of (m .«answers_x»)) (bytes-of (m .«answers_o»)) words
+reported-of m g c words = reported (structs (scoring-of c)) (settings-of c) g (responses-of (m .responses)) words

@@ -1,6 +1,6 @@
 -- What the structs of the search mean, and what the search of a position gives.
 use mathlib.Core.Path.{_≡_}
-use mathlib.Core.Bool.{true, false}
+use mathlib.Core.Bool.{false}
 use mathlib.Core.List.{List, map}
 use Prim.Native.Nat.{ℕ, _-_, _≤_, _<_}
 use lib.IntN.{ℤ}
@@ -8,16 +8,18 @@ use lib.ListN.{take, drop, replicate, set}
 use lib.Signed.{_≤ℤ_}
 use Rattle.base.specs.Branch.{if_then_else_}
 use Rattle.rules.specs.Play.{board-of, no-move}
+use Rattle.rules.specs.Evaluation.{Scoring, scoring-with}
 use Rattle.theory.specs.Limits.{console}
 use Rattle.theory.specs.Game.{Game as Searched}
 use Rattle.theory.specs.PlainMinimax.{lowest, highest}
-use Rattle.theory.specs.Memory.{Memory, some-move}
+use Rattle.theory.specs.Memory.{Responses, Memory, some-move, Tally, counts}
 use Rattle.theory.specs.OrderedSearch.{at-most, Outcome, stopped, found, unless-stopped, told, candidates, over-moves, search}
 use Rattle.boards.specs.declared.moves.Move.{Move}
 use Rattle.game.specs.Meaning.{position-of}
 use Rattle.evaluation.specs.declared.Values.{Values}
 use Rattle.evaluation.specs.Values.{board-value, values-of}
 use Rattle.order.specs.declared.Child.{Child}
+use Rattle.minimax.specs.declared.ResponseTables.{ResponseTables}
 use Rattle.minimax.specs.declared.search.Search.{Search}
 use Rattle.minimax.specs.declared.search.Line.{Line}
 use Rattle.minimax.specs.declared.search.Ask.{Ask}
@@ -32,12 +34,21 @@ byte-of m = m .bits
 abbrev pub bytes-of : List Move → List ℕ
 bytes-of ms = map byte-of ms
 
+abbrev pub responses-of : ResponseTables → Responses
+responses-of t = record { to-x = bytes-of (t .x); to-o = bytes-of (t .o) }
+
+abbrev pub tally-of : Search → Tally
+tally-of s = counts (s .visited) (s .terminal) (s .cuts) (s .«tt_hit») (s .«tt_suffice»)
+
+-- the search's state has the two tables side by side: an array within a struct within it could not be written in place
+abbrev pub tables-of : Search → ResponseTables
+tables-of s = record { x = s .«responses_x»; o = s .«responses_o» }
+
 abbrev pub memory-of : Search → List ℕ → Memory
 memory-of s words = record {
   count = s .count;
-  tally = record { visited = s .visited; terminal = s .terminal; cuts = s .cuts; tt-hit = s .«tt_hit»; tt-suffice = s .«tt_suffice» };
-  answers-x = bytes-of (s .«answers_x»);
-  answers-o = bytes-of (s .«answers_o»);
+  tally = tally-of s;
+  responses = responses-of (tables-of s);
   table = words;
 }
 
@@ -49,8 +60,11 @@ abbrev pub empty-line : Line
 empty-line = record { moves = replicate (console .deepest) (record { bits = no-move }) }
 
 -- ---- what is asked and found
+abbrev pub asked-scoring : Ask → Scoring
+asked-scoring a = scoring-with (a .«draw_winner»)
+
 abbrev pub asked-game : Ask → Searched
-asked-game a = structs (a .«draw_winner»)
+asked-game a = structs (asked-scoring a)
 
 unfoldable pub outcome-of : Ask → Found → List ℕ → Outcome
 outcome-of a r words =
@@ -59,12 +73,14 @@ outcome-of a r words =
 
 -- the values after a move: its own board's anew
 abbrev pub values-below : Ask → Child → Values
-values-below a child = let b = board-of (child .m .bits) in record { boards = set (a .values .boards) b (board-value (position-of (child .game)) b) }
+values-below a child = let b = board-of (child .m .bits) in
+    record { boards = set (a .values .boards) b (board-value (position-of (child .game)) b) }
 
 -- the definition's outcome
 unfoldable pub searched : Ask → Search → Line → List ℕ → Outcome
 searched a s l words =
-    search (asked-game a) (at-most (a .allowance)) (a .depth) (a .game) (a .alpha) (a .beta) (line-of l (a .depth)) (a .prev .bits) (memory-of s words)
+    search (asked-game a) (at-most (a .allowance)) (a .depth) (a .game) (a .alpha) (a .beta) (line-of l (a .depth)) (a .prev .bits)
+    (memory-of s words)
 
 -- over the moves left
 unfoldable pub over-left : Ask → List ℕ → Best → Line → Search → List ℕ → Outcome

@@ -11,16 +11,17 @@ ghost use lib.Dec.{eqb};
 ghost use lib.ListN.{drop};
 ghost use Rattle.base.specs.Branch.{if_then_else_};
 ghost use Rattle.rules.specs.Play.{no-move};
+ghost use Rattle.rules.specs.Evaluation.{Scoring};
 ghost use Rattle.theory.specs.Limits.{console};
 ghost use Rattle.theory.specs.PlainMinimax.{lowest, highest};
 ghost use Rattle.theory.specs.Memory.{fresh-memory};
 ghost use Rattle.theory.specs.Deepening.{nothing-yet, one-deeper, decided};
 ghost use Rattle.theory.specs.Reported.{entry-refusal, report};
-ghost use Rattle.minimax.specs.State.{bytes-of, memory-of, line-of};
-ghost use Rattle.minimax.specs.Report.{error-number, ending-number, ending-stopped, entry-number};
-ghost use Rattle.minimax.specs.Report.{tally-of, stats-of, settings-of, whole-of, Empty-on, empty-answers};
-ghost use Rattle.minimax.specs.Report.{report-of, refused-with, answer-of, reported-of};
+ghost use Rattle.minimax.specs.State.{memory-of, line-of, responses-of, tally-of};
+ghost use Rattle.minimax.specs.Report.{error-number, ending-number, ending-stopped, entry-number, stats-of, settings-of, scoring-of, whole-of, Empty-on, empty-responses, report-of, refused-with, answer-of, reported-of};
+ghost use Rattle.minimax.specs.Structs.{structs};
 use boards::Move;
+use boards::PLACES;
 use evaluation::EVAL_LOST;
 use evaluation::EVAL_WON;
 use evaluation::Values;
@@ -31,7 +32,6 @@ use search::Found;
 use search::Line;
 use search::Search;
 use table::DEEPEST;
-use table::PLACES;
 
 pub const MOST_POSITIONS: u64 = 1000000000;
 
@@ -54,10 +54,15 @@ pub struct Config {
     pub draw_winner: DrawWinner,
 }
 
-// The search's state: the remembered answers to X's moves and to O's.
+// The responses to X's moves and to O's, by the move's byte.
+pub struct ResponseTables {
+    pub x: [Move; 256],
+    pub o: [Move; 256],
+}
+
+// What a search leaves for the next one.
 pub struct Minimax {
-    pub answers_x: [Move; 256],
-    pub answers_o: [Move; 256],
+    pub responses: ResponseTables,
 }
 
 pub enum SearchError {
@@ -180,7 +185,16 @@ impl Config {
     // What is asked of the root, one depth after the last whole one.
     fn ask(self, game: Game, values: Values, whole: Depths) -> Ask
         requires { ⌜ whole .depth < console .deepest ⌝ }
-        ensures { λ r. ⌜ r ≡ record { game = game; depth = whole .depth + 1; alpha = lowest; beta = highest; prev = record { bits = no-move }; «draw_winner» = self .«draw_winner»; allowance = self .allowance; values = values } ⌝ }
+        ensures { λ r. ⌜ r ≡ record {
+          game = game;
+          depth = whole .depth + 1;
+          alpha = lowest;
+          beta = highest;
+          prev = record { bits = no-move };
+          «draw_winner» = self .«draw_winner»;
+          allowance = self .allowance;
+          values = values;
+        } ⌝ }
     {
         let draw_winner = self.draw_winner;
         Ask {
@@ -210,8 +224,10 @@ impl Depths {
 
     // One depth more.
     fn deeper(self, r: Found) -> Depths
-        requires { ⌜ (self .depth < console .deepest) × Empty-on self × (drop (self .depth + 1) (r .line .moves) ≡ drop (self .depth + 1) (self .line .moves)) ⌝ }
-        ensures { λ x. ⌜ (whole-of x ≡ one-deeper (whole-of self) (r .score) (line-of (r .line) (self .depth + 1)) (tally-of (r .state))) × Empty-on x × (x .line ≡ r .line) ⌝ }
+        requires { ⌜ (self .depth < console .deepest) × Empty-on self
+            × (drop (self .depth + 1) (r .line .moves) ≡ drop (self .depth + 1) (self .line .moves)) ⌝ }
+        ensures { λ x. ⌜ (whole-of x ≡ one-deeper (whole-of self) (r .score) (line-of (r .line) (self .depth + 1)) (tally-of (r .state)))
+            × Empty-on x × (x .line ≡ r .line) ⌝ }
     {
         let mut stats = self.stats;
         let at = self.depth as usize;
@@ -237,7 +253,8 @@ impl Depths {
     }
 
     fn ending(self, stopped: bool) -> Ending
-        ensures { λ r. ⌜ (ending-number r ≡ (if stopped && eqb (self .depth) 0 then (λ _. 18) else λ _. 0)) × (ending-stopped r ≡ stopped) ⌝ }
+        ensures { λ r. ⌜ (ending-number r ≡ (if stopped && eqb (self .depth) 0 then (λ _. 18) else λ _. 0))
+            × (ending-stopped r ≡ stopped) ⌝ }
     {
         if !stopped {
             return Ending::Whole;
@@ -250,18 +267,18 @@ impl Depths {
 
     fn report(self, state: Search, stopped: bool) -> Report
         requires { ⌜ Empty-on self ⌝ }
-        ensures { λ r. ⌜ ((words : List ℕ) → report-of r words ≡ report (record { is-stopped = stopped; whole = whole-of self; memory = memory-of state words })) ⌝ }
+        ensures { λ r. ⌜ ((sc : Scoring) (game : Game) (words : List ℕ) → report-of r words
+            ≡ report (structs sc) game (record { is-stopped = stopped; whole = whole-of self; memory = memory-of state words })) ⌝ }
     {
-        let answers_x = state.answers_x;
-        let answers_o = state.answers_o;
+        let x = state.responses_x;
+        let o = state.responses_o;
         let moves = self.line;
         let line = moves.moves;
         let stats = self.stats;
         let ending = self.ending(stopped);
         Report {
             state: Minimax {
-                answers_x,
-                answers_o,
+                responses: ResponseTables { x, o },
             },
             ending,
             depth: self.depth as u64,
@@ -275,16 +292,18 @@ impl Depths {
 
 impl Minimax {
     pub fn new() -> Minimax
-        ensures { λ r. ⌜ r ≡ empty-answers ⌝ }
+        ensures { λ r. ⌜ r ≡ empty-responses ⌝ }
     {
         Minimax {
-            answers_x: [Move::NONE; 256],
-            answers_o: [Move::NONE; 256],
+            responses: ResponseTables {
+                x: [Move::NONE; 256],
+                o: [Move::NONE; 256],
+            },
         }
     }
 
     fn refused(self, why: SearchError) -> Report
-        ensures { λ r. ⌜ ((words : List ℕ) → report-of r words ≡ refused-with why (bytes-of (self .«answers_x»)) (bytes-of (self .«answers_o»)) words) ⌝ }
+        ensures { λ r. ⌜ ((words : List ℕ) → report-of r words ≡ refused-with why (responses-of (self .responses)) words) ⌝ }
     {
         Report {
             state: self,
@@ -299,13 +318,14 @@ impl Minimax {
 
     // The search's state before its first depth.
     fn begin(self) -> Search
-        ensures { λ r. ⌜ ((words : List ℕ) → memory-of r words ≡ fresh-memory (bytes-of (self .«answers_x»)) (bytes-of (self .«answers_o»)) words) ⌝ }
+        ensures { λ r. ⌜ ((words : List ℕ) → memory-of r words ≡ fresh-memory (responses-of (self .responses)) words) ⌝ }
     {
-        let answers_x = self.answers_x;
-        let answers_o = self.answers_o;
+        let responses = self.responses;
+        let x = responses.x;
+        let o = responses.o;
         Search {
-            answers_x,
-            answers_o,
+            responses_x: x,
+            responses_o: o,
             count: 0,
             visited: 0,
             terminal: 0,
@@ -317,7 +337,8 @@ impl Minimax {
 
     fn deepen(self, game: Game, config: Config, words: &mut [u64]) -> Report
         requires { ⌜ (config .«max_depth» ≤ console .deepest) × (config .allowance ≤ console .positions) ⌝ }
-        ensures { λ r. ⌜ report-of r (now (words .exit)) ≡ report (answer-of self game config (now (words .entry))) ⌝ }
+        ensures { λ r. ⌜ report-of r (now (words .exit))
+            ≡ report (structs (scoring-of config)) game (answer-of self game config (now (words .entry))) ⌝ }
     {
         let values = Values::new(game);
         let mut whole = Depths::none();

@@ -16,14 +16,15 @@ ghost use Rattle.rules.specs.Position.{going};
 ghost use Rattle.rules.specs.Play.{no-move};
 ghost use Rattle.rules.specs.Evaluation.{evaluate};
 ghost use Rattle.theory.specs.Limits.{console};
-ghost use Rattle.theory.specs.Memory.{some-move, begin, enter, leaf, hit, answered, answers-to, cut};
+ghost use Rattle.theory.specs.Memory.{some-move, begin, enter, leaf, hit, answered, responses-to, cut};
 ghost use Rattle.theory.specs.Table.{suffices, bound-of};
 ghost use Rattle.theory.specs.OrderedSearch.{candidates};
 ghost use Rattle.table.specs.Entries.{bound-number, entry-means};
 ghost use Rattle.game.specs.Meaning.{position-of};
 ghost use Rattle.order.specs.Order.{walk-left};
-ghost use Rattle.minimax.specs.State.{memory-of, line-of, empty-line, asked-game, outcome-of, searched, over-all, then-told, values-below, Valued, Within, Asked, Counted, Ready, Gives};
+ghost use Rattle.minimax.specs.State.{memory-of, line-of, empty-line, asked-scoring, asked-game, outcome-of, searched, over-all, then-told, values-below, Valued, Within, Asked, Counted, Ready, Gives};
 use boards::Move;
+use boards::PLACES;
 use evaluation::Values;
 use game::Game;
 use order::Child;
@@ -33,12 +34,11 @@ use rules::Player;
 use table::Bound;
 use table::Entry;
 use table::Held;
-use table::PLACES;
 
-// The search's state: the remembered answers to X's moves and to O's, the positions entered over all depths, and the counts of `Stats`.
+// The search's state: the two response tables, the positions entered over all depths, and the counts of `Stats`.
 pub(crate) struct Search {
-    pub answers_x: [Move; 256],
-    pub answers_o: [Move; 256],
+    pub responses_x: [Move; 256],
+    pub responses_o: [Move; 256],
     pub count: u64,
     pub visited: u64,
     pub terminal: u64,
@@ -171,18 +171,18 @@ impl Search {
         s
     }
 
-    // The remembered answer to the previous move, which the side not to move made.
+    // The response to the previous move, which the side not to move made.
     fn response_to(self, turn: Player, prev: Move) -> Move
-        ensures { λ r. ⌜ ((words : List ℕ) → r .bits ≡ getD (answers-to (memory-of self words) (other turn)) (prev .bits) no-move) ⌝ }
+        ensures { λ r. ⌜ ((words : List ℕ) → r .bits ≡ getD (responses-to (memory-of self words) (other turn)) (prev .bits) no-move) ⌝ }
     {
         let at = prev.bits as usize;
         match turn {
-            Player::X => self.answers_o[at],
-            Player::O => self.answers_x[at],
+            Player::X => self.responses_o[at],
+            Player::O => self.responses_x[at],
         }
     }
 
-    // A cut by a move, which is remembered as the answer to the previous one.
+    // A cut by a move, which becomes the response to the previous one.
     fn cut(self, turn: Player, prev: Move, m: Move) -> Search
         requires { ⌜ self .cuts < console .positions ⌝ }
         ensures { λ r. ⌜ ((words : List ℕ) → memory-of r words ≡ cut turn (memory-of self words) (prev .bits) (m .bits)) ⌝ }
@@ -192,10 +192,10 @@ impl Search {
         s.cuts += 1;
         match turn {
             Player::X => {
-                s.answers_o[at] = m;
+                s.responses_o[at] = m;
             }
             Player::O => {
-                s.answers_x[at] = m;
+                s.responses_x[at] = m;
             }
         }
         s
@@ -216,7 +216,12 @@ impl Found {
 
     // What the table knows.
     fn known(state: Search, line: Line, e: Entry) -> Found
-        ensures { λ r. ⌜ r ≡ record { state = state; line = record { moves = set (line .moves) 0 (e .pv) }; score = e .value; stopped = false } ⌝ }
+        ensures { λ r. ⌜ r ≡ record {
+          state = state;
+          line = record { moves = set (line .moves) 0 (e .pv) };
+          score = e .value;
+          stopped = false;
+        } ⌝ }
     {
         let pv = e.pv;
         let line = line.with_first(pv);
@@ -241,7 +246,7 @@ impl Found {
     }
 }
 
-// The remembered answer, or lacking one the line's move.
+// The response, or lacking one the line's move.
 fn hint(answer: Move, line: Move) -> Move
     ensures { λ r. ⌜ r ≡ (if eqb (answer .bits) no-move then (λ _. line) else λ _. answer) ⌝ }
 {
@@ -260,7 +265,8 @@ impl Best {
     // It becomes that edge, and the line is its move and the line below.
     fn raise(self, m: Move, score: i64, below: Line, depth: u8) -> Best
         requires { ⌜ Within score × (0 < depth) × (depth ≤ console .deepest) ⌝ }
-        ensures { λ b. ⌜ (b .score ≡ negℤ score) × (line-of (b .line) depth ≡ m .bits ∷ line-of below (depth - 1)) × (drop depth (b .line .moves) ≡ drop depth (self .line .moves)) ⌝ }
+        ensures { λ b. ⌜ (b .score ≡ negℤ score) × (line-of (b .line) depth ≡ m .bits ∷ line-of below (depth - 1))
+            × (drop depth (b .line .moves) ≡ drop depth (self .line .moves)) ⌝ }
     {
         let old = self.line;
         let line = old.with_line(m, below, depth);
@@ -286,7 +292,7 @@ impl Ask {
     // The evaluation, at a position that is not searched further.
     fn evaluate(self) -> i64
         requires { ⌜ Valued self ⌝ }
-        ensures { λ r. ⌜ r ≡ evaluate (self .«draw_winner») (position-of (self .game)) ⌝ }
+        ensures { λ r. ⌜ r ≡ evaluate (asked-scoring self) (position-of (self .game)) ⌝ }
     {
         let game = self.game;
         let values = self.values;
@@ -296,7 +302,12 @@ impl Ask {
 
     fn evaluated(self, state: Search, line: Line) -> Found
         requires { ⌜ Valued self ⌝ }
-        ensures { λ r. ⌜ r ≡ record { state = state; line = line; score = evaluate (self .«draw_winner») (position-of (self .game)); stopped = false } ⌝ }
+        ensures { λ r. ⌜ r ≡ record {
+          state = state;
+          line = line;
+          score = evaluate (asked-scoring self) (position-of (self .game));
+          stopped = false;
+        } ⌝ }
     {
         Found {
             state,
@@ -358,7 +369,8 @@ impl Ask {
     // The cursor over the moves: the table's move; the remembered answer, or lacking one the line's move; then the list.
     fn walk(self, first: Move, state: Search, line: Line) -> Walk
         requires { ⌜ (0 < self .depth) × (self .depth ≤ console .deepest) ⌝ }
-        ensures { λ r. ⌜ ((words : List ℕ) → walk-left (self .game) r ≡ candidates (asked-game self) (some-move (first .bits)) (memory-of state words) (self .game) (self .prev .bits) (line-of line (self .depth))) ⌝ }
+        ensures { λ r. ⌜ ((words : List ℕ) → walk-left (self .game) r
+            ≡ candidates (asked-game self) (some-move (first .bits)) (memory-of state words) (self .game) (self .prev .bits) (line-of line (self .depth))) ⌝ }
     {
         let game = self.game;
         let turn = game.next_player;
@@ -379,7 +391,16 @@ impl Ask {
     // What is asked of the position after a move.
     fn below(self, child: Child, best: Best) -> Ask
         requires { ⌜ (0 < self .depth) × Within (self .beta) × Within (best .score) ⌝ }
-        ensures { λ r. ⌜ r ≡ record { game = child .game; depth = self .depth - 1; alpha = negℤ (self .beta); beta = negℤ (best .score); prev = child .m; «draw_winner» = self .«draw_winner»; allowance = self .allowance; values = values-below self child } ⌝ }
+        ensures { λ r. ⌜ r ≡ record {
+          game = child .game;
+          depth = self .depth - 1;
+          alpha = negℤ (self .beta);
+          beta = negℤ (best .score);
+          prev = child .m;
+          «draw_winner» = self .«draw_winner»;
+          allowance = self .allowance;
+          values = values-below self child;
+        } ⌝ }
     {
         let game = child.game;
         let prev = child.m;
@@ -407,7 +428,8 @@ impl Ask {
 
     fn cut(self, state: Search, m: Move) -> Search
         requires { ⌜ state .cuts < console .positions ⌝ }
-        ensures { λ r. ⌜ ((words : List ℕ) → memory-of r words ≡ cut (self .game .«next_player») (memory-of state words) (self .prev .bits) (m .bits)) ⌝ }
+        ensures { λ r. ⌜ ((words : List ℕ) → memory-of r words
+            ≡ cut (self .game .«next_player») (memory-of state words) (self .prev .bits) (m .bits)) ⌝ }
     {
         let game = self.game;
         let turn = game.next_player;

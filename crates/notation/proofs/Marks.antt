@@ -8,7 +8,7 @@ use Rattle.base.specs.Branch.{if_then_else_}
 use Rattle.base.proofs.Branch.{if-both}
 use Rattle.rules.specs.declared.NextBoard.{NextBoard}
 use Rattle.rules.specs.declared.NextBoard.the-variants.{Any, Only}
-use Rattle.text.specs.Bytes.{dot, hash-mark, at-mark, letter}
+use Rattle.text.specs.Bytes.{dot, hash-mark, at-mark}
 use Rattle.text.specs.Reading.{side-of, overall-mark, cell-mark}
 use Rattle.notation.specs.Parts.{due-by, due-or}
 

@@ -100,14 +100,7 @@ fn find(text: &[u8], from: usize, byte: u8) -> usize
     requires { ⌜ from ≤ length (now text) ⌝ }
     ensures { λ r. ⌜ Finds (now (text .entry)) from byte r ⌝ }
 {
-    let mut i = from;
-    while i < text.len() {
-        if text[i] == byte {
-            return i;
-        }
-        i += 1;
-    }
-    i
+    bytes::scan::find(text, from, text.len(), byte)
 }
 
 pub fn parse(text: &[u8]) -> Parsed

@@ -1,23 +1,20 @@
 -- The cursor over the rest of what a cursor has left has just that rest left.
 use mathlib.Core.Path.{_≡_, sym, ap, ap₂, _∙_, subst}
 use mathlib.Core.Bool.{Bool, true, false, not, _&&_, and-true}
-use mathlib.Core.List.{List, [], _∷_, _++_, map}
+use mathlib.Core.List.{List, [], _∷_, _++_}
 use Prim.Native.Nat.{ℕ}
 use native.Mathlib.Omega.{arith}
-use lib.Bits.{bitAnd}
-use lib.Dec.{T, eqb, eqb→eq, lit<}
+use lib.Dec.{T, eqb, eqb→eq, lit<, T-not}
 use Rattle.base.specs.Branch.{if_then_else_}
-use Rattle.base.specs.Bits.{bit}
-use Rattle.base.specs.Lists.{keep, In, elem, once, from, each}
+use Rattle.base.specs.Lists.{keep, In, elem, once, each}
 use Rattle.base.proofs.Agree.{keep-same, false-by}
-use Rattle.base.proofs.Bool.{and→, deny}
-use Rattle.base.proofs.Lists.{from-in, in-elem}
-use Rattle.base.proofs.Numbers.{bit-masked}
+use Rattle.base.proofs.Bool.{and→}
+use Rattle.base.proofs.Lists.{in-elem}
 use borrow.Author.Tests.{eq-eqb}
 use Rattle.rules.specs.Moves.{places}
 use Rattle.boards.specs.declared.moves.MoveIterator.{MoveIterator}
-use Rattle.boards.specs.Cursor.{move-at, row-moves, moves-left, row-over, cursor-over}
-use Rattle.boards.proofs.Cursors.{cursor-again, row-over-kept, cursor-kept}
+use Rattle.boards.specs.Cursor.{moves-left, row-over, cursor-over}
+use Rattle.boards.proofs.Cursors.{cursor-again, row-over-kept, cursor-kept, row-masked}
 
 -- ---- without the first that is kept
 module _ (f : ℕ → Bool) (m : ℕ) where
@@ -25,7 +22,7 @@ module _ (f : ℕ → Bool) (m : ℕ) where
   others k = f k && not (eqb k m)
 
   absent : (xs : List ℕ) → T (not (elem m xs)) → keep others xs ≡ keep f xs
-  absent xs n = keep-same others f xs (λ k i. ap (λ (b : Bool). f k && not b) (false-by (eqb k m) (λ t. deny (elem m xs) n (in-elem m xs (subst (λ (z : ℕ). In z xs) (eqb→eq k m t) i)))) ∙ and-true (f k))
+  absent xs n = keep-same others f xs (λ k i. ap (λ (b : Bool). f k && not b) (false-by (eqb k m) (λ t. T-not (elem m xs) n (in-elem m xs (subst (λ (z : ℕ). In z xs) (eqb→eq k m t) i)))) ∙ and-true (f k))
 
   -- by the test's answer at the first
   step : (x : ℕ) (xs ms : List ℕ) → T (once (x ∷ xs)) → (keep f xs ≡ m ∷ ms → keep others xs ≡ ms) → (b : Bool)
@@ -43,10 +40,6 @@ module _ (f : ℕ → Bool) (m : ℕ) where
   kept-rest (x ∷ xs) ms t e = step x xs ms t (kept-rest xs ms (and→ (not (elem x xs)) _ t .1)) (f x) e
 
 -- ---- what a cursor has left is a part of the 81 places
-row-masked : (r n : ℕ) → row-moves r (bitAnd n 134217727) ≡ row-moves r n
-unfolding row-moves
-row-masked r n = ap (map (move-at r)) (keep-same (bit (bitAnd n 134217727)) (bit n) (from 0 27) (λ k i. bit-masked 27 n k (from-in 0 27 k i .1)))
-
 module _ (it : MoveIterator) where
   abbrev there : ℕ → Bool
   there m = elem m (moves-left it)

@@ -4,13 +4,13 @@ use mathlib.Core.Bool.{Bool, true, false, not, _||_}
 use mathlib.Core.List.{List, [], _∷_, _++_}
 use Prim.Native.Nat.{ℕ, _<_}
 use native.Mathlib.Omega.{arith}
-use lib.Dec.{T, eqb}
+use lib.Dec.{T, eqb, T-not}
 use lib.ListN.{length}
 use Rattle.base.specs.Checks.{all-pass}
+use lib.Ieee.Bits.{is-true}
 use Rattle.base.specs.Branch.{if_then_else_}
 use Rattle.base.specs.Lists.{all, elem}
 use Rattle.base.proofs.Agree.{false-by}
-use Rattle.base.proofs.Bool.{deny, is-true}
 use Rattle.base.proofs.Branch.{if-ind, if-both}
 use Rattle.rules.specs.Position.{Position}
 use Rattle.rules.specs.Play.{accepts, no-move}
@@ -96,7 +96,7 @@ module _ (g : Game) (left : Order) (seen : Seen) (m : Move) (rest : Order) (e : 
       (made : Made) (p : Plays g m made) where
     pub refused : (r : MoveError) → made .answer ≡ Refused r → step-from g rest new ≡ step-from g left seen
     refused r q =
-        let a : ok g (m .bits) ≡ false = false-by (ok g (m .bits)) (deny (ok g (m .bits))
+        let a : ok g (m .bits) ≡ false = false-by (ok g (m .bits)) (T-not (ok g (m .bits))
         (refused-not-accepts (position-of g) (m .bits) (λ z. numbered r (sym (ap answer-number q) ∙ p .number ∙ z)))) in
         (λ i. step (ok g) (λ k. more k i) (order-left rest))
         ∙ sym (ap (step (ok g) (marked seen)) e ∙ step-refused (ok g) (marked seen) (m .bits) (order-left rest) (sym f ∙ h) a)

@@ -79,7 +79,7 @@ impl Seen {
     }
 }
 
-// The moves still to be met: the table's move; the remembered answer, or lacking one the line's move; then the list. An empty move is none.
+// The moves still to be met: the table's move; the response, or lacking one the line's move; then the list. An empty move is none.
 pub struct Order {
     pub first: Move,
     pub second: Move,

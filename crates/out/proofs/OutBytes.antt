@@ -2,19 +2,18 @@
 use mathlib.Core.Path.{_≡_, refl, sym, ap, ap₂, _∙_}
 use mathlib.Core.Bool.{Bool, true, false}
 use mathlib.Core.List.{List, [], _∷_, _++_, append-nil, append-assoc}
-use Prim.Native.Nat.{ℕ, _+_, _^_, min, _≤_, _<_}
+use Prim.Native.Nat.{ℕ, _+_, min, _≤_, _<_}
 use native.Mathlib.Decide.{decLt}
 use native.Mathlib.Numerals.{add-one}
 use native.Mathlib.Omega.{arith}
-use lib.IntN.{ℤ, natAbs}
+use lib.IntN.{ℤ}
 use lib.ListN.{length, take, getD, set, length-append}
 use lib.Seq.{take-all, take-suc, take-length}
 use borrow.Author.Tests.{lt-ltb, le-ltb}
 use Rattle.base.specs.Branch.{if_then_else_}
 use Rattle.rules.specs.Status.{Status}
 use Rattle.text.specs.Bytes.{blank}
-use Rattle.text.specs.ProgramLine.{decimal, signed, shown, status-letters, joined, spaced, answer-text, refusal-text}
-use Rattle.text.proofs.ProgramLine.{decimal-short, answer-short}
+use Rattle.text.specs.ProgramLine.{decimal, signed, shown, status-letters, joined, spaced, answer-text}
 use Rattle.out.specs.declared.Out.{Out}
 use Rattle.out.specs.OutBytes.{new-out, added, added-all, out-of, out-text}
 use Rattle.text.proofs.Padded.{set-padded, padded-full, take-padded}
@@ -108,12 +107,3 @@ answer-written s legal depth score count line o₀ o₁ o₂ o₃ o₄ o₅ p₁
     (then-blank o₂ p₃ o₃ r (decimal depth) (spaced (signed score ∷ decimal count ∷ joined line ∷ [])) e₃ f₃
     (then-blank o₃ p₄ o₄ r (signed score) (spaced (decimal count ∷ joined line ∷ [])) e₄ f₄
     (then-blank o₄ p₅ o₅ r (decimal count) (joined line) e₅ f₅ g)))))
-
--- ---- within the program's bounds nothing is dropped
-pub answer-whole : (s : Status) (legal depth : ℕ) (score : ℤ) (count : ℕ) (line : List ℕ) → legal < 10 ^ 2 → depth < 10 ^ 2 → natAbs score < 10 ^ 19 → count < 10 ^ 7 → length line ≤ 81 →
-    out-text (out-of (answer-text s legal depth score count line)) ≡ answer-text s legal depth score count line
-answer-whole s legal depth score count line a b c d e =
-    written-whole (answer-text s legal depth score count line) (omega (arith, answer-short s legal depth score count line a b c d e))
-
-pub refusal-whole : (n : ℕ) → n < 10 ^ 20 → out-text (out-of (refusal-text n)) ≡ refusal-text n
-refusal-whole n h = written-whole (refusal-text n) (omega (arith, decimal-short 19 n h))

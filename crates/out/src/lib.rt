@@ -6,9 +6,9 @@ ghost use Rattle.text.specs.ProgramLine.{decimal, signed, shown, status-letters
 ghost use Rattle.status.specs.Sets.{set-of};
 ghost use Rattle.out.specs.OutBytes.{new-out, added, added-all, move-bytes, out-of};
 use boards::Move;
+use boards::PLACES;
 use rules::Player;
 use status::Status;
-use table::PLACES;
 
 // The longest answer has 201 bytes.
 pub const ROOM: usize = 224;

@@ -1,14 +1,15 @@
 -- Fields, a byte at a time.
 use mathlib.Core.Path.{_≡_, refl, sym, ap, _∙_}
-use mathlib.Core.Bool.{Bool, true, false, cond}
+use mathlib.Core.Bool.{Bool, true, false}
 use mathlib.Core.List.{List, [], _∷_}
 use Prim.Native.Nat.{ℕ, zero, suc, _+_, _-_, _<_, _≤_}
 use native.Mathlib.Numerals.{add-one}
 use native.Mathlib.Omega.{arith}
 use lib.Dec.{eqb}
-use lib.ListN.{length, getD, take, drop, length-drop, drop-of-length-le}
-use lib.Seq.{drop-cons, drop-drop, drop-nil}
+use lib.ListN.{length, getD, take, drop, drop-of-length-le}
+use lib.Seq.{drop-cons, drop-drop, take-all}
 use borrow.Author.Tests.{eq-eqb, ne-eqb}
+use Rattle.bytes.specs.Bytes.{slice, indexAfter, indexOf}
 use Rattle.base.specs.Branch.{if_then_else_}
 use Rattle.base.specs.Lists.{how-many}
 use Rattle.records.specs.Fields.{until-tab, past-tab, field}
@@ -16,14 +17,6 @@ use Rattle.records.specs.Fields.{until-tab, past-tab, field}
 module _ (line : List ℕ) (i : ℕ) (h : i < length line) where
   next-byte : drop i line ≡ getD line i 0 ∷ drop (i + 1) line
   next-byte = drop-cons line i 0 h ∙ rw (add-one i)
-
-  pub until-more : (getD line i 0 ≡ 9 → ⊥) → length (until-tab (drop i line)) ≡ suc (length (until-tab (drop (i + 1) line)))
-  unfolding until-tab if_then_else_
-  until-more ne = rw (next-byte, ne-eqb (getD line i 0) 9 ne)
-
-  pub until-here : getD line i 0 ≡ 9 → length (until-tab (drop i line)) ≡ 0
-  unfolding until-tab if_then_else_
-  until-here e = rw (next-byte, eq-eqb (getD line i 0) 9 e)
 
   pub tab-more : (getD line i 0 ≡ 9 → ⊥) → how-many (eqb 9) (drop i line) ≡ how-many (eqb 9) (drop (i + 1) line)
   unfolding how-many
@@ -34,13 +27,23 @@ module _ (line : List ℕ) (i : ℕ) (h : i < length line) where
   tab-here e = rw (next-byte, eq-eqb 9 (getD line i 0) (sym e)) (omega arith)
 
 module _ (line : List ℕ) (i : ℕ) (h : length line ≤ i) where
-  pub until-end : length (until-tab (drop i line)) ≡ 0
-  unfolding until-tab
-  until-end = rw (drop-of-length-le line h)
-
   pub tab-end : how-many (eqb 9) (drop i line) ≡ 0
   unfolding how-many
   tab-end = rw (drop-of-length-le line h)
+
+-- ---- the kit's `find` answers where a field ends
+until-index : (bs : List ℕ) → indexOf 9 bs ≡ length (until-tab bs)
+unfolding until-tab indexOf indexAfter if_then_else_
+until-index [] = refl
+until-index (b ∷ bs) = go (eqb b 9) (until-index bs)
+  where
+    go : (c : Bool) → indexOf 9 bs ≡ length (until-tab bs) → indexAfter c (indexOf 9 bs) ≡ length (if c then (λ _. []) else λ _. b ∷ until-tab bs)
+    go true e = refl
+    go false e = ap suc e
+
+pub ends-at : (line : List ℕ) (at r : ℕ) → r ≡ at + indexOf 9 (slice at (length line) line) → r ≡ at + length (until-tab (drop at line))
+unfolding slice
+ends-at line at r e = e ∙ ap (λ (bs : List ℕ). at + indexOf 9 (drop at bs)) (take-all (length line) line (omega arith)) ∙ ap (λ (n : ℕ). at + n) (until-index (drop at line))
 
 -- ---- a field and the rest are parts of the line
 until-step : (c : Bool) (b : ℕ) (bs u : List ℕ) → u ≡ take (length u) bs → (if c then (λ _. []) else λ _. b ∷ u) ≡ take (length (if c then (λ _. []) else λ _. b ∷ u)) (b ∷ bs)

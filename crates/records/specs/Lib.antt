@@ -1,4 +1,3 @@
 pub mod Fields
-pub mod Moves
 pub mod Totals
 pub mod Draws

@@ -13,14 +13,7 @@ fn end_of_field(line: &[u8], at: usize) -> usize
     requires { ⌜ at ≤ length (now line) ⌝ }
     ensures { λ r. ⌜ (r ≡ at + length (until-tab (drop at (now (line .entry))))) × (r ≤ length (now (line .entry))) ⌝ }
 {
-    let mut i = at;
-    while i < line.len() {
-        if line[i] == TAB {
-            return i;
-        }
-        i += 1;
-    }
-    i
+    bytes::scan::find(line, at, line.len(), TAB)
 }
 
 // The byte after the first tab from `at` on, or the line's end.

@@ -1,14 +1,11 @@
-// Records, a line each: fields parted by tabs, lists of moves and draw winners, and how many of the records agree.
+// Records, a line each: fields parted by tabs, draw winners, and how many of the records agree.
 pub mod draws;
 pub mod fields;
-pub mod moves;
 pub mod totals;
 
 pub use draws::Draw;
 pub use draws::draw_of;
 pub use fields::field;
 pub use fields::tabs;
-pub use moves::Code;
-pub use moves::move_at;
 pub use totals::Outcome;
 pub use totals::Totals;

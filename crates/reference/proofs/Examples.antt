@@ -13,7 +13,6 @@ use Rattle.rules.specs.declared.Player.the-variants.{X, O}
 use Rattle.rules.specs.declared.CellState.{CellState}
 use Rattle.rules.specs.declared.CellState.the-variants.{Empty, Played}
 use Rattle.rules.specs.declared.GameState.the-variants.{InPlay, Won}
-use Rattle.rules.specs.declared.DrawWinner.the-variants.{Nobody}
 use Rattle.rules.specs.declared.NextBoard.the-variants.{Only}
 use Rattle.rules.specs.Board.{has-line, result}
 use Rattle.rules.specs.Position.{Position, start}
@@ -21,10 +20,10 @@ use Rattle.base.specs.Checks.{all-pass, first-failed}
 use Rattle.rules.specs.Play.{no-move, accepts, after, play, left-by, tried}
 use Rattle.rules.specs.Moves.{places, moves}
 use Rattle.rules.specs.Hash.{cell-key, board-key, due-key, xors, cells-hash, board-hash, hash, with-turn, zobrist}
-use Rattle.rules.specs.Evaluation.{won, lost, count, unless-both, board-line, board-score, overall-line, score, evaluate}
+use Rattle.rules.specs.Evaluation.{no-draw-winner, won, lost, count, unless-both, board-line, board-score, overall-line, score, evaluate}
 use Rattle.rules.proofs.Examples.{position, second}
 use Rattle.theory.specs.Table.{value-of, entry-of, off, begins, look-up, store, suffices, bound-of}
-use Rattle.theory.specs.Memory.{Tally, Memory, fresh-memory, begin, enter, leaf, hit, answered, cut, some-move, hints}
+use Rattle.theory.specs.Memory.{Tally, Memory, fresh-memory, begin, enter, leaf, hit, answered, cut, some-move, hints, counts, no-responses}
 use Rattle.theory.specs.OrderedSearch.{unlimited, at-most, unless-stopped, entering, probed, on-probe, told, set-first, fresh, candidates, over-moves, search}
 use Rattle.theory.specs.Deepening.{Stats, Whole, nothing-yet, Answer, on-outcome, deepen, analyze}
 use Rattle.reference.specs.Reference.{game}
@@ -54,48 +53,44 @@ searching = tt
 abbrev gives : Bool → Whole → Memory → Answer
 gives stopped w s = record { is-stopped = stopped; whole = w; memory = s }
 
--- visited, terminal, cuts, tt-hit, tt-suffice
-abbrev tally : ℕ → ℕ → ℕ → ℕ → ℕ → Tally
-tally v t c h f = record { visited = v; terminal = t; cuts = c; tt-hit = h; tt-suffice = f }
-
 abbrev at-depth : ℕ → ℤ → Tally → Stats
 at-depth d r t = record { depth = d; score = r; tally = t }
 
-abbrev no-answers : List ℕ
-no-answers = replicate 256 no-move
+abbrev none-yet : List ℕ
+none-yet = no-responses .to-x
 
 abbrev no-table : Memory
-no-table = fresh-memory no-answers no-answers []
+no-table = fresh-memory no-responses []
 
 abbrev counted : ℕ → Tally → Memory
-counted n t = record { count = n; tally = t; answers-x = no-answers; answers-o = no-answers; table = [] }
+counted n t = record { count = n; tally = t; responses = no-responses; table = [] }
 
 -- ---- the empty board
 abbrev one-depth : Whole
-one-depth = record { depth = 1; score = pos 16; line = 0x44 ∷ []; stats = at-depth 1 (pos 16) (tally 82 81 0 0 0) ∷ [] }
+one-depth = record { depth = 1; score = pos 16; line = 0x44 ∷ []; stats = at-depth 1 (pos 16) (counts 82 81 0 0 0) ∷ [] }
 
 -- depth 1: the best of 81 moves is the centre
-pub empty-board : analyze (game Nobody) unlimited 1 start no-table ≡ gives false one-depth (counted 82 (tally 82 81 0 0 0))
+pub empty-board : analyze (game no-draw-winner) unlimited 1 start no-table ≡ gives false one-depth (counted 82 (counts 82 81 0 0 0))
 unfolding searching
 empty-board = refl
 
 -- 82 positions are just enough for depth 1, and one less is not
-pub just-enough : analyze (game Nobody) (at-most 82) 1 start no-table ≡ gives false one-depth (counted 82 (tally 82 81 0 0 0))
+pub just-enough : analyze (game no-draw-winner) (at-most 82) 1 start no-table ≡ gives false one-depth (counted 82 (counts 82 81 0 0 0))
 unfolding searching
 just-enough = refl
 
-pub one-short : analyze (game Nobody) (at-most 81) 1 start no-table ≡ gives true nothing-yet (counted 81 (tally 81 80 0 0 0))
+pub one-short : analyze (game no-draw-winner) (at-most 81) 1 start no-table ≡ gives true nothing-yet (counted 81 (counts 81 80 0 0 0))
 unfolding searching
 one-short = refl
 
 -- nor are they for depth 2: its root is one too many
-pub one-depth-whole : analyze (game Nobody) (at-most 82) 2 start no-table ≡ gives true one-depth (counted 82 (tally 0 0 0 0 0))
+pub one-depth-whole : analyze (game no-draw-winner) (at-most 82) 2 start no-table ≡ gives true one-depth (counted 82 (counts 0 0 0 0 0))
 unfolding searching
 one-depth-whole = refl
 
 -- ---- X;XX@......; and XXX....../XXX....../XX......., the other boards empty: won at depth 1, which ends the search, with all seven moves tried
-pub second-won : analyze (game Nobody) unlimited 3 second no-table
-    ≡ gives false (record { depth = 1; score = won; line = 0x22 ∷ []; stats = at-depth 1 won (tally 8 7 0 0 0) ∷ [] }) (counted 8 (tally 8 7 0 0 0))
+pub second-won : analyze (game no-draw-winner) unlimited 3 second no-table
+    ≡ gives false (record { depth = 1; score = won; line = 0x22 ∷ []; stats = at-depth 1 won (counts 8 7 0 0 0) ∷ [] }) (counted 8 (counts 8 7 0 0 0))
 unfolding searching second position
 second-won = refl
 
@@ -121,41 +116,46 @@ late = position X (Only 5) (InPlay ∷ Won X ∷ InPlay ∷ Won O ∷ Won O ∷ 
     (e ∷ o ∷ x ∷ x ∷ x ∷ e ∷ x ∷ e ∷ x ∷ []) ∷
     (e ∷ o ∷ o ∷ x ∷ x ∷ e ∷ o ∷ o ∷ x ∷ []) ∷ [])
 
--- remembered answers: to 0x26 one in a closed board, to 0x07 one in no board, and to the root's empty move a legal one, which is tried first
-pub illegal-answers :
-    analyze (game Nobody) unlimited 4 late (fresh-memory (set (set no-answers 0x55 0x80) 0x26 0x13) (set (set no-answers 0x07 0x99) no-move 0x55) [])
+-- responses: to 0x26 one in a closed board, to 0x07 one in no board, and to the root's empty move a legal one, which is tried first
+pub illegal-responses :
+    analyze (game no-draw-winner) unlimited 4 late
+    (fresh-memory (record { to-x = set (set none-yet 0x55 0x80) 0x26 0x13; to-o = set (set none-yet 0x07 0x99) no-move 0x55 }) [])
     ≡ gives false (record {
       depth = 4;
       score = lost;
       line = 0x55 ∷ 0x02 ∷ 0x26 ∷ 0x04 ∷ [];
       stats =
-          at-depth 1 (negsuc 17) (tally 3 2 0 0 0) ∷ at-depth 2 (negsuc 44) (tally 14 11 0 0 0) ∷ at-depth 3 (pos 32) (tally 39 25 7 0 0) ∷ at-depth 4 lost (tally 46 24 9 0 0) ∷ [];
+          at-depth 1 (negsuc 17) (counts 3 2 0 0 0) ∷ at-depth 2 (negsuc 44) (counts 14 11 0 0 0) ∷ at-depth 3 (pos 32) (counts 39 25 7 0 0) ∷ at-depth 4 lost (counts 46 24 9 0 0) ∷ [];
     })
     (record {
       count = 102;
-      tally = tally 46 24 9 0 0;
-      answers-x = set (set (set (set (set no-answers 0x04 0x26) 0x07 0x26) 0x26 0x04) 0x50 0x02) 0x55 0x80;
-      answers-o = set (set (set (set (set (set (set no-answers 0x01 0x02) 0x02 0x26) 0x04 0x26) 0x07 0x02) 0x26 0x02) 0x85 0x02) no-move 0x55;
+      tally = counts 46 24 9 0 0;
+      responses = record {
+        to-x = set (set (set (set (set none-yet 0x04 0x26) 0x07 0x26) 0x26 0x04) 0x50 0x02) 0x55 0x80;
+        to-o = set (set (set (set (set (set (set none-yet 0x01 0x02) 0x02 0x26) 0x04 0x26) 0x07 0x02) 0x26 0x02) 0x85 0x02) no-move 0x55;
+      };
       table = [];
     })
 unfolding searching late position
-illegal-answers = refl
+illegal-responses = refl
 
 -- a table of seven entries, all zero: some positions are hit, and some of the hits suffice
 pub table-on :
-    analyze (game Nobody) unlimited 4 late (fresh-memory no-answers no-answers (replicate 21 0))
+    analyze (game no-draw-winner) unlimited 4 late (fresh-memory no-responses (replicate 21 0))
     ≡ gives false (record {
       depth = 4;
       score = lost;
       line = 0x50 ∷ 0x02 ∷ 0x26 ∷ 0x04 ∷ [];
       stats =
-          at-depth 1 (negsuc 17) (tally 3 2 0 0 0) ∷ at-depth 2 (negsuc 44) (tally 8 5 1 1 0) ∷ at-depth 3 (pos 32) (tally 17 9 4 4 1) ∷ at-depth 4 lost (tally 38 18 9 8 2) ∷ [];
+          at-depth 1 (negsuc 17) (counts 3 2 0 0 0) ∷ at-depth 2 (negsuc 44) (counts 8 5 1 1 0) ∷ at-depth 3 (pos 32) (counts 17 9 4 4 1) ∷ at-depth 4 lost (counts 38 18 9 8 2) ∷ [];
     })
     (record {
       count = 66;
-      tally = tally 38 18 9 8 2;
-      answers-x = set (set (set (set (set (set no-answers 0x01 0x26) 0x07 0x26) 0x26 0x01) 0x55 0x02) 0x80 0x01) 0x85 0x01;
-      answers-o = set (set (set no-answers 0x01 0x02) 0x02 0x26) 0x07 0x26;
+      tally = counts 38 18 9 8 2;
+      responses = record {
+        to-x = set (set (set (set (set (set none-yet 0x01 0x26) 0x07 0x26) 0x26 0x01) 0x55 0x02) 0x80 0x01) 0x85 0x01;
+        to-o = set (set (set none-yet 0x01 0x02) 0x02 0x26) 0x07 0x26;
+      };
       table =
           1187711115264183895 ∷ 23 ∷ 131074 ∷ 17237872460323169796 ∷ 17293822569102704640 ∷ 2490626 ∷
           18162194893700427145 ∷ 17293822569102704640 ∷ 5242884 ∷ 813318904449498611 ∷ 1152921504606846976 ∷ 131331 ∷

@@ -1,7 +1,7 @@
 -- The written rules are a lawful game, so the theory of the search holds of them.
 use Rattle.base.proofs.Bool.{not-not}
-use Rattle.rules.specs.declared.DrawWinner.{DrawWinner}
 use Rattle.rules.specs.Position.{going}
+use Rattle.rules.specs.Evaluation.{Scoring}
 use Rattle.rules.proofs.Moves.{moves-are-accepted}
 use Rattle.rules.proofs.Sound.{Good, play-stays-good, some-move}
 use Rattle.rules.proofs.Evaluation.{value-inside, finished-within}
@@ -9,12 +9,12 @@ use Rattle.theory.proofs.Plain.{Lawful}
 use Rattle.reference.specs.Reference.{game}
 
 -- with every draw winner: the good positions are the proper ones that are sound while unfinished
-abbrev pub rules-lawful : (draws : DrawWinner) → Lawful (game draws)
-rules-lawful draws = record {
+abbrev pub rules-lawful : (sc : Scoring) → Lawful (game sc)
+rules-lawful sc = record {
   Good = Good;
   good-play = λ p g _ m _. play-stays-good p g m;
   listed = λ p _ _ m. moves-are-accepted p m;
   some-move = λ p g t. some-move p g (not-not (going p) t);
-  inside = λ p _ t. value-inside draws p (not-not (going p) t);
-  within = λ p _ t. finished-within draws p t;
+  inside = λ p _ t. value-inside sc p (not-not (going p) t);
+  within = λ p _ t. finished-within sc p t;
 }

@@ -1,5 +1,4 @@
 pub mod Lawful
-pub mod Kept
 pub mod Wins
 pub mod Truth
 pub mod Search

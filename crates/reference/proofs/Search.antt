@@ -5,18 +5,16 @@ use mathlib.Core.List.{List}
 use mathlib.Core.Logic.{inl, inr}
 use Prim.Native.Nat.{ℕ, zero, suc, _≤_, _<_}
 use native.Mathlib.Omega.{arith}
-use lib.Dec.{T}
+use lib.Dec.{T, T-not}
 use lib.IntN.{pos}
-use Rattle.base.proofs.Bool.{is, deny}
+use Rattle.base.proofs.Bool.{is}
 use Rattle.base.proofs.Integers.{hi, lo, zarith}
 use Rattle.rules.specs.declared.Player.{Player}
 use Rattle.rules.specs.declared.Player.the-variants.{X, O}
-use Rattle.rules.specs.declared.DrawWinner.{DrawWinner}
-use Rattle.rules.specs.declared.DrawWinner.the-variants.{Nobody}
 use Rattle.rules.specs.Position.{Position, start, going}
 use Rattle.rules.specs.Play.{reached}
 use Rattle.rules.specs.Status.{allows, alone}
-use Rattle.rules.specs.Evaluation.{won, seen-by}
+use Rattle.rules.specs.Evaluation.{Scoring, no-draw-winner, won, seen-by}
 use Rattle.rules.specs.Endgame.{analysis}
 use Rattle.rules.proofs.Sound.{Good, start-is-good, reached-good}
 use Rattle.theory.specs.Table.{off}
@@ -42,7 +40,7 @@ not-nothing X O e = omega zarith
 not-nothing O X e = omega zarith
 not-nothing O O e = omega zarith
 
--- for every list of tried moves, refused ones among them, that leaves the game unfinished; remembered answers of any kind
+-- for every list of tried moves, refused ones among them, that leaves the game unfinished; response tables of any kind
 module _ (ms : List ℕ) (t : T (going (reached start ms))) (s : Memory) (table-off : T (off (s .table))) (from-none : s .count ≡ 0) (k : ℕ) where
   abbrev p : Position
   p = reached start ms
@@ -50,22 +48,22 @@ module _ (ms : List ℕ) (t : T (going (reached start ms))) (s : Memory) (table-
   g : Good p
   g = reached-good start start-is-good ms
 
-  module _ (draws : DrawWinner) (n : ℕ) where
-    limited : Limited (game draws) n (suc k) p s
-    limited = allowance-limits (game draws) n (suc k) p s (omega arith)
+  module _ (sc : Scoring) (n : ℕ) where
+    limited : Limited (game sc) n (suc k) p s
+    limited = allowance-limits (game sc) n (suc k) p s (omega arith)
 
     -- if the allowance suffices, the answer is right for the limit
-    pub unstopped-right : entries draws (suc k) p s ≤ n → AnswersWhole draws k p (analyze (game draws) (at-most n) (suc k) p s)
+    pub unstopped-right : entries sc (suc k) p s ≤ n → AnswersWhole sc k p (analyze (game sc) (at-most n) (suc k) p s)
     unstopped-right h = record { unmarked = unmarked; right = r; first-attains = r .first (unfinished p t) }
       where
-        unmarked : T (not (analyze (game draws) (at-most n) (suc k) p s .is-stopped))
+        unmarked : T (not (analyze (game sc) (at-most n) (suc k) p s .is-stopped))
         unmarked = subst (λ (x : Answer). T (not (x .is-stopped))) (sym (limited .enough h)) (limited .unlimited-whole)
 
-        r : Right (game draws) k p (analyze (game draws) (at-most n) (suc k) p s .whole)
-        r = analyze-right (game draws) (rules-lawful draws) (at-most n) k p g s table-off unmarked
+        r : Right (game sc) k p (analyze (game sc) (at-most n) (suc k) p s .whole)
+        r = analyze-right (game sc) (rules-lawful sc) (at-most n) k p g s table-off unmarked
 
     -- else the search is stopped, and its answer is right for the last whole depth
-    pub stopped-right-too : n < entries draws (suc k) p s → AnswersSpent draws n k p s (analyze (game draws) (at-most n) (suc k) p s)
+    pub stopped-right-too : n < entries sc (suc k) p s → AnswersSpent sc n k p s (analyze (game sc) (at-most n) (suc k) p s)
     unfolding analyze deepen
     stopped-right-too h = let z = limited .spent h in record {
       marked = z .marked;
@@ -73,8 +71,8 @@ module _ (ms : List ℕ) (t : T (going (reached start ms))) (s : Memory) (table-
       shallower = omega (arith, z .shallower);
       fits = z .fits;
       next-too-many = z .next-too-many;
-      right-so-far = stopped-right (game draws) (rules-lawful draws) n (suc k) p g s table-off (omega arith) (z .marked);
-      nothing-so-far = λ e. z .whole-is ∙ ap (λ (d : ℕ). analyze (game draws) unlimited d p s .whole) e;
+      right-so-far = stopped-right (game sc) (rules-lawful sc) n (suc k) p g s table-off (omega arith) (z .marked);
+      nothing-so-far = λ e. z .whole-is ∙ ap (λ (d : ℕ). analyze (game sc) unlimited d p s .whole) e;
     }
 
   -- ---- with no draw winner, what the endgame status says
@@ -82,31 +80,31 @@ module _ (ms : List ℕ) (t : T (going (reached start ms))) (s : Memory) (table-
   tells = good-status-tells p g t
 
   -- a side that it leaves alone, without a draw: every search that is not stopped, to a limit of three or more, scores that side's win
-  pub alone-scores : (n : ℕ) → entries Nobody (suc k) p s ≤ n → 2 ≤ k → (w : Player) → T (alone (analysis p .status) w) →
-      analyze (game Nobody) (at-most n) (suc k) p s .whole .score ≡ win-for w p
-  alone-scores n h two w a = unstopped-right Nobody n h .right .score-is ∙ tells .alone-wins w a (suc k) (omega arith)
+  pub alone-scores : (n : ℕ) → entries no-draw-winner (suc k) p s ≤ n → 2 ≤ k → (w : Player) → T (alone (analysis p .status) w) →
+      analyze (game no-draw-winner) (at-most n) (suc k) p s .whole .score ≡ win-for w p
+  alone-scores n h two w a = unstopped-right no-draw-winner n h .right .score-is ∙ tells .alone-wins w a (suc k) (omega arith)
 
   module _ (w : Player) (out : T (not (allows (analysis p .status) w))) where
-    never-right : (j : ℕ) (x : Whole) → Right (game Nobody) j p x → x .score ≡ win-for w p → ⊥
+    never-right : (j : ℕ) (x : Whole) → Right (game no-draw-winner) j p x → x .score ≡ win-for w p → ⊥
     never-right j x r e = tells .left-out-never w out (suc j) (sym (r .score-is) ∙ e)
 
-    stopped-never : (a : Allowance) → T (analyze (game Nobody) a (suc k) p s .is-stopped) → analyze (game Nobody) a (suc k) p s .whole .score ≡ win-for w p → ⊥
-    stopped-never unlimited u e = deny (analyze (game Nobody) unlimited (suc k) p s .is-stopped) (limited Nobody 0 .unlimited-whole) u
+    stopped-never : (a : Allowance) → T (analyze (game no-draw-winner) a (suc k) p s .is-stopped) → analyze (game no-draw-winner) a (suc k) p s .whole .score ≡ win-for w p → ⊥
+    stopped-never unlimited u e = T-not (analyze (game no-draw-winner) unlimited (suc k) p s .is-stopped) (limited no-draw-winner 0 .unlimited-whole) u
     stopped-never (at-most n) u e = by-depth (x .whole .depth) refl
       where
         x : Answer
-        x = analyze (game Nobody) (at-most n) (suc k) p s
+        x = analyze (game no-draw-winner) (at-most n) (suc k) p s
 
-        z : AnswersSpent Nobody n k p s x
-        z = stopped-right-too Nobody n (mark-means-spent (game Nobody) n (suc k) p s (omega arith) u)
+        z : AnswersSpent no-draw-winner n k p s x
+        z = stopped-right-too no-draw-winner n (mark-means-spent (game no-draw-winner) n (suc k) p s (omega arith) u)
 
         by-depth : (d : ℕ) → x .whole .depth ≡ d → ⊥
         by-depth zero h = not-nothing (p .turn) w (sym (ap (λ (y : Whole). y .score) (z .nothing-so-far h)) ∙ e)
         by-depth (suc j) h = never-right j (x .whole) (z .right-so-far j h) e
 
     -- a side that it leaves out: no search, stopped or not, scores that side's win
-    pub left-out-never-scores : (a : Allowance) → analyze (game Nobody) a (suc k) p s .whole .score ≡ win-for w p → ⊥
-    left-out-never-scores a e = elim (is (analyze (game Nobody) a (suc k) p s .is-stopped)) [
+    pub left-out-never-scores : (a : Allowance) → analyze (game no-draw-winner) a (suc k) p s .whole .score ≡ win-for w p → ⊥
+    left-out-never-scores a e = elim (is (analyze (game no-draw-winner) a (suc k) p s .is-stopped)) [
       | inl u ↦ stopped-never a u e
-      | inr u ↦ never-right k _ (analyze-right (game Nobody) (rules-lawful Nobody) a k p g s table-off u) e
+      | inr u ↦ never-right k _ (analyze-right (game no-draw-winner) (rules-lawful no-draw-winner) a k p g s table-off u) e
     ]

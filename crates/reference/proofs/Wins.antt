@@ -4,10 +4,10 @@ use mathlib.Core.Bool.{not}
 use mathlib.Core.Logic.{inl, inr}
 use Prim.Native.Nat.{ℕ, zero, suc, _<_}
 use native.Mathlib.Omega.{arith}
-use lib.Dec.{T, ltb, eqb-refl, ltb→lt}
+use lib.Dec.{T, ltb, eqb-refl, ltb→lt, T-not, not-T}
 use lib.IntN.{ℤ, negℤ, negℤ-negℤ}
 use Rattle.base.specs.Lists.{In}
-use Rattle.base.proofs.Bool.{and→, →and, →or-l, deny, →not, is}
+use Rattle.base.proofs.Bool.{and→, →and, →or-l, is}
 use Rattle.base.proofs.Branch.{if-ind}
 use Rattle.base.proofs.Integers.{hi, lo, zarith}
 use Rattle.base.proofs.Lists.{any-some, some-any}
@@ -15,7 +15,6 @@ use Rattle.rules.specs.declared.Player.{Player}
 use Rattle.rules.specs.declared.Player.the-variants.{X, O}
 use Rattle.rules.specs.declared.GameState.{GameState}
 use Rattle.rules.specs.declared.GameState.the-variants.{InPlay, Drawn, Won}
-use Rattle.rules.specs.declared.DrawWinner.the-variants.{Nobody}
 use Rattle.rules.specs.declared.NextBoard.{NextBoard}
 use Rattle.rules.specs.declared.NextBoard.the-variants.{Any, Only}
 use Rattle.rules.specs.Board.{other, in-play, won-by, nine}
@@ -23,7 +22,7 @@ use Rattle.rules.specs.Position.{Position, going, open-board, won-boards, free-
 use Rattle.rules.specs.Play.{move-of, board-of, cell-of, may, accepts, after, tried}
 use Rattle.rules.specs.Moves.{moves}
 use Rattle.rules.specs.Sound.{due-open}
-use Rattle.rules.specs.Evaluation.{won, lost, seen-by, value-of, evaluate}
+use Rattle.rules.specs.Evaluation.{no-draw-winner, won, lost, seen-by, value-of, evaluate}
 use Rattle.rules.specs.Endgame.{winning, critical, has-critical, all-suit, lure, attack, prove-attacker, forced, forced-loss, winnable}
 use Rattle.rules.proofs.Board.{other-other, side, in-nine, nine-in, result-some}
 use Rattle.rules.proofs.Play.{Legal, accepts→, tried-accepted, tried-at}
@@ -37,14 +36,14 @@ use Rattle.reference.specs.Reference.{game, plain-minimax, win-for}
 use Rattle.reference.proofs.Lawful.{rules-lawful}
 
 abbrev mm : ℕ → Position → ℤ
-mm d p = plain-minimax Nobody d p
+mm d p = plain-minimax no-draw-winner d p
 
-abbrev lawful : Lawful (game Nobody)
-lawful = rules-lawful Nobody
+abbrev lawful : Lawful (game no-draw-winner)
+lawful = rules-lawful no-draw-winner
 
 -- what the search asks of a position before it goes on
 pub unfinished : (p : Position) → T (going p) → T (not (not (going p)))
-unfinished p t = →not (not (going p)) (λ u. deny (going p) u t)
+unfinished p t = not-T (not (going p)) (λ u. T-not (going p) u t)
 
 -- ---- the value of a won game: for its winner to move, and for the other side
 pub own-win : (v : Player) → seen-by v (seen-by v won) ≡ won
@@ -61,11 +60,11 @@ lost-to w v e = ap (λ (u : Player). seen-by u (seen-by w won)) e ∙ ap (λ (u 
 
 is-lost : (d : ℕ) (w : Player) (q : Position) → q .state ≡ Won w → q .turn ≡ other w → mm d q ≡ lost
 unfolding evaluate
-is-lost d w q e f = plain-over (game Nobody) d q (subst (λ (g : GameState). T (not (in-play g))) (sym e) tt) ∙ ap (λ (g : GameState). seen-by (q .turn) (value-of Nobody q g)) e ∙ lost-to w (q .turn) f
+is-lost d w q e f = plain-over (game no-draw-winner) d q (subst (λ (g : GameState). T (not (in-play g))) (sym e) tt) ∙ ap (λ (g : GameState). seen-by (q .turn) (value-of no-draw-winner q g)) e ∙ lost-to w (q .turn) f
 
 -- ---- in one: the side to move may play in a critical board of its own
-pub wins-in-1 : (p : Position) → Good p → T (going p) → (k : ℕ) → k < 9 → T (critical p (p .turn) k) → T (may (p .due) k) → plain-minimax Nobody 1 p ≡ won
-wins-in-1 p g t k h cr m = one-wins (game Nobody) lawful 0 p g (unfinished p t) (move-of k (w .0)) (legal-is-listed p k (w .0) l)
+pub wins-in-1 : (p : Position) → Good p → T (going p) → (k : ℕ) → k < 9 → T (critical p (p .turn) k) → T (may (p .due) k) → plain-minimax no-draw-winner 1 p ≡ won
+wins-in-1 p g t k h cr m = one-wins (game no-draw-winner) lawful 0 p g (unfinished p t) (move-of k (w .0)) (legal-is-listed p k (w .0) l)
     (subst (λ (q : Position). mm 0 q ≡ lost) (sym (tried-at p k (w .0) l)) (is-lost 0 (p .turn) (after p k (w .0)) (critical-wins p k (w .0) l cr (w .2)) (after-turn p k (w .0))))
   where
     w : (c : ℕ) × In c nine × T (winning (p .turn) (p .cells k) c)
@@ -105,11 +104,11 @@ module _ (p : Position) (g : Good p) (t : T (going p)) (b : ℕ) (due : p .due �
       z = lands p b c l w k k9 cr away (sends c (l .cell) (l .empty))
 
   -- so every move loses
-  pub loses-in-2 : plain-minimax Nobody 2 p ≡ lost
-  loses-in-2 = all-lose (game Nobody) lawful 1 p g (unfinished p t) loses-each
+  pub loses-in-2 : plain-minimax no-draw-winner 2 p ≡ lost
+  loses-in-2 = all-lose (game no-draw-winner) lawful 1 p g (unfinished p t) loses-each
 
 -- a forced loss, where the side to move has no attack of its own
-pub forced-loses : (p : Position) → Good p → T (going p) → T (not (prove-attacker p)) → T (forced-loss p) → plain-minimax Nobody 2 p ≡ lost
+pub forced-loses : (p : Position) → Good p → T (going p) → T (not (prove-attacker p)) → T (forced-loss p) → plain-minimax no-draw-winner 2 p ≡ lost
 unfolding forced-loss has-critical
 forced-loses p g t n f = loses-in-2 p g t b (s .1) still v refl (k .0) (nine-in (k .0) (k .1)) (k .2) (crit-apart p v (k .0) b (k .2) (s .2))
     (λ c c9 f o. let q = suits-at p v b c (s .3) c9 f o in (q, crit-apart p v c b q (s .2)))
@@ -133,7 +132,7 @@ forced-loses p g t n f = loses-in-2 p g t b (s .1) still v refl (k .0) (nine-in 
     b9 = ltb→lt b 9 (and→ (ltb b 9) _ (subst (λ (d : NextBoard). T (due-open p d)) (s .1) (g .due-is)) .0)
 
     still : T (not (critical p (p .turn) b))
-    still = →not (critical p (p .turn) b) (λ u. deny (prove-attacker p) n (unfold prove-attacker in (→and (has-critical p (p .turn)) _ (some-any (critical p (p .turn)) b nine (in-nine b b9) u)
+    still = not-T (critical p (p .turn) b) (λ u. T-not (prove-attacker p) n (unfold prove-attacker in (→and (has-critical p (p .turn)) _ (some-any (critical p (p .turn)) b nine (in-nine b b9) u)
         (subst (λ (d : NextBoard). T (attack p (p .turn) d)) (sym (s .1)) (unfold attack in (→or-l (critical p (p .turn) b) _ u))))))
 
 -- ---- won in three: the side to move has a critical board, and sends the other side from board b, which is due, to board i, from where it cannot but
@@ -158,7 +157,7 @@ module _ (p : Position) (g : Good p) (t : T (going p)) (b : ℕ) (due : p .due �
 
   due-there : q .due ≡ Only i
   unfolding after
-  due-there = if-ind (λ (d : NextBoard). d ≡ Only i) (open-board q i) _ _ (λ _. refl) (λ u. absurd (deny (open-board q i) u still-open))
+  due-there = if-ind (λ (d : NextBoard). d ≡ Only i) (open-board q i) _ _ (λ _. refl) (λ u. absurd (T-not (open-board q i) u still-open))
 
   sends-back : (c : ℕ) → c < 9 → T (free-cell q i c) → T (open-board q c) → T (critical q (p .turn) c) × (i ≡ c → ⊥)
   sends-back c c9 f o =
@@ -166,7 +165,7 @@ module _ (p : Position) (g : Good p) (t : T (going p)) (b : ℕ) (due : p .due �
       (crit-still p b i l (p .turn) c (crit-apart p (p .turn) c b u quiet) u, crit-apart p (p .turn) c i u (lured .not-own))
 
   no-win-there : T (not (critical q (q .turn) i))
-  no-win-there = subst (λ (v : Player). T (not (critical q v i))) (sym (after-turn p b i)) (→not (critical q (other (p .turn)) i) (λ u. deny (critical p (other (p .turn)) i) (lured .not-others) (crit-before p b i l i (lured .away) u)))
+  no-win-there = subst (λ (v : Player). T (not (critical q v i))) (sym (after-turn p b i)) (not-T (critical q (other (p .turn)) i) (λ u. T-not (critical p (other (p .turn)) i) (lured .not-others) (crit-before p b i l i (lured .away) u)))
 
   loses-there : mm 2 q ≡ lost
   loses-there = elim (result-some (p .turn) (won-boards q (p .turn)) (open-board q) (some-any (open-board q) i nine (in-nine i i9) still-open)) [
@@ -176,11 +175,11 @@ module _ (p : Position) (g : Good p) (t : T (going p)) (b : ℕ) (due : p .due �
   ]
 
   -- so that move wins
-  pub wins-in-3 : plain-minimax Nobody 3 p ≡ won
-  wins-in-3 = one-wins (game Nobody) lawful 2 p g (unfinished p t) (move-of b i) (legal-is-listed p b i l) (subst (λ (q : Position). mm 2 q ≡ lost) (sym (tried-at p b i l)) loses-there)
+  pub wins-in-3 : plain-minimax no-draw-winner 3 p ≡ won
+  wins-in-3 = one-wins (game no-draw-winner) lawful 2 p g (unfinished p t) (move-of b i) (legal-is-listed p b i l) (subst (λ (q : Position). mm 2 q ≡ lost) (sym (tried-at p b i l)) loses-there)
 
 -- an attack, at once or by sending the other side away
-pub attacker-wins : (p : Position) → Good p → T (going p) → T (prove-attacker p) → plain-minimax Nobody 3 p ≡ won
+pub attacker-wins : (p : Position) → Good p → T (going p) → T (prove-attacker p) → plain-minimax no-draw-winner 3 p ≡ won
 unfolding prove-attacker has-critical
 attacker-wins p g t a = go (p .due) refl (r .1) (g .due-is)
   where
@@ -191,13 +190,13 @@ attacker-wins p g t a = go (p .due) refl (r .1) (g .due-is)
     k = any-some (critical p (p .turn)) nine (r .0)
 
     at-once : (j : ℕ) → j < 9 → T (critical p (p .turn) j) → T (may (p .due) j) → mm 3 p ≡ won
-    at-once j h c m = stays-won-to (game Nobody) lawful 2 1 3 p g (omega arith) (wins-in-1 p g t j h c m)
+    at-once j h c m = stays-won-to (game no-draw-winner) lawful 2 1 3 p g (omega arith) (wins-in-1 p g t j h c m)
 
     go : (d : NextBoard) → p .due ≡ d → T (attack p (p .turn) d) → T (due-open p d) → mm 3 p ≡ won
     go Any e h o = at-once (k .0) (nine-in (k .0) (k .1)) (k .2) (subst (λ (d : NextBoard). T (may d (k .0))) (sym e) tt)
     go (Only b) e h o = elim (is (critical p (p .turn) b)) [
       | inl u ↦ at-once b b9 u (subst (λ (d : NextBoard). T (may d b)) (sym e) (eqb-refl b))
-      | inr u ↦ elim (attack→ p (p .turn) b h) [ inl v ↦ absurd (deny (critical p (p .turn) b) u v) | inr v ↦ by-lure u (any-some (lure p (p .turn) b) nine v) ]
+      | inr u ↦ elim (attack→ p (p .turn) b h) [ inl v ↦ absurd (T-not (critical p (p .turn) b) u v) | inr v ↦ by-lure u (any-some (lure p (p .turn) b) nine v) ]
     ]
       where
         b9 : b < 9
@@ -230,7 +229,7 @@ seen-back : (v : Player) (a b : ℤ) → seen-by v a ≡ seen-by v b → a ≡ b
 seen-back X a b e = e
 seen-back O a b e = sym (negℤ-negℤ a) ∙ ap negℤ e ∙ negℤ-negℤ b
 
-not-won-value : (w : Player) (p : Position) (g : GameState) → T (not (won-by w g)) → value-of Nobody p g ≡ seen-by w won → ⊥
+not-won-value : (w : Player) (p : Position) (g : GameState) → T (not (won-by w g)) → value-of no-draw-winner p g ≡ seen-by w won → ⊥
 unfolding hi lo
 not-won-value X p InPlay n e = omega (zarith, score-within p)
 not-won-value O p InPlay n e = omega (zarith, score-within p)
@@ -241,22 +240,22 @@ not-won-value X p (Won O) n e = omega zarith
 not-won-value O p (Won X) n e = omega zarith
 not-won-value O p (Won O) n e = n
 
-value-not-won : (w : Player) (p : Position) → Never w p → evaluate Nobody p ≡ win-for w p → ⊥
+value-not-won : (w : Player) (p : Position) → Never w p → evaluate no-draw-winner p ≡ win-for w p → ⊥
 unfolding evaluate
 value-not-won w p n e = not-won-value w p (p .state) (n .not-yet) (seen-back (p .turn) _ _ e)
 
 -- wins at no depth
-pub never-wins : (d : ℕ) (w : Player) (p : Position) → Good p → Never w p → plain-minimax Nobody d p ≡ win-for w p → ⊥
+pub never-wins : (d : ℕ) (w : Player) (p : Position) → Good p → Never w p → plain-minimax no-draw-winner d p ≡ win-for w p → ⊥
 unfolding plain
 never-wins zero w p g n e = value-not-won w p n e
 never-wins (suc d) w p g n e = elim (is (going p)) [
-  | inr u ↦ value-not-won w p n (sym (plain-over (game Nobody) (suc d) p u) ∙ e)
+  | inr u ↦ value-not-won w p n (sym (plain-over (game no-draw-winner) (suc d) p u) ∙ e)
   | inl u ↦ side (λ v. Never v p → mm (suc d) p ≡ win-for v p → ⊥) (p .turn)
-      (λ n e. let r = won-by-one (game Nobody) lawful d p g (unfinished p u) (e ∙ own-win (p .turn)) in
+      (λ n e. let r = won-by-one (game no-draw-winner) lawful d p g (unfinished p u) (e ∙ own-win (p .turn)) in
       never-wins d (p .turn) (tried p (r .0)) (play-stays-good p g (r .0)) (never-after (p .turn) p (r .0) (r .1) n) (r .2 ∙ sym (lost-to (p .turn) (tried p (r .0) .turn) (turn-after p (r .0) (r .1)))))
       (λ n e. let m = some-move p g u in
       never-wins d (other (p .turn)) (tried p (m .0)) (play-stays-good p g (m .0)) (never-after (other (p .turn)) p (m .0) (m .1) n)
-      (lost-by-all (game Nobody) lawful d p g (unfinished p u) (e ∙ other-win (p .turn)) (m .0) (m .1)
+      (lost-by-all (game no-draw-winner) lawful d p g (unfinished p u) (e ∙ other-win (p .turn)) (m .0) (m .1)
       ∙ sym (ap (λ (v : Player). seen-by v (seen-by (other (p .turn)) won)) (turn-after p (m .0) (m .1)) ∙ own-win (other (p .turn)))))
       w n e
 ]

@@ -6,6 +6,7 @@ use decimals::Count;
 use decimals::Number;
 use minimax::Config;
 use minimax::Minimax;
+use minimax::ResponseTables;
 use notation::ParseAnswer;
 use records::Draw;
 use records::Outcome;
@@ -14,7 +15,7 @@ use rules::DrawWinner;
 // The most numbers of a field.
 const MOST: usize = 1024;
 
-// What is found of a search, and the answers remembered after it.
+// What is found of a search, and the response tables after it.
 pub struct Step {
     pub outcome: Outcome,
     pub state: Minimax,
@@ -34,8 +35,9 @@ fn differs(state: Minimax) -> Step {
 }
 
 fn with_answer(state: Minimax, side: u64, prev: u64, answer: u64) -> Minimax {
-    let mut x = state.answers_x;
-    let mut o = state.answers_o;
+    let responses = state.responses;
+    let mut x = responses.x;
+    let mut o = responses.o;
     let at = (prev % 256) as usize;
     let m = Move {
         bits: (answer % 256) as u8,
@@ -46,8 +48,7 @@ fn with_answer(state: Minimax, side: u64, prev: u64, answer: u64) -> Minimax {
         o[at] = m;
     }
     Minimax {
-        answers_x: x,
-        answers_o: o,
+        responses: ResponseTables { x, o },
     }
 }
 

@@ -42,8 +42,9 @@ fn mixed_answers(h: u64, answers: [Move; 256]) -> u64 {
 }
 
 pub fn of_answers(state: Minimax) -> u64 {
-    let x = state.answers_x;
-    let o = state.answers_o;
+    let responses = state.responses;
+    let x = responses.x;
+    let o = responses.o;
     mixed_answers(mixed_answers(START, x), o)
 }
 
@@ -69,10 +70,11 @@ fn how_many(before: usize, answers: [Move; 256]) -> usize {
     n
 }
 
-// How many moves have an answer.
+// How many moves have a response.
 pub fn remembered(state: Minimax) -> u64 {
-    let x = state.answers_x;
-    let o = state.answers_o;
+    let responses = state.responses;
+    let x = responses.x;
+    let o = responses.o;
     how_many(how_many(0, x), o) as u64
 }
 

@@ -1,14 +1,14 @@
 // What a record expects of a search. The numbers are, from 0 on: ending, count, depth, the score's sign and size, the digest and the number of
-// the remembered answers and of the table's entries, the line, and eight numbers of each depth (tools/lists.py).
+// the response tables and of the table's entries, the line, and eight numbers of each depth (tools/lists.py).
 ghost use Prim.Native.Nat.{_<_, _≤_};
 ghost use Rattle.theory.specs.Limits.{console};
 use crate::digest;
 use boards::Move;
+use boards::PLACES;
 use decimals::Signed;
 use minimax::Ending;
 use minimax::Report;
 use minimax::Stats;
-use table::PLACES;
 
 // The numbers before the line.
 const HEAD: usize = 9;

@@ -4,11 +4,13 @@ use mathlib.Core.Bool.{Bool, not}
 use mathlib.Core.Logic.{_⊎_, inl, inr}
 use Prim.Native.Nat.{ℕ, _<_}
 use native.Mathlib.Omega.{arith}
-use lib.Dec.{T}
+use lib.Dec.{T, T-not, not-T, eqb, eqb→eq}
+use lib.ListN.{getD}
 use Rattle.base.specs.Lists.{any, In}
-use Rattle.base.proofs.Bool.{and→, →and, deny, →not, is}
+use Rattle.base.proofs.Bool.{and→, →and, is}
 use Rattle.base.proofs.Branch.{if-ind}
 use Rattle.base.proofs.Lists.{any-mono, in-from, from-in}
+use Rattle.base.proofs.Every.{upTo-at}
 use Rattle.rules.specs.declared.Player.{Player}
 use Rattle.rules.specs.declared.Player.the-variants.{X, O}
 use Rattle.rules.specs.declared.GameState.{GameState}
@@ -52,6 +54,10 @@ in-nine i h = in-from 0 9 i (omega arith) (omega arith)
 pub nine-in : (i : ℕ) → In i nine → i < 9
 nine-in i h = let r = from-in 0 9 i h in omega arith
 
+-- they stand in their order
+pub nine-at : (i : ℕ) → i < 9 → getD nine i 0 ≡ i
+nine-at i h = eqb→eq (getD nine i 0) i (upTo-at (λ i. eqb (getD nine i 0) i) 9 tt i h)
+
 -- ---- states
 -- a board in play is nobody's
 pub open-not-won : (w : Player) (g : GameState) → T (in-play g) → T (not (won-by w g))
@@ -77,7 +83,7 @@ line-mono f g h = any-mono (whole f) (whole g) lines (λ l t.
     →and (g (l .i)) _ (h _ (a .0)) (→and (g (l .j)) _ (h _ (b .0)) (h _ (b .1))))
 
 pub no-line-mono : (f g : ℕ → Bool) → ((i : ℕ) → T (f i) → T (g i)) → T (not (has-line g)) → T (not (has-line f))
-no-line-mono f g h t = →not (has-line f) (λ u. deny (has-line g) t (line-mono f g h u))
+no-line-mono f g h t = not-T (has-line f) (λ u. T-not (has-line g) t (line-mono f g h u))
 
 -- ---- what a move makes of a board, or of the game
 module _ (w : Player) (own left : ℕ → Bool) where
@@ -90,11 +96,11 @@ module _ (w : Player) (own left : ℕ → Bool) where
 
   -- a line wins
   pub result-line : T (has-line own) → result w own left ≡ Won w
-  result-line t = result-cases (λ g. g ≡ Won w) (λ _. refl) (λ n _. absurd (deny (has-line own) n t)) (λ n _. absurd (deny (has-line own) n t))
+  result-line t = result-cases (λ g. g ≡ Won w) (λ _. refl) (λ n _. absurd (T-not (has-line own) n t)) (λ n _. absurd (T-not (has-line own) n t))
 
   -- without a line, and with something left, it is in play
   pub result-left : T (not (has-line own)) → T (any left nine) → result w own left ≡ InPlay
-  result-left n t = result-cases (λ g. g ≡ InPlay) (λ u. absurd (deny (has-line own) n u)) (λ _ _. refl) (λ _ u. absurd (deny (any left nine) u t))
+  result-left n t = result-cases (λ g. g ≡ InPlay) (λ u. absurd (T-not (has-line own) n u)) (λ _ _. refl) (λ _ u. absurd (T-not (any left nine) u t))
 
   -- in play there is no line, and something is left
   pub result-open : T (in-play (result w own left)) → T (not (has-line own)) × T (any left nine)

@@ -1,6 +1,6 @@
 -- Laws of what is counted of a position and of the Rust's comparison. A move fills an empty cell of an open board and opens none, so the bound falls.
 use mathlib.Core.Path.{_≡_, refl, sym, ap, subst}
-use mathlib.Core.Bool.{Bool, true, false, not, cond}
+use mathlib.Core.Bool.{Bool, true, false, cond}
 use mathlib.Core.List.{List, [], _∷_}
 use mathlib.Core.Logic.{_↔_, inl, inr}
 use Prim.Native.Nat.{ℕ, _+_, _≤_, _<_}
@@ -104,7 +104,7 @@ same-cell-self : (s : CellState) → T (same-cell s s)
 same-cell-self Empty = tt
 same-cell-self (Played w) = same-self w
 
-same-state-self : (g : GameState) → T (same-state g g)
+pub same-state-self : (g : GameState) → T (same-state g g)
 same-state-self InPlay = tt
 same-state-self Drawn = tt
 same-state-self (Won w) = same-self w

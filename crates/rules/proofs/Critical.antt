@@ -3,11 +3,11 @@ use mathlib.Core.Path.{_≡_, refl, sym, subst}
 use mathlib.Core.Bool.{Bool, true, false, not, cond, _||_, _&&_}
 use mathlib.Core.Logic.{_↔_}
 use Prim.Native.Nat.{ℕ, _+_, _<_}
-use lib.Dec.{T, eqb, eqb→eq}
+use lib.Dec.{T, eqb, eqb→eq, T-not, not-T}
 use Rattle.base.specs.Branch.{if_then_else_}
 use Rattle.base.specs.Lists.{any, all, In}
 use Rattle.base.specs.Change.{put}
-use Rattle.base.proofs.Bool.{and→, →and, deny, →not, always, _⇒_, ⇒→, →⇒}
+use Rattle.base.proofs.Bool.{and→, →and, always, _⇒_, ⇒→, →⇒}
 use Rattle.base.proofs.Lists.{any-some, some-any, any-mono, all-each}
 use Rattle.rules.specs.declared.Player.{Player}
 use Rattle.rules.specs.declared.CellState.{CellState}
@@ -65,7 +65,7 @@ unfolding all
 places-differ l h = all-each (λ l. not (eqb (l .i) (l .j)) && (not (eqb (l .i) (l .k)) && not (eqb (l .j) (l .k)))) l lines tt h
 
 not-two : (c i j : ℕ) → T (not (eqb i j)) → T (not (eqb c i && eqb c j))
-not-two c i j n = →not (eqb c i && eqb c j) (λ t. let r = and→ (eqb c i) _ t in deny (eqb i j) n (subst (λ (x : ℕ). T (eqb x j)) (eqb→eq c i (r .0)) (r .1)))
+not-two c i j n = not-T (eqb c i && eqb c j) (λ t. let r = and→ (eqb c i) _ t in T-not (eqb i j) n (subst (λ (x : ℕ). T (eqb x j)) (eqb→eq c i (r .0)) (r .1)))
 
 put-or : (own : ℕ → Bool) (c i : ℕ) → put own c true i ≡ (eqb c i || own i)
 unfolding put if_then_else_
@@ -115,17 +115,17 @@ module _ (own empty : ℕ → Bool) (apart : (i : ℕ) → T (not (own i && empt
           let r = any-some (whole (put own c true)) lines t in let l = r .0 in
           some-any (sole-empty own empty c) l lines (r .1)
           (⇒→ (full l && not (whole own l)) _ (and→ (sole-empty own empty c l ⇒ (full l && not (whole own l))) _ (at-line l (r .1)) .1)
-          (→and (full l) _ (subst (λ (x : Bool). T x) (with-c l) (r .2)) (→not (whole own l) (λ u. deny (has-line own) none (some-any (whole own) l lines (r .1) u)))))
+          (→and (full l) _ (subst (λ (x : Bool). T x) (with-c l) (r .2)) (not-T (whole own l) (λ u. T-not (has-line own) none (some-any (whole own) l lines (r .1) u)))))
 
 -- ---- the written critical boards of a sound position are the Rust's
 won-not-open : (w : Player) (g : GameState) → T (not (won-by w g && in-play g))
 won-not-open w InPlay = tt
 won-not-open w Drawn = tt
-won-not-open w (Won v) = →not (same w v && false) (λ t. and→ (same w v) _ t .1)
+won-not-open w (Won v) = not-T (same w v && false) (λ t. and→ (same w v) _ t .1)
 
 mine-not-blank : (w : Player) (s : CellState) → T (not (mine w s && blank s))
 mine-not-blank w Empty = tt
-mine-not-blank w (Played v) = →not (same w v && false) (λ t. and→ (same w v) _ t .1)
+mine-not-blank w (Played v) = not-T (same w v && false) (λ t. and→ (same w v) _ t .1)
 
 module _ (p : Position) (f : Fair p) (w : Player) (b : ℕ) (b9 : b < 9) where
   boards-agree : T (open-board p b) → T (rust-critical (won-boards p w) (open-board p) b) ↔ T (completes (won-boards p w) b)

@@ -6,12 +6,13 @@ use mathlib.Core.Logic.{_↔_, _⊎_, inl, inr}
 use mathlib.Core.Option.{Option, none, some}
 use Prim.Native.Nat.{ℕ, _<_}
 use native.Mathlib.Omega.{arith}
-use lib.Dec.{T, eqb, eqb→eq, eqb-refl}
+use lib.Dec.{T, eqb, eqb→eq, eqb-refl, T-not, not-T}
+use lib.Ieee.Bits.{is-true, is-false}
 use Rattle.base.specs.Branch.{if_then_else_}
 use Rattle.base.specs.Lists.{any, all}
 use Rattle.base.specs.Change.{put}
 use Rattle.base.specs.Checks.{all-pass, first-failed}
-use Rattle.base.proofs.Bool.{and→, →and, or→, →or-l, →or-r, deny, →not, is, is-true, is-false, always, _⇒_, ⇒→, →⇒}
+use Rattle.base.proofs.Bool.{and→, →and, or→, →or-l, →or-r, is, always, _⇒_, ⇒→, →⇒}
 use Rattle.base.proofs.Branch.{if-ind}
 use Rattle.base.proofs.Lists.{any-some, some-any, all-each, each-all}
 use Rattle.base.proofs.Checks.{all-pass-0}
@@ -65,7 +66,7 @@ unfolding critical
 
 -- two boards of which one is critical and one is not
 pub crit-apart : (p : Position) (w : Player) (k b : ℕ) → T (critical p w k) → T (not (critical p w b)) → b ≡ k → ⊥
-crit-apart p w k b t u e = deny (critical p w b) u (subst (λ (x : ℕ). T (critical p w x)) (sym e) t)
+crit-apart p w k b t u e = T-not (critical p w b) u (subst (λ (x : ℕ). T (critical p w x)) (sym e) t)
 
 -- what `all-suit` says of an empty cell that names an open board
 pub suits-at : (p : Position) (w : Player) (b c : ℕ) → T (all-suit p w b) → c < 9 → T (free-cell p b c) → T (open-board p c) → T (critical p w c)
@@ -88,7 +89,7 @@ lure→ p w b i t =
     let r3 = and→ (not (critical p w i)) _ (r2 .1) in
     let r4 = and→ (not (critical p (other w) i)) _ (r3 .1) in
     let r5 = and→ (not (eqb i b)) _ (r4 .1) in
-    record { empty = r1 .0; opened = r2 .0; not-own = r3 .0; not-others = r4 .0; away = λ e. deny (eqb i b) (r5 .0) (subst (λ (x : ℕ). T (eqb i x)) (sym e) (eqb-refl i)); all-suited = r5 .1 }
+    record { empty = r1 .0; opened = r2 .0; not-own = r3 .0; not-others = r4 .0; away = λ e. T-not (eqb i b) (r5 .0) (subst (λ (x : ℕ). T (eqb i x)) (sym e) (eqb-refl i)); all-suited = r5 .1 }
 
 pub attack→ : (p : Position) (w : Player) (b : ℕ) → T (attack p w (Only b)) → T (critical p w b) ⊎ T (any (lure p w b) nine)
 unfolding attack
@@ -127,7 +128,7 @@ module _ (p : Position) (b c : ℕ) (l : Legal p b c) where
   pub won-still : (w : Player) (i : ℕ) → T (won-boards p w i) → T (won-boards (after p b c) w i)
   unfolding after
   won-still w i t = put-ind (λ (s : GameState). T (won-by w s)) (p .states) b (made p b c) i
-      (λ e. absurd (deny (won-boards p w i) (open-not-won w (p .states i) (opened-at i e)) t)) t
+      (λ e. absurd (T-not (won-boards p w i) (open-not-won w (p .states i) (opened-at i e)) t)) t
 
   -- the cells of the other boards stay
   pub cells-still {κ} : (P : (ℕ → CellState) → Type κ) (i : ℕ) → (b ≡ i → ⊥) → P (p .cells i) → P (after p b c .cells i)
@@ -156,9 +157,9 @@ module _ (p : Position) (b c : ℕ) (l : Legal p b c) where
   -- a move outside the critical boards does not win
   pub no-win : Fair p → T (not (critical p (p .turn) b)) → T (not (has-line (won-boards (after p b c) (p .turn))))
   unfolding after
-  no-win f n = →not (has-line (won-boards (after p b c) (p .turn))) (λ t. elim (is (won-by (p .turn) (made p b c))) [
-    | inl u ↦ deny (critical p (p .turn) b) n (by-board t u)
-    | inr u ↦ deny (has-line (won-boards p (p .turn))) (f .no-line (p .turn)) (line-mono _ (won-boards p (p .turn)) (old u) t)
+  no-win f n = not-T (has-line (won-boards (after p b c) (p .turn))) (λ t. elim (is (won-by (p .turn) (made p b c))) [
+    | inl u ↦ T-not (critical p (p .turn) b) n (by-board t u)
+    | inr u ↦ T-not (has-line (won-boards p (p .turn))) (f .no-line (p .turn)) (line-mono _ (won-boards p (p .turn)) (old u) t)
   ])
     where
       by-board : T (has-line (won-boards (after p b c) (p .turn))) → T (won-by (p .turn) (made p b c)) → T (critical p (p .turn) b)
@@ -170,7 +171,7 @@ module _ (p : Position) (b c : ℕ) (l : Legal p b c) where
       })
 
       old : T (not (won-by (p .turn) (made p b c))) → (i : ℕ) → T (won-by (p .turn) (put (p .states) b (made p b c) i)) → T (won-boards p (p .turn) i)
-      old u i = put-ind (λ (s : GameState). T (won-by (p .turn) s) → T (won-boards p (p .turn) i)) (p .states) b (made p b c) i (λ _ v. absurd (deny (won-by (p .turn) (made p b c)) u v)) (λ v. v)
+      old u i = put-ind (λ (s : GameState). T (won-by (p .turn) s) → T (won-boards p (p .turn) i)) (p .states) b (made p b c) i (λ _ v. absurd (T-not (won-by (p .turn) (made p b c)) u v)) (λ v. v)
 
   -- a winning cell of a critical board wins the game
   pub critical-wins : T (critical p (p .turn) b) → T (winning (p .turn) (p .cells b) c) → after p b c .state ≡ Won (p .turn)
@@ -205,7 +206,7 @@ module _ (p : Position) (b c : ℕ) (l : Legal p b c) where
   pub unwinnable-not-won : (w : Player) → T (not (winnable (after p b c) w)) → T (not (won-by w (after p b c .state)))
   unfolding winnable after
   unwinnable-not-won = side (λ v. T (not (winnable (after p b c) v)) → T (not (won-by v (after p b c .state)))) (p .turn)
-      (λ n. →not (won-by (p .turn) (after p b c .state)) (λ t. deny (winnable (after p b c) (p .turn)) n
+      (λ n. not-T (won-by (p .turn) (after p b c .state)) (λ t. T-not (winnable (after p b c) (p .turn)) n
       (line-mono (won-boards (after p b c) (p .turn)) _ (λ i u. →or-l (won-boards (after p b c) (p .turn) i) _ u) (result-won (p .turn) _ _ t))))
       (λ _. result-other (p .turn) _ _)
 
@@ -369,7 +370,7 @@ analysis-cases p P a b c = by (going p) (sound p) a b c
 
 -- a finished game gives the full set and no counts
 pub analysis-finished : (p : Position) → T (not (going p)) → analysis p ≡ nothing-said 0
-analysis-finished p t = analysis-cases p (λ a. a ≡ nothing-said 0) (λ _. refl) (λ u _. absurd (deny (going p) t u)) (λ u _. absurd (deny (going p) t u))
+analysis-finished p t = analysis-cases p (λ a. a ≡ nothing-said 0) (λ _. refl) (λ u _. absurd (T-not (going p) t u)) (λ u _. absurd (T-not (going p) t u))
 
 -- an unfinished sound position is not refused, and its status says what was proved
 pub analysis-sound : (p : Position) → T (going p) → T (sound p) → (s : Status) × StatusSays p s × (analysis p ≡ record { refusal = 0; status = s; stats = stats p })
@@ -377,13 +378,13 @@ unfolding or-unproven
 analysis-sound p t u = let r = status-says p in (
   r .0,
   r .1,
-  analysis-cases p (λ a. a ≡ record { refusal = 0; status = r .0; stats = stats p }) (λ v. absurd (deny (going p) v t))
-      (λ _ _. ap (λ (o : Option Status). record { refusal = 0; status = or-unproven o; stats = stats p }) (r .1 .is-merged)) (λ _ v. absurd (deny (sound p) v u)),
+  analysis-cases p (λ a. a ≡ record { refusal = 0; status = r .0; stats = stats p }) (λ v. absurd (T-not (going p) v t))
+      (λ _ _. ap (λ (o : Option Status). record { refusal = 0; status = or-unproven o; stats = stats p }) (r .1 .is-merged)) (λ _ v. absurd (T-not (sound p) v u)),
 )
 
 -- an unfinished unsound position is refused with 14
 pub analysis-unsound : (p : Position) → T (going p) → T (not (sound p)) → analysis p ≡ nothing-said 14
-analysis-unsound p t u = analysis-cases p (λ a. a ≡ nothing-said 14) (λ v. absurd (deny (going p) v t)) (λ _ v. absurd (deny (sound p) u v)) (λ _ _. refl)
+analysis-unsound p t u = analysis-cases p (λ a. a ≡ nothing-said 14) (λ v. absurd (T-not (going p) v t)) (λ _ v. absurd (T-not (sound p) u v)) (λ _ _. refl)
 
 -- and no other is
 pub analysis-refuses : (p : Position) → (analysis p .refusal ≡ 14) ↔ (T (going p) × T (not (sound p)))
@@ -430,13 +431,13 @@ module _ (p : Position) (m : ℕ) where
     unfolding accepts
     evaluate-refused t = by-play ∙ if-ind
         (λ (s : Status). _≡_ {A = Judged} (record { refusal = first-failed cs; status = s }) (record { refusal = first-failed cs; status = unproven }))
-        (all-pass cs) _ _ (λ u. absurd (deny (all-pass cs) t u)) (λ _. refl)
+        (all-pass cs) _ _ (λ u. absurd (T-not (all-pass cs) t u)) (λ _. refl)
 
     pub evaluate-judged : T (accepts p m) → evaluate-move p m ≡ record { refusal = 0; status = judge p m }
     unfolding accepts
     evaluate-judged t = by-play ∙ if-ind
         (λ (s : Status). _≡_ {A = Judged} (record { refusal = first-failed cs; status = s }) (record { refusal = 0; status = judge p m }))
-        (all-pass cs) _ _ (λ _ i. record { refusal = all-pass-0 cs t i; status = judge p m }) (λ u. absurd (deny (all-pass cs) u t))
+        (all-pass cs) _ _ (λ _ i. record { refusal = all-pass-0 cs t i; status = judge p m }) (λ u. absurd (T-not (all-pass cs) u t))
 
   -- the four cases
   evaluate-cases {κ} : (P : Judged → Type κ) →
@@ -457,33 +458,33 @@ module _ (p : Position) (m : ℕ) where
             elsewhere = q .0;
             sends = ⇒→ (open-board p (cell-of m)) _ (q .1);
           }))
-          (λ n. d t (fine f (accepts→ p m t .unfinished)) (λ l. deny lost-test n (→and (has-critical p v) _ (l .threatened)
+          (λ n. d t (fine f (accepts→ p m t .unfinished)) (λ l. T-not lost-test n (→and (has-critical p v) _ (l .threatened)
           (→and (not (critical p v (board-of m))) _ (l .elsewhere) (→⇒ (open-board p (cell-of m)) _ (l .sends)))))))
     ]
   ]
     where
       fine : T (not (going p && not (sound p))) → T (going p) → T (sound p)
-      fine t g = elim (is (sound p)) [ inl s ↦ s | inr n ↦ absurd (deny (going p && not (sound p)) t (→and (going p) _ g n)) ]
+      fine t g = elim (is (sound p)) [ inl s ↦ s | inr n ↦ absurd (T-not (going p && not (sound p)) t (→and (going p) _ g n)) ]
 
   -- its number is 14 exactly for an unfinished unsound position
   pub evaluate-move-14 : (evaluate-move p m .refusal ≡ 14) ↔ (T (going p) × T (not (sound p)))
   evaluate-move-14 = (
     evaluate-cases (λ j. j .refusal ≡ 14 → T (going p) × T (not (sound p))) (λ t u _. (t, u)) (λ n e _ h. absurd (omega (arith, refusal-is-first p m n e .highest)))
         (λ _ h. absurd (omega arith)) (λ _ _ _ h. absurd (omega arith)),
-    λ h. evaluate-cases (λ j. j .refusal ≡ 14) (λ _ _. refl) (λ _ _ f. absurd (deny (sound p) (h .1) (f (h .0))))
-        (λ l. absurd (deny (sound p) (h .1) (l .sound-before))) (λ _ s _. absurd (deny (sound p) (h .1) s)),
+    λ h. evaluate-cases (λ j. j .refusal ≡ 14) (λ _ _. refl) (λ _ _ f. absurd (T-not (sound p) (h .1) (f (h .0))))
+        (λ l. absurd (T-not (sound p) (h .1) (l .sound-before))) (λ _ s _. absurd (T-not (sound p) (h .1) s)),
   )
 
   -- else it is play's
   pub evaluate-move-number : (T (going p) → T (sound p)) → evaluate-move p m .refusal ≡ number-of (play p m)
-  evaluate-move-number f = evaluate-cases (λ j. j .refusal ≡ number-of (play p m)) (λ t u. absurd (deny (sound p) u (f t))) (λ n e _. sym (ap number-of e))
+  evaluate-move-number f = evaluate-cases (λ j. j .refusal ≡ number-of (play p m)) (λ t u. absurd (T-not (sound p) u (f t))) (λ n e _. sym (ap number-of e))
       (λ l. sym (ap number-of (play-accepted p m (l .accepted)))) (λ t _ _. sym (ap number-of (play-accepted p m t)))
 
   -- its status is the other side's win exactly for a move that is called lost
   pub evaluate-move-lost : (evaluate-move p m .status ≡ for-player v) ↔ CalledLost p m v
   evaluate-move-lost = (
     evaluate-cases (λ j. j .status ≡ for-player v → CalledLost p m v) (λ _ _ e. absurd (full e)) (λ _ _ _ e. absurd (full e)) (λ l _. l) (λ _ _ _ e. absurd (full e)),
-    λ l. evaluate-cases (λ j. j .status ≡ for-player v) (λ _ n. absurd (deny (sound p) n (l .sound-before)))
+    λ l. evaluate-cases (λ j. j .status ≡ for-player v) (λ _ n. absurd (T-not (sound p) n (l .sound-before)))
         (λ n e _. let x = play-accepted p m (l .accepted) in let z : _≡_ {A = ℕ} 0 1 = cc in absurd (omega arith)) (λ _. refl) (λ _ _ n. absurd (n l)),
   )
     where

@@ -21,7 +21,7 @@ use Rattle.rules.specs.Position.{Position}
 use Rattle.rules.specs.Moves.{moves}
 use Rattle.rules.specs.Compare.{bound-depth, open-boards, equivalent}
 use Rattle.rules.specs.Status.{as-byte}
-use Rattle.rules.specs.Endgame.{prove-attacker, forced-loss, Stats, Analysis, analysis, judge, evaluate-move}
+use Rattle.rules.specs.Endgame.{prove-attacker, forced-loss, Analysis, analysis, judge, evaluate-move}
 use Rattle.rules.proofs.Examples.{playing, listing, analysing}
 
 -- ---- a position from its text: byte 0 is the side, the marks of board b stand at 2 + b, cell c of board b at 12 + 10 b + c

@@ -20,7 +20,7 @@ use Rattle.rules.specs.declared.DrawWinner.{DrawWinner}
 use Rattle.rules.specs.declared.DrawWinner.the-variants.{Nobody, Side}
 use Rattle.rules.specs.Board.{other, in-play, Line, lines}
 use Rattle.rules.specs.Position.{Position, going, open-board, won-boards, has}
-use Rattle.rules.specs.Evaluation.{won, lost, count, unless-both, worth, board-line, board-score, overall-line, score, seen-by, draw-value, value-of, evaluate}
+use Rattle.rules.specs.Evaluation.{Scoring, won, lost, count, unless-both, worth, board-line, board-score, overall-line, score, seen-by, draw-value, value-of, evaluate}
 
 -- ---- a won game and a lost one
 pub won-is : won ≡ pos (2 ^ 60)
@@ -38,16 +38,16 @@ seen-by-other X z = refl
 seen-by-other O z = sym (negℤ-negℤ z)
 
 -- what X sees does not depend on whose turn it is
-value-of-turned : (draws : DrawWinner) (p : Position) (g : GameState) → value-of draws (turned p) g ≡ value-of draws p g
+value-of-turned : (sc : Scoring) (p : Position) (g : GameState) → value-of sc (turned p) g ≡ value-of sc p g
 unfolding score board-score
-value-of-turned draws p InPlay = refl
-value-of-turned draws p Drawn = refl
-value-of-turned draws p (Won w) = refl
+value-of-turned sc p InPlay = refl
+value-of-turned sc p Drawn = refl
+value-of-turned sc p (Won w) = refl
 
 -- with the other side to move the evaluation is the exact negative
-pub other-side-negates : (draws : DrawWinner) (p : Position) → evaluate draws (turned p) ≡ negℤ (evaluate draws p)
+pub other-side-negates : (sc : Scoring) (p : Position) → evaluate sc (turned p) ≡ negℤ (evaluate sc p)
 unfolding evaluate
-other-side-negates draws p = ap (seen-by (other (p .turn))) (value-of-turned draws p (p .state)) ∙ seen-by-other (p .turn) (value-of draws p (p .state))
+other-side-negates sc p = ap (seen-by (other (p .turn))) (value-of-turned sc p (p .state)) ∙ seen-by-other (p .turn) (value-of sc p (p .state))
 
 -- ---- as a side sees it
 within-seen : (k : ℕ) (w : Player) (z : ℤ) → Within k z → Within k (seen-by w z)
@@ -96,23 +96,23 @@ score-within p = within-sum 132 (overall-line (won-boards p X) (won-boards p O) 
 
 -- ---- an unfinished position
 -- its two halves, as omega reads them
-pub unfinished-halves : (draws : DrawWinner) (p : Position) → T (going p) → Within 1056 (evaluate draws p)
+pub unfinished-halves : (sc : Scoring) (p : Position) → T (going p) → Within 1056 (evaluate sc p)
 unfolding evaluate
-unfinished-halves draws p t = within-seen 1056 (p .turn) _ (of (p .state) t)
+unfinished-halves sc p t = within-seen 1056 (p .turn) _ (of (p .state) t)
   where
-    of : (g : GameState) → T (in-play g) → Within 1056 (value-of draws p g)
+    of : (g : GameState) → T (in-play g) → Within 1056 (value-of sc p g)
     of InPlay t = score-within p
     of Drawn t = absurd t
     of (Won w) t = absurd t
 
 -- an unfinished position's evaluation lies within -1056 to 1056
-pub unfinished-within : (draws : DrawWinner) (p : Position) → T (going p) → natAbs (evaluate draws p) ≤ 1056
-unfinished-within draws p t = within-abs 1056 (evaluate draws p) (unfinished-halves draws p t)
+pub unfinished-within : (sc : Scoring) (p : Position) → T (going p) → natAbs (evaluate sc p) ≤ 1056
+unfinished-within sc p t = within-abs 1056 (evaluate sc p) (unfinished-halves sc p t)
 
 -- so it is neither won nor lost
-pub value-inside : (draws : DrawWinner) (p : Position) → T (going p) → (lost <ℤ evaluate draws p) × (evaluate draws p <ℤ won)
+pub value-inside : (sc : Scoring) (p : Position) → T (going p) → (lost <ℤ evaluate sc p) × (evaluate sc p <ℤ won)
 unfolding hi lo
-value-inside draws p t = let h = unfinished-halves draws p t in (omega (zarith, h), omega (zarith, h))
+value-inside sc p t = let h = unfinished-halves sc p t in (omega (zarith, h), omega (zarith, h))
 
 -- ---- a finished game
 abbrev pub Final : ℤ → Type 0
@@ -129,17 +129,17 @@ seen-nothing X = inr (inr refl)
 seen-nothing O = inr (inr refl)
 
 -- a finished game is won, lost or worth nothing
-pub finished-is : (draws : DrawWinner) (p : Position) → T (not (going p)) → Final (evaluate draws p)
+pub finished-is : (sc : Scoring) (p : Position) → T (not (going p)) → Final (evaluate sc p)
 unfolding evaluate
-finished-is draws p t = of (p .state) t
+finished-is sc p t = of (p .state) t
   where
     drawn : (d : DrawWinner) → Final (seen-by (p .turn) (draw-value d))
     drawn Nobody = seen-nothing (p .turn)
     drawn (Side w) = seen-win (p .turn) w
 
-    of : (g : GameState) → T (not (in-play g)) → Final (seen-by (p .turn) (value-of draws p g))
+    of : (g : GameState) → T (not (in-play g)) → Final (seen-by (p .turn) (value-of sc p g))
     of InPlay t = absurd t
-    of Drawn t = drawn draws
+    of Drawn t = drawn (sc .draws)
     of (Won w) t = seen-win (p .turn) w
 
 final-within : (z : ℤ) → Final z → (lost ≤ℤ z) × (z ≤ℤ won)
@@ -149,5 +149,5 @@ final-within z (inr (inl e)) = (omega zarith, omega zarith)
 final-within z (inr (inr e)) = (omega zarith, omega zarith)
 
 -- so it lies from lost to won
-pub finished-within : (draws : DrawWinner) (p : Position) → T (not (going p)) → (lost ≤ℤ evaluate draws p) × (evaluate draws p ≤ℤ won)
-finished-within draws p t = final-within (evaluate draws p) (finished-is draws p t)
+pub finished-within : (sc : Scoring) (p : Position) → T (not (going p)) → (lost ≤ℤ evaluate sc p) × (evaluate sc p ≤ℤ won)
+finished-within sc p t = final-within (evaluate sc p) (finished-is sc p t)

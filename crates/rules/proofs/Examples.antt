@@ -15,7 +15,7 @@ use Rattle.rules.specs.declared.CellState.{CellState}
 use Rattle.rules.specs.declared.CellState.the-variants.{Empty, Played}
 use Rattle.rules.specs.declared.GameState.{GameState}
 use Rattle.rules.specs.declared.GameState.the-variants.{InPlay, Drawn, Won}
-use Rattle.rules.specs.declared.DrawWinner.the-variants.{Nobody, Side}
+use Rattle.rules.specs.declared.DrawWinner.the-variants.{Side}
 use Rattle.rules.specs.declared.NextBoard.{NextBoard}
 use Rattle.rules.specs.declared.NextBoard.the-variants.{Any, Only}
 use Rattle.rules.specs.Board.{line, has-line, result}
@@ -26,7 +26,7 @@ use Rattle.rules.specs.Moves.{places, moves}
 use Rattle.rules.specs.Sound.{sound, proper}
 use Rattle.rules.specs.Keys.{x-cell-keys, o-cell-keys, drawn-keys, x-board-keys, o-board-keys, due-keys}
 use Rattle.rules.specs.Hash.{cell-key, board-key, due-key, xors, cells-hash, board-hash, hash, with-turn, zobrist, hash-after}
-use Rattle.rules.specs.Evaluation.{won, lost, count, unless-both, board-line, board-score, overall-line, score, evaluate}
+use Rattle.rules.specs.Evaluation.{scoring-with, no-draw-winner, won, lost, count, unless-both, board-line, board-score, overall-line, score, evaluate}
 use Rattle.rules.specs.Status.{unproven, for-player, as-byte, from-byte, merge}
 use Rattle.rules.specs.Endgame.{completes, winning, critical, has-critical, suits, all-suit, lure, attack, prove-attacker, forced, forced-loss, winnable, proven, narrow, combine, merged, stats, or-unproven, analysis, judge, evaluate-move}
 
@@ -78,7 +78,7 @@ unfolding analysing
 start-status = refl
 
 -- after `ee`
-pub centre-value : evaluate Nobody (tried start 0x44) ≡ negsuc 15
+pub centre-value : evaluate no-draw-winner (tried start 0x44) ≡ negsuc 15
 unfolding playing valuing
 centre-value = refl
 
@@ -115,7 +115,7 @@ pub over-hash : hash-after second 2 2 (hash second) ≡ hash over
 unfolding over second position playing hashing hash-after
 over-hash = refl
 
-pub over-is-won : (over .state ≡ Won X) × (moves over ≡ []) × (evaluate Nobody over ≡ lost)
+pub over-is-won : (over .state ≡ Won X) × (moves over ≡ []) × (evaluate no-draw-winner over ≡ lost)
 unfolding over second position listing valuing
 over-is-won = (refl, refl, refl)
 
@@ -173,7 +173,7 @@ unfolding drawn-game playing hashing
 drawn-game-is = (refl, refl, refl)
 
 -- X is to move: nothing, or as won or lost by the draw winner
-pub drawn-game-value : (evaluate Nobody drawn-game ≡ pos 0) × (evaluate (Side X) drawn-game ≡ won) × (evaluate (Side O) drawn-game ≡ lost)
+pub drawn-game-value : (evaluate no-draw-winner drawn-game ≡ pos 0) × (evaluate (scoring-with (Side X)) drawn-game ≡ won) × (evaluate (scoring-with (Side O)) drawn-game ≡ lost)
 unfolding drawn-game playing valuing
 drawn-game-value = (refl, refl, refl)
 
@@ -192,7 +192,7 @@ keys-are = (refl, refl, refl, refl, refl, refl)
 unfoldable pub three-in-line : Position
 three-in-line = position X Any [] ((x ∷ x ∷ x ∷ []) ∷ [])
 
-pub three-in-line-value : evaluate Nobody three-in-line ≡ pos 15
+pub three-in-line-value : evaluate no-draw-winner three-in-line ≡ pos 15
 unfolding three-in-line position valuing
 three-in-line-value = refl
 
@@ -200,7 +200,7 @@ three-in-line-value = refl
 unfoldable pub beside-drawn : Position
 beside-drawn = position X Any (Drawn ∷ Won X ∷ []) []
 
-pub beside-drawn-value : evaluate Nobody beside-drawn ≡ pos 40
+pub beside-drawn-value : evaluate no-draw-winner beside-drawn ≡ pos 40
 unfolding beside-drawn position valuing
 beside-drawn-value = refl
 
@@ -208,7 +208,7 @@ beside-drawn-value = refl
 unfoldable pub both-sides : Position
 both-sides = position X Any (Won X ∷ Won O ∷ []) ([] ∷ [] ∷ (e ∷ e ∷ e ∷ e ∷ x ∷ []) ∷ [])
 
-pub both-sides-value : let p = both-sides in (board-score p 2 ≡ pos 4) × (overall-line (won-boards p X) (won-boards p O) (board-score p) (line 0 1 2) ≡ pos 0) × (evaluate Nobody p ≡ pos 28)
+pub both-sides-value : let p = both-sides in (board-score p 2 ≡ pos 4) × (overall-line (won-boards p X) (won-boards p O) (board-score p) (line 0 1 2) ≡ pos 0) × (evaluate no-draw-winner p ≡ pos 28)
 unfolding both-sides position valuing
 both-sides-value = (refl, refl, refl)
 
@@ -216,7 +216,7 @@ both-sides-value = (refl, refl, refl)
 unfoldable pub three-boards : Position
 three-boards = position X Any (Won X ∷ Won X ∷ Won X ∷ []) []
 
-pub three-boards-value : let p = three-boards in (overall-line (won-boards p X) (won-boards p O) (board-score p) (line 0 1 2) ≡ pos 60) × (evaluate Nobody p ≡ pos 160)
+pub three-boards-value : let p = three-boards in (overall-line (won-boards p X) (won-boards p O) (board-score p) (line 0 1 2) ≡ pos 60) × (evaluate no-draw-winner p ≡ pos 160)
 unfolding three-boards position valuing
 three-boards-value = (refl, refl)
 

@@ -5,9 +5,9 @@ use mathlib.Core.List.{List, [], _∷_, map}
 use mathlib.Core.Logic.{_↔_, inl, inr}
 use Prim.Native.Nat.{ℕ, _<_}
 use native.Mathlib.Omega.{arith}
-use lib.Dec.{T, ltb}
+use lib.Dec.{T, ltb, T-not}
 use Rattle.base.specs.Lists.{all, keep, In, elem, once, each}
-use Rattle.base.proofs.Bool.{and→, →and, deny}
+use Rattle.base.proofs.Bool.{and→, →and}
 use Rattle.base.proofs.Branch.{if-ind}
 use Rattle.base.proofs.Lists.{all-each, each-all, keep-in, in-keep, once-keep, in-each}
 use Rattle.rules.specs.Board.{nine}
@@ -67,4 +67,4 @@ no-member (x ∷ xs) h = absurd (h x (inl refl))
 
 -- a finished game has no moves
 pub finished-has-no-moves : (p : Position) → T (not (going p)) → moves p ≡ []
-finished-has-no-moves p t = no-member (moves p) (λ m i. deny (going p) t (accepts→ p m (moves-are-accepted p m .0 i) .unfinished))
+finished-has-no-moves p t = no-member (moves p) (λ m i. T-not (going p) t (accepts→ p m (moves-are-accepted p m .0 i) .unfinished))

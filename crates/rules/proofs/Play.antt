@@ -5,9 +5,9 @@ use mathlib.Core.List.{List, [], _∷_}
 use mathlib.Core.Logic.{inl, inr}
 use Prim.Native.Nat.{ℕ, _≤_, _<_}
 use native.Mathlib.Omega.{arith}
-use lib.Dec.{T, ltb, ltb→lt, lt→ltb}
+use lib.Dec.{T, ltb, ltb→lt, lt→ltb, T-not}
 use Rattle.base.specs.Lists.{all}
-use Rattle.base.proofs.Bool.{and→, →and, deny, is}
+use Rattle.base.proofs.Bool.{and→, →and, is}
 use Rattle.base.proofs.Branch.{if-ind}
 use Rattle.base.proofs.Checks.{failed-number, rising, InOrder, first-in-order}
 use Rattle.rules.specs.Position.{Position, going, open-board, free-cell}
@@ -68,12 +68,12 @@ pub →accepts-at : (p : Position) (b c : ℕ) → Legal p b c → T (accepts p 
 pub play-accepted : (p : Position) (m : ℕ) → T (accepts p m) → play p m ≡ played (after p (board-of m) (cell-of m))
 unfolding play
 play-accepted p m t = if-ind (λ r. r ≡ played (after p (board-of m) (cell-of m))) (accepts p m) _ _
-    (λ _. refl) (λ u. absurd (deny (accepts p m) u t))
+    (λ _. refl) (λ u. absurd (T-not (accepts p m) u t))
 
 pub play-refused : (p : Position) (m : ℕ) → T (not (accepts p m)) → play p m ≡ refused (first-failed (checks p (board-of m) (cell-of m)))
 unfolding play
 play-refused p m t = if-ind (λ r. r ≡ refused (first-failed (checks p (board-of m) (cell-of m)))) (accepts p m) _ _
-    (λ u. absurd (deny (accepts p m) t u)) (λ _. refl)
+    (λ u. absurd (T-not (accepts p m) t u)) (λ _. refl)
 
 -- an accepted move gives the position after it
 pub tried-accepted : (p : Position) (m : ℕ) → T (accepts p m) → tried p m ≡ after p (board-of m) (cell-of m)

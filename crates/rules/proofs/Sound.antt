@@ -4,10 +4,10 @@ use mathlib.Core.Bool.{Bool, not, _||_, _&&_}
 use mathlib.Core.List.{List, [], _∷_}
 use mathlib.Core.Logic.{inl, inr}
 use Prim.Native.Nat.{ℕ, _<_}
-use lib.Dec.{T, ltb, eqb-refl, ltb→lt, lt→ltb}
+use lib.Dec.{T, ltb, eqb-refl, ltb→lt, lt→ltb, T-not}
 use Rattle.base.specs.Lists.{any, all, In}
 use Rattle.base.specs.Change.{put}
-use Rattle.base.proofs.Bool.{and→, →and, deny, is, ⇒→, →⇒}
+use Rattle.base.proofs.Bool.{and→, →and, is, ⇒→, →⇒}
 use Rattle.base.proofs.Branch.{if-ind}
 use Rattle.base.proofs.Lists.{any-some, all-each, each-all}
 use Rattle.base.proofs.Change.{put-ind, put-ind₂}
@@ -70,9 +70,6 @@ pub good : (p : Position) → T (proper p) → (T (going p) → T (sound p)) →
 unfolding proper
 good p t s = let r = and→ (due-open p (p .due)) _ t in record { due-is = r .0; some-open = ⇒→ (going p) _ (r .1); fair = λ o. sound→ p (s o) }
 
-pub good-is-proper : (p : Position) → Good p → T (proper p)
-good-is-proper p g = →proper p (g .due-is) (g .some-open)
-
 pub good-is-sound : (p : Position) → Good p → T (going p) → T (sound p)
 good-is-sound p g t = →sound p (g .fair t)
 
@@ -92,12 +89,12 @@ module _ (p : Position) (b c : ℕ) (l : Legal p b c) where
   -- the other side has nothing new in the board
   pub row-other : (i : ℕ) → T (mine (other (p .turn)) (row p b c i)) → T (has p (other (p .turn)) b i)
   row-other i = put-ind (λ (s : CellState). T (mine (other (p .turn)) s) → T (has p (other (p .turn)) b i)) (p .cells b) c (Played (p .turn)) i
-      (λ _ t. absurd (deny (mine (other (p .turn)) (Played (p .turn))) (other-differs (p .turn)) t)) (λ t. t)
+      (λ _ t. absurd (T-not (mine (other (p .turn)) (Played (p .turn))) (other-differs (p .turn)) t)) (λ t. t)
 
   -- and no new board
   pub states-other : (i : ℕ) → T (won-by (other (p .turn)) (put (p .states) b (made p b c) i)) → T (won-boards p (other (p .turn)) i)
   states-other i = put-ind (λ (s : GameState). T (won-by (other (p .turn)) s) → T (won-boards p (other (p .turn)) i)) (p .states) b (made p b c) i
-      (λ _ t. absurd (deny (won-by (other (p .turn)) (made p b c)) (result-other (p .turn) _ _) t)) (λ t. t)
+      (λ _ t. absurd (T-not (won-by (other (p .turn)) (made p b c)) (result-other (p .turn) _ _) t)) (λ t. t)
 
   -- the next board is open, whatever the position
   due-after : T (due-open (after p b c) (after p b c .due))

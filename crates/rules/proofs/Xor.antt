@@ -5,9 +5,9 @@ use mathlib.Core.List.{List, [], _∷_}
 use mathlib.Core.Logic.{inl, inr}
 use Prim.Native.Nat.{ℕ}
 use lib.Bits.{bitXor}
-use lib.Dec.{T}
+use lib.Dec.{T, T-not}
 use Rattle.base.specs.Lists.{In, elem, once}
-use Rattle.base.proofs.Bool.{and→, deny}
+use Rattle.base.proofs.Bool.{and→}
 use Rattle.base.proofs.Lists.{in-elem}
 use Rattle.base.proofs.Xor.{xor-left-comm, xor-swap}
 use Rattle.rules.specs.Hash.{xors}
@@ -23,9 +23,9 @@ unfolding xors once
 xors-change f g b [] o k h = absurd k
 xors-change f g b (x ∷ xs) o (inl e) h =
     let r = and→ (not (elem x xs)) _ o in
-    ap (λ (z : ℕ). bitXor (g x) z) (xors-same f g xs (λ i k. h i (λ q. deny (elem x xs) (r .0) (in-elem x xs (subst (λ (z : ℕ). In z xs) (sym (sym e ∙ q)) k)))))
+    ap (λ (z : ℕ). bitXor (g x) z) (xors-same f g xs (λ i k. h i (λ q. T-not (elem x xs) (r .0) (in-elem x xs (subst (λ (z : ℕ). In z xs) (sym (sym e ∙ q)) k)))))
     ∙ sym (xor-swap (f x) (g x) (xors f xs)) ∙ ap (λ (z : ℕ). bitXor (bitXor (f z) (g z)) (bitXor (f x) (xors f xs))) (sym e)
 xors-change f g b (x ∷ xs) o (inr k) h =
     let r = and→ (not (elem x xs)) _ o in
-    ap (λ (z : ℕ). bitXor z (xors g xs)) (h x (λ q. deny (elem x xs) (r .0) (in-elem x xs (subst (λ (z : ℕ). In z xs) q k))))
+    ap (λ (z : ℕ). bitXor z (xors g xs)) (h x (λ q. T-not (elem x xs) (r .0) (in-elem x xs (subst (λ (z : ℕ). In z xs) q k))))
     ∙ ap (λ (z : ℕ). bitXor (f x) z) (xors-change f g b xs (r .1) k h) ∙ xor-left-comm (f x) (bitXor (f b) (g b)) (xors f xs)

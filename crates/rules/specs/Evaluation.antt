@@ -65,10 +65,20 @@ abbrev pub draw-value : DrawWinner → ℤ
 draw-value Nobody = pos 0
 draw-value (Side w) = seen-by w won
 
-abbrev pub value-of : DrawWinner → Position → GameState → ℤ
-value-of draws p InPlay = score p
-value-of draws p Drawn = draw-value draws
-value-of draws p (Won w) = seen-by w won
+-- how a position is scored: the side for which a drawn game counts as won, if any
+pub record Scoring : Type 0 where
+  pub draws : DrawWinner
 
-unfoldable pub evaluate : DrawWinner → Position → ℤ
-evaluate draws p = seen-by (p .turn) (value-of draws p (p .state))
+abbrev pub scoring-with : DrawWinner → Scoring
+scoring-with w = record { draws = w }
+
+abbrev pub no-draw-winner : Scoring
+no-draw-winner = scoring-with Nobody
+
+abbrev pub value-of : Scoring → Position → GameState → ℤ
+value-of sc p InPlay = score p
+value-of sc p Drawn = draw-value (sc .draws)
+value-of sc p (Won w) = seen-by w won
+
+unfoldable pub evaluate : Scoring → Position → ℤ
+evaluate sc p = seen-by (p .turn) (value-of sc p (p .state))

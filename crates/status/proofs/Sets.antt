@@ -9,13 +9,10 @@ use Rattle.base.specs.Branch.{if_then_else_}
 use Rattle.base.specs.Bits.{bit}
 use Rattle.base.proofs.Digits.{bit-low, bit-suc}
 use Rattle.base.proofs.Bool.{always}
-use Rattle.base.proofs.Every.{same-below}
-use Rattle.rules.specs.declared.Player.{Player}
-use Rattle.rules.specs.declared.Player.the-variants.{X, O}
-use Rattle.rules.specs.Status.{Status, alone, as-byte, from-byte, merge}
+use Rattle.rules.specs.Status.{Status, as-byte, from-byte, merge}
 use Rattle.rules.proofs.StatusFacts.{from-byte-none}
 use Rattle.status.specs.declared.Read.the-variants.{Set, Nothing}
-use Rattle.status.specs.Sets.{set-of, read-of, won-byte}
+use Rattle.status.specs.Sets.{read-of}
 
 -- a byte over 7 is no set's
 pub over-7-is-nothing : (v : ℕ) → 8 ≤ v → Nothing ≡ read-of (from-byte v)
@@ -69,9 +66,3 @@ bytes-in-common s t = eqb→eq _ _ (always 6 common tt (s .x) (s .o) (s .draw) (
 pub merge-is-common : (s t : Status) → from-byte (bitAnd (as-byte s) (as-byte t)) ≡ merge s t
 unfolding merge
 merge-is-common s t = ap from-byte (bytes-in-common s t)
-
--- a byte below 8 is a side alone exactly where the set that it means is
-pub won-is-alone : (v : ℕ) (w : Player) → v < 8 → eqb v (won-byte w) ≡ alone (set-of (record { bits = v })) w
-unfolding bit
-won-is-alone v X h = same-below (λ v. eqb v 1) (λ v. alone (set-of (record { bits = v })) X) 8 tt v h
-won-is-alone v O h = same-below (λ v. eqb v 2) (λ v. alone (set-of (record { bits = v })) O) 8 tt v h

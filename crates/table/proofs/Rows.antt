@@ -1,6 +1,6 @@
 -- Rows of words: what a look-up finds and what a store writes, by the cases that the code tells apart, and the one after the other.
 use mathlib.Core.Path.{_≡_, refl, sym, ap, ap₂, _∙_}
-use mathlib.Core.Bool.{true, false, not}
+use mathlib.Core.Bool.{true, false}
 use mathlib.Core.List.{List}
 use mathlib.Core.Option.{Option, none, some}
 use Prim.Native.Nat.{ℕ, _+_, _/_, _≤_, _<_}
@@ -13,11 +13,11 @@ use borrow.Author.Tests.{eq-eqb, ne-eqb}
 use Rattle.base.specs.Branch.{if_then_else_}
 use Rattle.base.proofs.Branch.{if-ind}
 use Rattle.theory.specs.Table.{Entry, word-of, rest-of, entry-of, off, begins, look-up, replaces, store}
-use Rattle.table.specs.Entries.{begins-in}
 use Rattle.table.proofs.Words.{Kept, entry-back}
 
 -- an entry's three words are within the row
-pub begins-within : (n h : ℕ) → 3 ≤ n → begins-in n h + 2 < n
+pub begins-within : (n h : ℕ) → 3 ≤ n → begins n h + 2 < n
+unfolding begins
 begins-within n h k = omega (arith, mod-lt h {m = n / 3} (omega arith))
 
 -- the entry whose words begin at i, whichever position's it is
@@ -38,9 +38,9 @@ module _ (words : List ℕ) (h : ℕ) (k : length words < 3) where
   store-off e = if-ind (λ (l : List ℕ). l ≡ words) (ltb (length words) 3) _ _ (λ _. refl) (λ t. absurd (omega (arith, nltb→le (length words) 3 t)))
 
 -- ---- one that is on, where the words of a hash begin at i
-module _ (words : List ℕ) (h i : ℕ) (k : 3 ≤ length words) (at : i ≡ begins-in (length words) h) where
+module _ (words : List ℕ) (h i : ℕ) (k : 3 ≤ length words) (at : i ≡ begins (length words) h) where
   look-up-on : look-up words h ≡ (if eqb (getD words i 0) h then (λ _. held-at words i) else λ _. none)
-  unfolding look-up off begins
+  unfolding look-up off
   look-up-on =
       if-ind (λ (o : Option Entry). o ≡ (if eqb (getD words i 0) h then (λ _. held-at words i) else λ _. none)) (ltb (length words) 3) _ _
       (λ t. absurd (omega (arith, ltb→lt (length words) 3 t)))
@@ -57,7 +57,7 @@ module _ (words : List ℕ) (h i : ℕ) (k : 3 ≤ length words) (at : i ≡ beg
 
   module _ (e : Entry) where
     store-on : store words h e ≡ (if replaces (e .depth) (held-at words i) then (λ _. written words i h e) else λ _. words)
-    unfolding store off begins
+    unfolding store off
     store-on =
         if-ind (λ (l : List ℕ). l ≡ (if replaces (e .depth) (held-at words i) then (λ _. written words i h e) else λ _. words)) (ltb (length words) 3) _ _
         (λ t. absurd (omega (arith, ltb→lt (length words) 3 t)))
@@ -79,13 +79,6 @@ module _ (words : List ℕ) (h i : ℕ) (k : 3 ≤ length words) (at : i ≡ beg
 pub written-length : (words : List ℕ) (i h : ℕ) (e : Entry) → length (written words i h e) ≡ length words
 written-length words i h e = simp length-set
 
--- a store keeps the length
-pub store-length : (words : List ℕ) (h : ℕ) (e : Entry) → length (store words h e) ≡ length words
-unfolding store
-store-length words h e =
-    if-ind (λ (l : List ℕ). length l ≡ length words) (off words) _ _ (λ _. refl)
-    (λ _. if-ind (λ (l : List ℕ). length l ≡ length words) (replaces (e .depth) (held-at words (begins words h))) _ _ (λ _. written-length words (begins words h) h e) (λ _. refl))
-
 module _ (words : List ℕ) (i h : ℕ) (e : Entry) (k : i + 2 < length words) where
   first-word : getD (written words i h e) i 0 ≡ h
   first-word =
@@ -102,17 +95,16 @@ module _ (words : List ℕ) (i h : ℕ) (e : Entry) (k : i + 2 < length words) w
   third-word = getD-set-same (set (set words i h) (i + 1) (word-of (e .value))) (i + 2) (rest-of e) 0 (simp length-set (omega arith))
 
   -- what is written at a hash's slot is found there
-  found : 3 ≤ length words → i ≡ begins-in (length words) h → Kept e → look-up (written words i h e) h ≡ some e
+  found : 3 ≤ length words → i ≡ begins (length words) h → Kept e → look-up (written words i h e) h ≡ some e
   found l at f =
       let w = written words i h e in
       let n : length w ≡ length words = written-length words i h e in
-      look-up-same w h i (omega arith) (at ∙ ap (λ (m : ℕ). begins-in m h) (sym n)) first-word
+      look-up-same w h i (omega arith) (at ∙ ap (λ (m : ℕ). begins m h) (sym n)) first-word
       ∙ ap₂ entry-of second-word third-word
       ∙ entry-back e f
 
 -- an entry that was stored is found
-pub look-up-stored : (words : List ℕ) (h : ℕ) (e : Entry) → 3 ≤ length words → Kept e → replaces (e .depth) (held-at words (begins words h)) ≡ true → look-up (store words h e) h ≡ some e
-unfolding begins
+pub look-up-stored : (words : List ℕ) (h : ℕ) (e : Entry) → 3 ≤ length words → Kept e → replaces (e .depth) (held-at words (begins (length words) h)) ≡ true → look-up (store words h e) h ≡ some e
 look-up-stored words h e k f r =
-    let i = begins words h in
+    let i = begins (length words) h in
     ap (λ (w : List ℕ). look-up w h) (store-taken words h i k refl e r) ∙ found words i h e (begins-within (length words) h k) k refl f

@@ -1,16 +1,15 @@
 -- Words and what they say: a value is read back from its word, and an entry from its two words.
 use mathlib.Core.Path.{_≡_, refl, sym, ap, _∙_, subst}
-use mathlib.Core.Bool.{Bool, true, false, not, _&&_}
+use mathlib.Core.Bool.{Bool, true, false, _&&_}
 use mathlib.Core.Option.{Option, none, some}
-use Prim.Native.Nat.{ℕ, _+_, _-_, _/_, _%_, _≤_, _<_}
+use Prim.Native.Nat.{ℕ, _-_, _/_, _%_, _≤_, _<_}
 use native.Mathlib.Omega.{arith}
-use lib.Dec.{T, leb, ltb, leb→le, le→leb, ltb→lt, lt→ltb, nltb→le}
+use lib.Dec.{T, leb, ltb, leb→le, le→leb, ltb→lt, lt→ltb, nltb→le, T-not}
 use lib.IntN.{ℤ, pos, negsuc, natAbs}
 use lib.Signed.{mag, leZ, ltZ, _≤ℤ_, _<ℤ_, clashℤ}
 use mir.Syntax.{w64}
 use mir.Val.{SFits}
-use Rattle.base.specs.Branch.{if_then_else_}
-use Rattle.base.proofs.Bool.{and→, →and, deny}
+use Rattle.base.proofs.Bool.{and→, →and}
 use Rattle.base.proofs.Branch.{if-ind}
 use Rattle.base.proofs.Integers.{hi, lo, hi-le, lo-le, zarith}
 use Rattle.base.proofs.Signed.{reads, negative, natural}
@@ -105,7 +104,7 @@ module _ (value rest : ℕ) where
   -- two words that say an entry that is kept are that entry
   pub present : (e : Entry) → Kept e → e ≡ says → some e ≡ entry-of value rest
   unfolding entry-of
-  present e k s = ap some s ∙ if-ind (λ (o : Option Entry). some says ≡ o) (kept says) _ _ (λ _. refl) (λ t. absurd (deny (kept says) t (→kept says (subst Kept s k))))
+  present e k s = ap some s ∙ if-ind (λ (o : Option Entry). some says ≡ o) (kept says) _ _ (λ _. refl) (λ t. absurd (T-not (kept says) t (→kept says (subst Kept s k))))
 
 -- entries with the same four parts are the same
 pub same-entry : {v v' : ℤ} {d d' b b' m m' : ℕ} → v ≡ v' → d ≡ d' → b ≡ b' → m ≡ m' →

@@ -1,6 +1,6 @@
 -- What the structs of the table mean.
 use mathlib.Core.Option.{Option, none, some}
-use Prim.Native.Nat.{ℕ, _*_, _/_, _%_}
+use Prim.Native.Nat.{ℕ}
 use Rattle.theory.specs.Table.{Entry as Meant}
 use Rattle.table.specs.declared.Bound.{Bound}
 use Rattle.table.specs.declared.Bound.the-variants.{Exact, AtLeast, AtMost}
@@ -20,7 +20,3 @@ entry-means e = record { value = e .value; depth = e .depth; bound = bound-numbe
 abbrev pub held-means : Held → Option Meant
 held-means (Holds e) = some (entry-means e)
 held-means Absent = none
-
--- where the three words of a hash begin, in so many words
-abbrev pub begins-in : ℕ → ℕ → ℕ
-begins-in n h = 3 * (h % (n / 3))

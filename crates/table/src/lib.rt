@@ -3,9 +3,10 @@
 // changed: one slot, lent words for a box of entries, no index bytes and no statistics.
 ghost use mathlib.Core.Path.{_≡_};
 ghost use Prim.Native.Nat.{_+_, _≤_, _<_};
-ghost use Rattle.theory.specs.Table.{value-of, word-of, rest-of, entry-of, look-up, replaces, store};
-ghost use Rattle.table.specs.Entries.{begins-in, bound-number, entry-means, held-means};
+ghost use Rattle.theory.specs.Table.{value-of, word-of, rest-of, entry-of, begins, look-up, replaces, store};
+ghost use Rattle.table.specs.Entries.{bound-number, entry-means, held-means};
 use boards::Move;
+use boards::PLACES;
 
 pub enum Bound {
     Exact,
@@ -29,10 +30,8 @@ pub enum Held {
 // The largest value of an entry, either way.
 const WIDEST: i64 = 1152921504606846977;
 
-// The deepest search, and so the places of a line.
-pub const DEEPEST: u64 = 81;
-
-pub const PLACES: usize = DEEPEST as usize;
+// The deepest search.
+pub const DEEPEST: u64 = PLACES as u64;
 
 // A word as a number in two's complement.
 fn from_word(w: u64) -> i64
@@ -58,7 +57,7 @@ pub fn to_word(value: i64) -> u64
 // Where a hash's three words begin, in a table of at least three.
 fn slot(hash: u64, words: usize) -> usize
     requires { ⌜ 3 ≤ words ⌝ }
-    ensures { λ r. ⌜ (r ≡ begins-in words hash) × (r + 2 < words) ⌝ }
+    ensures { λ r. ⌜ (r ≡ begins words hash) × (r + 2 < words) ⌝ }
 {
     let entries = (words / 3) as u64;
     3 * ((hash % entries) as usize)

@@ -3,9 +3,9 @@ use mathlib.Core.Path.{_≡_, refl, ap, ap₂, subst}
 use mathlib.Core.List.{List, [], _∷_}
 use Prim.Native.Nat.{ℕ, _+_, _-_, _<_, _≤_}
 use native.Mathlib.Omega.{arith}
-use lib.Dec.{T, leb, leb→le, le→leb}
+use lib.Dec.{T, leb, leb→le, le→leb, T-not}
 use lib.ListN.{length}
-use Rattle.base.proofs.Bool.{and→, →and, deny}
+use Rattle.base.proofs.Bool.{and→, →and}
 use Rattle.base.proofs.Branch.{if-ind}
 use Rattle.rules.specs.Play.{move-of, board-of, cell-of}
 use Rattle.text.specs.Bytes.{first-letter}
@@ -29,8 +29,8 @@ pub letters-cases {κ} : (P : MoveReading → Type κ) (b c : ℕ) →
     P (read-letters b c)
 unfolding read-letters
 letters-cases P b c f g h = if-ind P (coordinate b) _ _
-    (λ t. if-ind P (coordinate c) _ _ (λ u. f (coordinate→ b t) (coordinate→ c u)) (λ n. h (coordinate→ b t) (λ l. deny (coordinate c) n (→coordinate c l))))
-    (λ n. g (λ l. deny (coordinate b) n (→coordinate b l)))
+    (λ t. if-ind P (coordinate c) _ _ (λ u. f (coordinate→ b t) (coordinate→ c u)) (λ n. h (coordinate→ b t) (λ l. T-not (coordinate c) n (→coordinate c l))))
+    (λ n. g (λ l. T-not (coordinate b) n (→coordinate b l)))
 
 -- ---- a move, written and read
 -- every move of a board and a cell below 9 reads back as itself

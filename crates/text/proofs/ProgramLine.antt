@@ -6,12 +6,11 @@ use mathlib.Core.Logic.{inl, inr}
 use Prim.Native.Nat.{ℕ, zero, suc, _+_, _*_, _/_, _%_, _-_, _^_, _≤_, _<_}
 use native.Mathlib.Nat.{pow-suc}
 use native.Mathlib.Omega.{arith}
-use lib.Dec.{T, eqb, ltb, eqb→eq, nltb→le}
+use lib.Dec.{T, eqb, ltb, eqb→eq, nltb→le, T-not}
 use lib.IntN.{ℤ, pos, negsuc, natAbs}
 use lib.ListN.{length, length-append}
 use Rattle.base.specs.Branch.{if_then_else_}
 use Rattle.base.specs.Lists.{In}
-use Rattle.base.proofs.Bool.{deny}
 use Rattle.base.proofs.Branch.{if-ind, if-both}
 use Rattle.rules.specs.declared.Player.the-variants.{X}
 use Rattle.rules.specs.Status.{Status, unproven, for-player}
@@ -58,7 +57,7 @@ Parts line (around text rest) = (line ≡ text ++ (blank ∷ rest)) × (In blank
 parts-with : (c : ℕ) (cs : List ℕ) (p : Parted) → Parts cs p → Parts (c ∷ cs) (parted-with c cs p)
 parts-with c cs no-blank h = if-ind (Parts (c ∷ cs)) (eqb c blank) _ _
     (λ t. (ap (λ (b : ℕ). b ∷ cs) (eqb→eq c blank t), h))
-    (λ n i. elim i [ inl e ↦ deny (eqb c blank) n (subst (λ (b : ℕ). T (eqb b blank)) e tt) | inr k ↦ h k ])
+    (λ n i. elim i [ inl e ↦ T-not (eqb c blank) n (subst (λ (b : ℕ). T (eqb b blank)) e tt) | inr k ↦ h k ])
 parts-with c cs (around text rest) h = (ap (_∷_ c) (h .0), h .1)
 
 pub parted-parts : (line : List ℕ) → Parts line (parted line)

@@ -3,15 +3,16 @@ use mathlib.Core.Path.{_≡_, refl, ap, _∙_, subst}
 use mathlib.Core.Bool.{Bool, true, false, _&&_}
 use mathlib.Core.List.{List, [], _∷_, _++_}
 use mathlib.Core.Option.{Option, none, some}
-use Prim.Native.Nat.{ℕ, zero, suc, _+_, _*_, _≤_, _<_}
+use Prim.Native.Nat.{ℕ, suc, _+_, _*_, _≤_, _<_}
 use native.Mathlib.Omega.{arith}
 use borrow.Author.Tests.{lt-ltb}
-use lib.Dec.{T, eqb, ltb, ltb→lt, lt→ltb, nltb→le, lit<, lit≤}
+use lib.Dec.{T, eqb, ltb, ltb→lt, lt→ltb, nltb→le, lit<, lit≤, T-not}
 use lib.ListN.{length, getD, length-append, List·getD-append}
 use Rattle.base.specs.Branch.{if_then_else_}
 use Rattle.base.specs.Lists.{from}
-use Rattle.base.proofs.Bool.{and→, →and, deny}
+use Rattle.base.proofs.Bool.{and→, →and}
 use Rattle.base.proofs.Branch.{if-ind, if-both}
+use Rattle.base.proofs.Lists.{default-unused}
 use Rattle.rules.specs.declared.Player.{Player}
 use Rattle.rules.specs.declared.CellState.the-variants.{Empty}
 use Rattle.rules.specs.declared.GameState.the-variants.{InPlay}
@@ -106,7 +107,7 @@ wrong-count (s ∷ os ∷ cs ∷ u ∷ us) n m = refl
 -- an answer that has what it takes is the one that is given
 pub answer-is-read : {t : List ℕ} {r : Reading} → Answer t r → read t ≡ r
 unfolding read read-cells read-overall
-answer-is-read {t} (too-long h) = if-ind (λ r. r ≡ refuses 1 0 0) (ltb 256 (length t)) _ _ (λ _. refl) (λ n. absurd (deny (ltb 256 (length t)) n (lt→ltb 256 (length t) h)))
+answer-is-read {t} (too-long h) = if-ind (λ r. r ≡ refuses 1 0 0) (ltb 256 (length t)) _ _ (λ _. refl) (λ n. absurd (T-not (ltb 256 (length t)) n (lt→ltb 256 (length t) h)))
 answer-is-read {t} (not-three h n) = read-short t h ∙ wrong-count (sections t) (length t) n
 answer-is-read (bad-side {s = s} {os = os} {cs = cs} q e) = read-parted q ∙ ap (λ (r : Option Player). read-side r s os cs) e
 answer-is-read (not-nine {os = os} q n) = read-sided q ∙ if-equal (λ r. r ≡ refuses 4 2 (length os)) (length os) 9 _ _ (λ e. absurd (n e)) (λ _. refl)
@@ -141,23 +142,18 @@ module _ {κ} (P : Position → Type κ) (f : (w : Player) (os cs : List ℕ) �
   read-ind : P p
   read-ind = said-ind P f (subst (Answer t) e (read-answers t))
 
-default-unused : (t : List ℕ) (i d e : ℕ) → i < length t → getD t i d ≡ getD t i e
-default-unused [] i d e h = absurd (omega arith)
-default-unused (c ∷ cs) zero d e h = refl
-default-unused (c ∷ cs) (suc i) d e h = default-unused cs i d e (omega arith)
-
 -- what a mark says of its board
 pub state-in-at : (os : List ℕ) (b : ℕ) → b < 9 → b < length os → state-in os b ≡ or-else (overall-mark (getD os b 0)) InPlay
 unfolding state-in
 state-in-at os b h l = if-ind (λ s. s ≡ or-else (overall-mark (getD os b 0)) InPlay) (ltb b 9) _ _
-    (λ _. ap (λ (c : ℕ). or-else (overall-mark c) InPlay) (default-unused os b dot 0 l)) (λ n. absurd (deny (ltb b 9) n (lt→ltb b 9 h)))
+    (λ _. ap (λ (c : ℕ). or-else (overall-mark c) InPlay) (default-unused os b dot 0 l)) (λ n. absurd (T-not (ltb b 9) n (lt→ltb b 9 h)))
 
 -- what a byte says of its cell
 pub cell-in-at : (cs : List ℕ) (b c : ℕ) → b < 9 → c < 9 → 10 * b + c < length cs → cell-in cs b c ≡ or-else (cell-mark (getD cs (10 * b + c) 0)) Empty
 unfolding cell-in
 cell-in-at cs b c h k l = if-ind (λ s. s ≡ or-else (cell-mark (getD cs (10 * b + c) 0)) Empty) (ltb b 9 && ltb c 9) _ _
     (λ _. ap (λ (c : ℕ). or-else (cell-mark c) Empty) (default-unused cs (10 * b + c) dot 0 l))
-    (λ n. absurd (deny (ltb b 9 && ltb c 9) n (→and (ltb b 9) _ (lt→ltb b 9 h) (lt→ltb c 9 k))))
+    (λ n. absurd (T-not (ltb b 9 && ltb c 9) n (→and (ltb b 9) _ (lt→ltb b 9 h) (lt→ltb c 9 k))))
 
 -- the board that is due has an `@`, so it reads as in play
 said-due : (w : Player) (os cs : List ℕ) → length os ≡ 9 → T (due-open (said w os cs) (said w os cs .due))

@@ -7,11 +7,11 @@ use mathlib.Core.Option.{none, some}
 use Prim.Native.Nat.{ℕ, _+_, _-_, _*_, _/_, _%_, _≤_, _<_}
 use native.Mathlib.Decide.{ℕ-discrete}
 use native.Mathlib.Omega.{arith}
-use lib.Dec.{T, eqb, ltb, eqb→eq, eqb-refl, ltb→lt, nltb→le, lit<}
+use lib.Dec.{T, eqb, ltb, eqb→eq, eqb-refl, ltb→lt, nltb→le, lit<, T-not}
 use lib.ListN.{length, getD}
 use Rattle.base.specs.Branch.{if_then_else_}
 use Rattle.base.specs.Lists.{any, from}
-use Rattle.base.proofs.Bool.{and→, or→, deny, is}
+use Rattle.base.proofs.Bool.{and→, or→, is}
 use Rattle.base.proofs.Branch.{if-ind}
 use Rattle.base.proofs.Change.{put-ind, put-off}
 use Rattle.rules.specs.declared.Player.{Player}
@@ -115,7 +115,7 @@ at-is-due p b = if-ind (λ c. c ≡ at-mark → p .due ≡ Only b) (same-due (p 
 due-has-at : (p : Position) (b : ℕ) → p .due ≡ Only b → overall-byte p b ≡ at-mark
 unfolding overall-byte
 due-has-at p b e = if-ind (λ c. c ≡ at-mark) (same-due (p .due) (Only b)) _ _
-    (λ _. refl) (λ n. absurd (deny (same-due (p .due) (Only b)) n (rw e (eqb-refl b))))
+    (λ _. refl) (λ n. absurd (T-not (same-due (p .due) (Only b)) n (rw e (eqb-refl b))))
 
 -- ---- positions that can be written: proper, with the state that the side not to move has left, and nothing beyond the nine boards
 pub record Written (p : Position) : Type 0 where

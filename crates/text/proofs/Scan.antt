@@ -7,13 +7,13 @@ use mathlib.Core.Option.{Option, none, some}
 use Prim.Native.Nat.{ℕ, zero, suc, _+_, _-_, _%_, _≤_, _<_}
 use native.Mathlib.Decide.{ℕ-discrete}
 use native.Mathlib.Omega.{arith}
-use lib.Dec.{T, eqb, ltb, eqb→eq, eqb-refl, ltb→lt, nltb→le, lt→ltb, lit≤}
+use lib.Dec.{T, eqb, ltb, eqb→eq, eqb-refl, ltb→lt, nltb→le, lt→ltb, lit≤, T-not}
 use borrow.Author.Tests.{eq-eqb}
 use lib.ListN.{length, getD, take, drop, length-drop}
 use lib.Seq.{slice, take-nil, drop-cons, drop-drop, getD-drop, getD-take}
 use Rattle.base.specs.Branch.{if_then_else_}
 use Rattle.base.specs.Lists.{how-many, from}
-use Rattle.base.proofs.Bool.{and→, →and, deny, is, not-not}
+use Rattle.base.proofs.Bool.{and→, →and, is, not-not}
 use Rattle.base.proofs.Branch.{if-ind}
 use Rattle.rules.specs.declared.NextBoard.{NextBoard}
 use Rattle.rules.specs.declared.NextBoard.the-variants.{Only}
@@ -22,11 +22,7 @@ use Rattle.text.specs.Reading.{side-of, overall-mark, cell-mark, known, 
 
 -- a choice by whether two numbers are equal
 pub if-equal {ℓ κ} : {A : Type ℓ} (P : A → Type κ) (m n : ℕ) (x y : Unit {0} → A) → (m ≡ n → P (x tt)) → ((m ≡ n → ⊥) → P (y tt)) → P (if eqb m n then x else y)
-if-equal P m n x y f g = if-ind P (eqb m n) x y (λ t. f (eqb→eq m n t)) (λ t. g (λ e. deny (eqb m n) t (subst (λ (k : ℕ). T (eqb m k)) e (eqb-refl m))))
-
--- what holds from i up to k, and at k, holds up to the next: a scan is one byte further
-pub up-to-next {κ} : (P : ℕ → Type κ) (i k : ℕ) → ((j : ℕ) → i ≤ j → j < k → P j) → P k → (j : ℕ) → i ≤ j → j < suc k → P j
-up-to-next P i k f x j h l = elim (ℕ-discrete j k) [ yes e ↦ rw e x | no n ↦ f j h (omega arith) ]
+if-equal P m n x y f g = if-ind P (eqb m n) x y (λ t. f (eqb→eq m n t)) (λ t. g (λ e. T-not (eqb m n) t (subst (λ (k : ℕ). T (eqb m k)) e (eqb-refl m))))
 
 -- ---- sections
 -- no semicolon from place i up to, not including, place j
@@ -157,7 +153,7 @@ first-bad-here c cs n = if-ind (λ r. r ≡ some 0) (known (overall-mark c)) _ _
 
 first-bad-later : (c : ℕ) (cs : List ℕ) → T (known (overall-mark c)) → first-bad (c ∷ cs) ≡ one-on (first-bad cs)
 unfolding first-bad
-first-bad-later c cs t = if-ind (λ r. r ≡ one-on (first-bad cs)) (known (overall-mark c)) _ _ (λ _. refl) (λ n. absurd (deny (known (overall-mark c)) n t))
+first-bad-later c cs t = if-ind (λ r. r ≡ one-on (first-bad cs)) (known (overall-mark c)) _ _ (λ _. refl) (λ n. absurd (T-not (known (overall-mark c)) n t))
 
 -- the first bad mark is the one that is found
 pub →first-bad : (os : List ℕ) (i : ℕ) → FirstBad os i → first-bad os ≡ some i
@@ -183,7 +179,7 @@ unfolding first-bad
 first-bad-is [] = λ k h. absurd (omega arith)
 first-bad-is (c ∷ cs) = if-ind (BadMarks (c ∷ cs)) (known (overall-mark c)) _ _
     (λ t. go (first-bad cs) t (first-bad-is cs))
-    (λ n. record { inside = omega arith; before = λ k h. absurd (omega arith); bad = deny (known (overall-mark c)) n })
+    (λ n. record { inside = omega arith; before = λ k h. absurd (omega arith); bad = T-not (known (overall-mark c)) n })
   where
     go : (r : Option ℕ) → T (known (overall-mark c)) → BadMarks cs r → BadMarks (c ∷ cs) (one-on r)
     go none t f = λ k. elim k [ zero ↦ λ _. t | suc k ↦ λ h. f k (omega arith) ]
@@ -192,10 +188,6 @@ first-bad-is (c ∷ cs) = if-ind (BadMarks (c ∷ cs)) (known (overall-mark c)) 
 -- the mark that is found is the first bad one
 pub first-bad→ : (os : List ℕ) (i : ℕ) → first-bad os ≡ some i → FirstBad os i
 first-bad→ os i e = subst (BadMarks os) e (first-bad-is os)
-
--- where none is found every mark is known
-pub none-bad→ : (os : List ℕ) → first-bad os ≡ none → (k : ℕ) → k < length os → Known os k
-none-bad→ os e = subst (BadMarks os) e (first-bad-is os)
 
 -- ---- the last `@`
 -- one mark on: the board that is due, as far as it is known
@@ -258,11 +250,11 @@ module _ (cs : List ℕ) (i : ℕ) where
   fault-cases P a b c d e = if-equal P (i % 10) 9 _ _
       (λ s. if-ind P (ltb i (length cs) && eqb (getD cs i 0) slash) _ _
       (λ t. let r = and→ (ltb i (length cs)) _ t in a s (ltb→lt _ _ (r .0)) (eqb→eq _ _ (r .1)))
-      (λ n. b s (λ h k. deny (ltb i (length cs) && eqb (getD cs i 0) slash) n (→and (ltb i (length cs)) _ (lt→ltb i (length cs) h) (subst (λ (x : ℕ). T (eqb (getD cs i 0) x)) k (eqb-refl (getD cs i 0)))))))
+      (λ n. b s (λ h k. T-not (ltb i (length cs) && eqb (getD cs i 0) slash) n (→and (ltb i (length cs)) _ (lt→ltb i (length cs) h) (subst (λ (x : ℕ). T (eqb (getD cs i 0) x)) k (eqb-refl (getD cs i 0)))))))
       (λ n. if-ind P (not (ltb i (length cs))) _ _
       (λ t. c n (nltb→le _ _ t))
       (λ t. let h = ltb→lt i (length cs) (not-not (ltb i (length cs)) t) in
-      if-ind P (known (cell-mark (getD cs i 0))) _ _ (d n h) (λ u. e n h (deny (known (cell-mark (getD cs i 0))) u))))
+      if-ind P (known (cell-mark (getD cs i 0))) _ _ (d n h) (λ u. e n h (T-not (known (cell-mark (getD cs i 0))) u))))
 
   -- a `/` in its place is no fault
   pub slash-stands : i % 10 ≡ 9 → i < length cs → getD cs i 0 ≡ slash → fault-at cs i ≡ 0
@@ -287,10 +279,6 @@ module _ (cs : List ℕ) (i : ℕ) where
   -- a byte without fault is there
   pub faultless-is-there : fault-at cs i ≡ 0 → i < length cs
   faultless-is-there = fault-cases (λ f. f ≡ 0 → i < length cs) (λ _ h _ _. h) (λ _ _ e. absurd (omega arith)) (λ _ _ e. absurd (omega arith)) (λ _ h _ _. h) (λ _ _ _ e. absurd (omega arith))
-
-  -- and a cell without fault has a mark
-  pub faultless-is-known : (i % 10 ≡ 9 → ⊥) → fault-at cs i ≡ 0 → KnownCell cs i
-  faultless-is-known n = fault-cases (λ f. f ≡ 0 → KnownCell cs i) (λ s _ _ _. absurd (n s)) (λ s _ _. absurd (n s)) (λ _ _ e. absurd (omega arith)) (λ _ _ t _. t) (λ _ _ _ e. absurd (omega arith))
 
   -- the numbers end at 6
   pub fault-at-most-6 : fault-at cs i ≤ 6

@@ -1,17 +1,15 @@
 -- Laws of a position's text: it is byte-at at 0 to 100, which antt computes byte by byte.
 use mathlib.Core.Path.{_≡_, refl, ap, _∙_}
-use mathlib.Core.Bool.{_||_}
 use mathlib.Core.List.{List, map}
-use Prim.Native.Nat.{ℕ, zero, suc, _+_, _-_, _/_, _%_, _<_}
+use Prim.Native.Nat.{ℕ, zero, suc, _+_, _/_, _%_, _<_}
 use native.Mathlib.Omega.{arith}
 use borrow.Author.Tests.{eq-eqb, ne-eqb}
-use lib.Dec.{eqb, ltb}
 use lib.ListN.{length, getD}
 use Rattle.base.specs.Branch.{if_then_else_}
 use Rattle.base.specs.Lists.{from}
 use Rattle.rules.specs.Board.{nine}
 use Rattle.rules.specs.Position.{Position}
-use Rattle.text.specs.Bytes.{semicolon, slash, letter}
+use Rattle.text.specs.Bytes.{slash}
 use Rattle.text.specs.Writing.{cell-byte, overall-byte, board-text, joined, text-of, cells-byte, byte-at}
 
 -- ---- a list made from a run of numbers

@@ -1,7 +1,7 @@
 -- A move as two letters, board then cell.
 use mathlib.Core.Bool.{Bool, _&&_}
 use mathlib.Core.List.{List, [], _∷_}
-use Prim.Native.Nat.{ℕ, _+_, _-_, _*_}
+use Prim.Native.Nat.{ℕ, _+_, _-_}
 use lib.Dec.{leb}
 use Rattle.base.specs.Branch.{if_then_else_}
 use Rattle.rules.specs.Play.{move-of, board-of, cell-of}

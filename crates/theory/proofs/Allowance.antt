@@ -6,13 +6,13 @@ use mathlib.Core.List.{List, [], _∷_, _++_}
 use mathlib.Core.Logic.{_⊎_, inl, inr}
 use Prim.Native.Nat.{ℕ, zero, suc, _+_, _≤_, _<_}
 use native.Mathlib.Omega.{arith}
-use lib.Dec.{T, eqb, ltb, eqb→eq, ltb→lt, lt→ltb, nltb→le}
+use lib.Dec.{T, eqb, ltb, eqb→eq, ltb→lt, lt→ltb, nltb→le, T-not}
 use lib.ListN.{replicate}
 use lib.IntN.{ℤ, negℤ}
 use lib.Signed.{leZ, ltZ}
 use Rattle.base.specs.Branch.{if_then_else_}
 use Rattle.base.proofs.Agree.{same-by}
-use Rattle.base.proofs.Bool.{and→, →and, deny, is}
+use Rattle.base.proofs.Bool.{and→, →and, is}
 use Rattle.base.proofs.Branch.{if-ind, if-both}
 use Rattle.rules.specs.Play.{no-move}
 use Rattle.theory.specs.Game.{Game}
@@ -182,7 +182,7 @@ module _ (n : ℕ) where
           at e = ap (next-depth (at-most n) k w) e
 
           not-decided : T (not (decided r)) → (j : ℕ) → deepen G unlimited j p w' s' ≡ next-depth unlimited j w (found r line s')
-          not-decided t j = if-ind (λ (x : Answer). deepen G unlimited j p w' s' ≡ x) (decided r) _ _ (λ u. absurd (deny (decided r) t u)) (λ _. refl)
+          not-decided t j = if-ind (λ (x : Answer). deepen G unlimited j p w' s' ≡ x) (decided r) _ _ (λ u. absurd (T-not (decided r) t u)) (λ _. refl)
 
           deeper : Beside (suc k) w s' upto (next-depth unlimited k w (found r line s')) (next-depth (at-most n) k w (found r line s'))
           deeper = if-both (Beside (suc k) w s' upto) (decided r) _ _ _ _ (λ _. beside-whole (suc k) w w' s' upto)
@@ -234,7 +234,7 @@ module _ (G : Game) (n limit : ℕ) (p : G .Pos) (s : Memory) where
   pub mark-means-spent : s .count ≤ n → T (analyze G (at-most n) limit p s .is-stopped) → n < analyze G unlimited limit p s .memory .count
   mark-means-spent le t = elim (lt-or n (analyze G unlimited limit p s .memory .count)) [
     | inl h ↦ h
-    | inr h ↦ absurd (deny (analyze G unlimited limit p s .is-stopped) (allowance-limits le .unlimited-whole) (subst (λ (x : Answer). T (x .is-stopped)) (allowance-limits le .enough h) t))
+    | inr h ↦ absurd (T-not (analyze G unlimited limit p s .is-stopped) (allowance-limits le .unlimited-whole) (subst (λ (x : Answer). T (x .is-stopped)) (allowance-limits le .enough h) t))
   ]
 
   -- and where it is spent, the answer is marked

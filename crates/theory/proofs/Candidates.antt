@@ -4,9 +4,9 @@ use mathlib.Core.Bool.{Bool, true, false, not, _||_}
 use mathlib.Core.List.{List, [], _∷_, _++_}
 use mathlib.Core.Logic.{_⊎_, inl, inr}
 use Prim.Native.Nat.{ℕ}
-use lib.Dec.{T, eqb, eqb→eq, eqb-refl}
+use lib.Dec.{T, eqb, eqb→eq, eqb-refl, T-not, not-T}
 use Rattle.base.specs.Lists.{In, elem, once}
-use Rattle.base.proofs.Bool.{→and, →or-l, →or-r, deny, →not}
+use Rattle.base.proofs.Bool.{→and, →or-l, →or-r}
 use Rattle.base.proofs.Branch.{if-ind}
 use Rattle.base.proofs.Lists.{elem-in, in-r}
 use Rattle.theory.specs.Game.{Game}
@@ -25,7 +25,7 @@ module _ (ok : ℕ → Bool) where
       (λ _ h. later (fresh-in x (m ∷ seen) ms h)))
     where
       later : T (ok x) × T (not (eqb x m || elem x seen)) → T (ok x) × T (not (elem x seen))
-      later h = (h .0, →not (elem x seen) (λ u. deny (eqb x m || elem x seen) (h .1) (→or-r (eqb x m) _ u)))
+      later h = (h .0, not-T (elem x seen) (λ u. T-not (eqb x m || elem x seen) (h .1) (→or-r (eqb x m) _ u)))
 
   seen-next : (x m : ℕ) (seen : List ℕ) (c : Bool) → (T c → x ≡ m) → T (not (elem x seen)) → (x ≡ m) ⊎ T (not (c || elem x seen))
   seen-next x m seen true f n = inl (f tt)
@@ -37,7 +37,7 @@ module _ (ok : ℕ → Bool) where
   fresh-all x seen [] t n h = absurd h
   fresh-all x seen (m ∷ ms) t n h =
       if-ind (λ l. In x l) (elem m seen) _ _
-      (λ u. elim h [ inl e ↦ absurd (deny (elem m seen) (subst (λ (z : ℕ). T (not (elem z seen))) e n) u) | inr k ↦ fresh-all x seen ms t n k ])
+      (λ u. elim h [ inl e ↦ absurd (T-not (elem m seen) (subst (λ (z : ℕ). T (not (elem z seen))) e n) u) | inr k ↦ fresh-all x seen ms t n k ])
       (λ _. if-ind (λ l. In x l) (ok m) _ _
       (λ _. elim next [ inl e ↦ inl e | inr n' ↦ elim h [ inl e ↦ inl e | inr k ↦ inr (fresh-all x (m ∷ seen) ms t n' k) ] ])
       (λ u. elim next [ inl e ↦ absurd (wrong u e) | inr n' ↦ elim h [ inl e ↦ absurd (wrong u e) | inr k ↦ fresh-all x (m ∷ seen) ms t n' k ] ]))
@@ -46,7 +46,7 @@ module _ (ok : ℕ → Bool) where
       next = seen-next x m seen (eqb x m) (eqb→eq x m) n
 
       wrong : T (not (ok m)) → x ≡ m → ⊥
-      wrong u e = deny (ok m) u (subst (λ (z : ℕ). T (ok z)) e t)
+      wrong u e = T-not (ok m) u (subst (λ (z : ℕ). T (ok z)) e t)
 
   -- each once
   pub fresh-once : (seen ms : List ℕ) → T (once (fresh ok seen ms))
@@ -55,7 +55,7 @@ module _ (ok : ℕ → Bool) where
   fresh-once seen (m ∷ ms) =
       if-ind (λ l. T (once l)) (elem m seen) _ _ (λ _. fresh-once seen ms)
       (λ _. if-ind (λ l. T (once l)) (ok m) _ _
-      (λ _. →and (not (elem m rest)) _ (→not (elem m rest) (λ u. deny (eqb m m || elem m seen) (fresh-in m (m ∷ seen) ms (elem-in m rest u) .1) (→or-l (eqb m m) _ (eqb-refl m)))) (fresh-once (m ∷ seen) ms))
+      (λ _. →and (not (elem m rest)) _ (not-T (elem m rest) (λ u. T-not (eqb m m || elem m seen) (fresh-in m (m ∷ seen) ms (elem-in m rest u) .1) (→or-l (eqb m m) _ (eqb-refl m)))) (fresh-once (m ∷ seen) ms))
       (λ _. fresh-once (m ∷ seen) ms))
     where
       rest : List ℕ

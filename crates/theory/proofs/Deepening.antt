@@ -85,7 +85,7 @@ module _ (G : Game) (L : Lawful G) (limit : ℕ) (p : G .Pos) (g : L .Good p) wh
     deepen-right (suc k) w e each r line t s h = let each' = one-more-each w each r line t in
         deepen-step k (one-deeper w r line t) (omega arith) each' s (h .2) (λ r' line' s' h'. deepen-right k (one-deeper w r line t) (omega arith) each' r' line' (s' .tally) s' h')
 
--- the whole claim on a search: with the table off, any remembered answers, any allowance and any limit of 1 or more, an answer that is not marked
+-- the whole claim on a search: with the table off, any response tables, any allowance and any limit of 1 or more, an answer that is not marked
 -- as stopped is right
 pub analyze-right : (G : Game) (L : Lawful G) (n : Allowance) (k : ℕ) (p : G .Pos) → L .Good p → (s : Memory) → Off s → T (not (analyze G n (suc k) p s .is-stopped)) → Right G k p (analyze G n (suc k) p s .whole)
 unfolding analyze

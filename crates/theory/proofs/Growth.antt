@@ -141,9 +141,6 @@ module _ (G : Game) where
       (λ _ g. entered-grown e g)
       (λ r line' s₃ g. ends-found (Grown 0 s) r line' (told s₃ (G .key p) (suc d) a b r line') (grown-told 0 s s₃ (G .key p) (suc d) a b r line' (entered-grown e g))))))
 
-  pub over-moves-grows : (n : Allowance) (d : ℕ) (p : G .Pos) (b : ℤ) (prev : ℕ) (ms : List ℕ) (a : ℤ) (line low : List ℕ) (s : Memory) → Ends (Grown 1 s) (over-moves G (search G n d) p b prev ms a line low s)
-  over-moves-grows n d p b prev ms a line low s = moves-grow (search G n d) (search-grows n d) p b prev ms a line low s
-
   -- ---- within an allowance of n the count stays
   module _ (n : ℕ) where
     abbrev Allowed : Memory → Type 0
@@ -173,6 +170,3 @@ module _ (G : Game) where
         (moves-allowed (search G (at-most n) d) (search-allowed d) p b prev (candidates G first s₂ p prev line) a line (replicate d no-move) s₂ (omega (arith, ltb→lt (s .count) n t, count-enter s)))
         (λ _ k. k)
         (λ r line' s₃ k. ends-found Allowed r line' (told s₃ (G .key p) (suc d) a b r line') (omega (arith, count-told s₃ (G .key p) (suc d) a b r line'))))))
-
-    pub over-moves-allowed : (d : ℕ) (p : G .Pos) (b : ℤ) (prev : ℕ) (ms : List ℕ) (a : ℤ) (line low : List ℕ) (s : Memory) → s .count ≤ n → Ends (λ z. z .count ≤ n) (over-moves G (search G (at-most n) d) p b prev ms a line low s)
-    over-moves-allowed d p b prev ms a line low s h = moves-allowed (search G (at-most n) d) (search-allowed d) p b prev ms a line low s h

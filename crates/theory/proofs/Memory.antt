@@ -3,18 +3,17 @@ use mathlib.Core.Path.{_≡_, refl, ap, _∙_}
 use mathlib.Core.List.{List, []}
 use mathlib.Core.Option.{Option, none, some}
 use Prim.Native.Nat.{ℕ, suc, _<_}
-use lib.Dec.{T}
+use lib.Dec.{T, T-not}
 use lib.IntN.{ℤ}
 use lib.ListN.{length, getD}
 use lib.Seq.{getD-set-same}
-use Rattle.base.proofs.Bool.{deny}
 use Rattle.base.proofs.Branch.{if-ind}
 use Rattle.rules.specs.declared.Player.{Player}
 use Rattle.rules.specs.declared.Player.the-variants.{X, O}
 use Rattle.rules.specs.Board.{other}
 use Rattle.rules.specs.Play.{no-move}
 use Rattle.theory.specs.Table.{Entry, off, look-up, store, suffices}
-use Rattle.theory.specs.Memory.{Memory, with-table, begin, enter, leaf, hit, answered, answers-to, cut}
+use Rattle.theory.specs.Memory.{Memory, with-table, begin, enter, leaf, hit, answered, responses-to, cut}
 use Rattle.theory.specs.OrderedSearch.{Probed, known, missed, probed, probe, told}
 
 -- ---- the count
@@ -60,11 +59,12 @@ probed-leaves P s d a b (some e) h k l = if-ind (Leaves P) (suffices e d a b) _ 
 pub count-probe : (s : Memory) (key d : ℕ) (a b : ℤ) → Leaves (λ z. z .count ≡ s .count) (probe s key d a b)
 count-probe s key d a b = probed-leaves (λ z. z .count ≡ s .count) s d a b (look-up (s .table) key) refl (count-hit s) (count-answered (hit s) ∙ count-hit s)
 
--- ---- a cut by m, with w to move, is remembered as the answer to the previous move, which the other side made
-pub cut-remembers : (w : Player) (s : Memory) (prev m : ℕ) → prev < length (answers-to s (other w)) → getD (answers-to (cut w s prev m) (other w)) prev no-move ≡ m
+-- ---- a cut by m, with w to move, becomes the response to the previous move, which the other side made
+pub cut-remembers : (w : Player) (s : Memory) (prev m : ℕ)
+    → prev < length (responses-to s (other w)) → getD (responses-to (cut w s prev m) (other w)) prev no-move ≡ m
 unfolding cut
-cut-remembers X s prev m h = getD-set-same (s .answers-o) prev m no-move h
-cut-remembers O s prev m h = getD-set-same (s .answers-x) prev m no-move h
+cut-remembers X s prev m h = getD-set-same (s .responses .to-o) prev m no-move h
+cut-remembers O s prev m h = getD-set-same (s .responses .to-x) prev m no-move h
 
 -- ---- the table is off
 abbrev pub Off : Memory → Type 0
@@ -82,14 +82,6 @@ pub off-leaf : (s : Memory) → Off s → Off (leaf s)
 unfolding leaf
 off-leaf s t = t
 
-pub off-hit : (s : Memory) → Off s → Off (hit s)
-unfolding hit
-off-hit s t = t
-
-pub off-answered : (s : Memory) → Off s → Off (answered s)
-unfolding answered
-off-answered s t = t
-
 pub off-cut : (w : Player) (s : Memory) (prev m : ℕ) → Off s → Off (cut w s prev m)
 unfolding cut
 off-cut X s prev m t = t
@@ -98,12 +90,12 @@ off-cut O s prev m t = t
 -- it has no entry
 pub look-up-off : (words : List ℕ) (h : ℕ) → T (off words) → look-up words h ≡ none
 unfolding look-up
-look-up-off words h t = if-ind (λ e. e ≡ none) (off words) _ _ (λ _. refl) (λ u. absurd (deny (off words) u t))
+look-up-off words h t = if-ind (λ e. e ≡ none) (off words) _ _ (λ _. refl) (λ u. absurd (T-not (off words) u t))
 
 -- and takes none
 pub store-off : (words : List ℕ) (h : ℕ) (e : Entry) → T (off words) → store words h e ≡ words
 unfolding store
-store-off words h e t = if-ind (λ l. l ≡ words) (off words) _ _ (λ _. refl) (λ u. absurd (deny (off words) u t))
+store-off words h e t = if-ind (λ l. l ≡ words) (off words) _ _ (λ _. refl) (λ u. absurd (T-not (off words) u t))
 
 -- so a probe misses, with no move to try first
 pub probe-off : (s : Memory) (key d : ℕ) (a b : ℤ) → Off s → probe s key d a b ≡ missed [] s

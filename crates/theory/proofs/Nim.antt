@@ -6,14 +6,14 @@ use mathlib.Core.List.{List, [], _∷_}
 use mathlib.Core.Logic.{inl, inr}
 use Prim.Native.Nat.{ℕ, zero, suc, _+_, _-_, _*_, _%_, _<_}
 use native.Mathlib.Omega.{arith}
-use lib.Dec.{T, eqb, leb, le→leb}
+use lib.Dec.{T, eqb, leb, le→leb, T-not}
 use lib.ListN.{set, replicate}
 use lib.IntN.{ℤ, pos, negsuc, _-ℤ_}
 use lib.Signed.{_≤ℤ_, _<ℤ_, leZ-yes}
 use Rattle.base.specs.Branch.{if_then_else_}
 use Rattle.base.specs.Integers.{maxZ}
 use Rattle.base.specs.Lists.{In, elem, keep}
-use Rattle.base.proofs.Bool.{and→, →and, deny}
+use Rattle.base.proofs.Bool.{and→, →and}
 use Rattle.base.proofs.Branch.{if-ind}
 use Rattle.base.proofs.Integers.{hi, lo, zarith, sm}
 use Rattle.base.proofs.Lists.{keep-in, in-keep, in-elem, elem-in}
@@ -21,11 +21,10 @@ use Rattle.rules.specs.declared.Player.{Player}
 use Rattle.rules.specs.declared.Player.the-variants.{X, O}
 use Rattle.rules.specs.Board.{other}
 use Rattle.rules.specs.Evaluation.{won, lost}
-use Rattle.rules.specs.Play.{no-move}
 use Rattle.theory.specs.Game.{Game}
 use Rattle.theory.specs.PlainMinimax.{highest, best, plain}
 use Rattle.theory.specs.Table.{value-of, entry-of, off, begins, look-up, store, suffices, bound-of}
-use Rattle.theory.specs.Memory.{Tally, Memory, fresh-memory, begin, enter, leaf, hit, answered, cut, some-move, hints}
+use Rattle.theory.specs.Memory.{Tally, Memory, fresh-memory, begin, enter, leaf, hit, answered, cut, some-move, hints, counts, no-responses}
 use Rattle.theory.specs.OrderedSearch.{Allowance, unlimited, at-most, unless-stopped, entering, probed, on-probe, told, set-first, fresh, candidates, over-moves, search}
 use Rattle.theory.specs.Deepening.{Stats, Whole, nothing-yet, Answer, on-outcome, deepen, analyze}
 use Rattle.theory.specs.Line.{walk, ends-on, Right}
@@ -66,7 +65,7 @@ nim-listed p m = (
 )
 
 not-zero : (h : ℕ) → T (not (eqb h 0)) → 0 < h
-not-zero zero t = absurd (deny (eqb 0 0) t tt)
+not-zero zero t = absurd (T-not (eqb 0 0) t tt)
 not-zero (suc h) t = omega arith
 
 nim-some-move : (p : Nim) → T (not (nim .over p)) → (m : ℕ) × In m (nim .moves p)
@@ -77,10 +76,10 @@ unfolding hi lo
 small-inside x h = (omega (zarith, sm (pos x) (negsuc 4)), omega (zarith, sm (pos x) (negsuc 4)))
 
 nim-inside : (p : Nim) → T (not (nim .over p)) → (lost <ℤ nim .value p) × (nim .value p <ℤ won)
-nim-inside p t = if-ind (λ z. (lost <ℤ z) × (z <ℤ won)) (eqb (p .heap) 0) _ _ (λ u. absurd (deny (eqb (p .heap) 0) t u)) (λ _. small-inside ((p .heap * 7) % 11) (omega arith))
+nim-inside p t = if-ind (λ z. (lost <ℤ z) × (z <ℤ won)) (eqb (p .heap) 0) _ _ (λ u. absurd (T-not (eqb (p .heap) 0) t u)) (λ _. small-inside ((p .heap * 7) % 11) (omega arith))
 
 nim-within : (p : Nim) → T (nim .over p) → (lost ≤ℤ nim .value p) × (nim .value p ≤ℤ won)
-nim-within p t = if-ind (λ z. (lost ≤ℤ z) × (z ≤ℤ won)) (eqb (p .heap) 0) _ _ (λ _. (leZ-yes tt, leZ-yes tt)) (λ u. absurd (deny (eqb (p .heap) 0) u t))
+nim-within p t = if-ind (λ z. (lost ≤ℤ z) × (z ≤ℤ won)) (eqb (p .heap) 0) _ _ (λ _. (leZ-yes tt, leZ-yes tt)) (λ u. absurd (T-not (eqb (p .heap) 0) u t))
 
 pub nim-lawful : Lawful nim
 nim-lawful = record {
@@ -92,7 +91,7 @@ nim-lawful = record {
   within = λ p _ t. nim-within p t;
 }
 
--- searched from any heap, with any remembered answers, it is answered rightly
+-- searched from any heap, with any response tables, it is answered rightly
 pub nim-right : (n : Allowance) (k : ℕ) (p : Nim) (s : Memory) → Off s → T (not (analyze nim n (suc k) p s .is-stopped)) → Right nim k p (analyze nim n (suc k) p s .whole)
 unfolding nim-lawful
 nim-right n k p s o = analyze-right nim nim-lawful n k p tt s o
@@ -107,28 +106,25 @@ pub record Seen : Type 0 where
 abbrev seen : Bool → ℕ → Whole → Seen
 seen b n w = record { is-stopped = b; count = n; whole = w }
 
-abbrev tally : ℕ → ℕ → ℕ → ℕ → ℕ → Tally
-tally v t c h f = record { visited = v; terminal = t; cuts = c; tt-hit = h; tt-suffice = f }
-
 abbrev at-depth : ℕ → ℤ → Tally → Stats
 at-depth d r t = record { depth = d; score = r; tally = t }
 
 abbrev start : ℕ → Nim
 start n = record { heap = n; side = X }
 
-abbrev no-answers : List ℕ
-no-answers = replicate 256 no-move
+abbrev none-yet : List ℕ
+none-yet = no-responses .to-x
 
 abbrev no-table : Memory
-no-table = fresh-memory no-answers no-answers []
+no-table = fresh-memory no-responses []
 
 -- of so many words
 abbrev table : ℕ → Memory
-table n = fresh-memory no-answers no-answers (replicate n 0)
+table n = fresh-memory no-responses (replicate n 0)
 
--- remembered answers of which 77 and 200 are no moves, and 3 and 2 none from a small heap
+-- responses of which 77 and 200 are no moves, and 3 and 2 none from a small heap
 abbrev junk : Memory
-junk = fresh-memory (set no-answers 3 2) (set (set (set no-answers 1 3) 2 77) 255 200) []
+junk = fresh-memory (record { to-x = set none-yet 3 2; to-o = set (set (set none-yet 1 3) 2 77) 255 200 }) []
 
 -- a limit, a heap with X to move, and a memory
 unfoldable answer : Allowance → ℕ → ℕ → Memory → Answer
@@ -145,40 +141,46 @@ plain-values = (refl, refl, refl, refl)
 
 -- ---- the table is off
 -- an unfinished game, to the limit
-open-game : run unlimited 4 14 no-table ≡ seen false 94 (record { depth = 4; score = negsuc 2; line = 2 ∷ 1 ∷ 3 ∷ 3 ∷ []; stats = at-depth 1 (pos 5) (tally 4 3 0 0 0) ∷ at-depth 2 (negsuc 3) (tally 13 9 2 0 0) ∷ at-depth 3 (pos 4) (tally 32 21 5 0 0) ∷ at-depth 4 (negsuc 2) (tally 45 25 11 0 0) ∷ [] })
+open-game : run unlimited 4 14 no-table ≡ seen false 94 (record { depth = 4; score = negsuc 2; line = 2 ∷ 1 ∷ 3 ∷ 3 ∷ []; stats = at-depth 1 (pos 5) (counts 4 3 0 0 0) ∷ at-depth 2 (negsuc 3) (counts 13 9 2 0 0) ∷ at-depth 3 (pos 4) (counts 32 21 5 0 0) ∷ at-depth 4 (negsuc 2) (counts 45 25 11 0 0) ∷ [] })
 unfolding answer
 open-game = refl
 
--- and what it leaves: the last depth's counts, and for each side the answers by which a search was cut
-open-game-leaves : answer unlimited 4 14 no-table .memory ≡ record { count = 94; tally = tally 45 25 11 0 0; answers-x = set (set (set no-answers 1 1) 2 2) 3 1; answers-o = set (set (set no-answers 1 2) 2 2) 3 1; table = [] }
+-- and what it leaves: the last depth's counts, and for each side the responses by which a search was cut
+open-game-leaves : answer unlimited 4 14 no-table .memory
+    ≡ record {
+      count = 94;
+      tally = counts 45 25 11 0 0;
+      responses = record { to-x = set (set (set none-yet 1 1) 2 2) 3 1; to-o = set (set (set none-yet 1 2) 2 2) 3 1 };
+      table = [];
+    }
 unfolding answer
 open-game-leaves = refl
 
 -- a lost game ends the search at the depth that shows it, and so does a won one
-lost-game : run unlimited 8 12 no-table ≡ seen false 320 (record { depth = 6; score = lost; line = 3 ∷ 1 ∷ 2 ∷ 2 ∷ 2 ∷ 2 ∷ []; stats = at-depth 1 (pos 5) (tally 4 3 0 0 0) ∷ at-depth 2 (negsuc 3) (tally 13 9 2 0 0) ∷ at-depth 3 (pos 3) (tally 24 15 4 0 0) ∷ at-depth 4 (negsuc 1) (tally 73 45 15 0 0) ∷ at-depth 5 (pos 2) (tally 88 47 22 0 0) ∷ at-depth 6 lost (tally 118 49 45 0 0) ∷ [] })
+lost-game : run unlimited 8 12 no-table ≡ seen false 320 (record { depth = 6; score = lost; line = 3 ∷ 1 ∷ 2 ∷ 2 ∷ 2 ∷ 2 ∷ []; stats = at-depth 1 (pos 5) (counts 4 3 0 0 0) ∷ at-depth 2 (negsuc 3) (counts 13 9 2 0 0) ∷ at-depth 3 (pos 3) (counts 24 15 4 0 0) ∷ at-depth 4 (negsuc 1) (counts 73 45 15 0 0) ∷ at-depth 5 (pos 2) (counts 88 47 22 0 0) ∷ at-depth 6 lost (counts 118 49 45 0 0) ∷ [] })
 unfolding answer
 lost-game = refl
 
-won-game : run unlimited 9 9 no-table ≡ seen false 134 (record { depth = 5; score = won; line = 1 ∷ 3 ∷ 1 ∷ 3 ∷ 1 ∷ []; stats = at-depth 1 (pos 4) (tally 4 3 0 0 0) ∷ at-depth 2 (negsuc 2) (tally 13 9 2 0 0) ∷ at-depth 3 (pos 2) (tally 24 15 4 0 0) ∷ at-depth 4 (negsuc 1) (tally 41 21 11 0 0) ∷ at-depth 5 won (tally 52 20 19 0 0) ∷ [] })
+won-game : run unlimited 9 9 no-table ≡ seen false 134 (record { depth = 5; score = won; line = 1 ∷ 3 ∷ 1 ∷ 3 ∷ 1 ∷ []; stats = at-depth 1 (pos 4) (counts 4 3 0 0 0) ∷ at-depth 2 (negsuc 2) (counts 13 9 2 0 0) ∷ at-depth 3 (pos 2) (counts 24 15 4 0 0) ∷ at-depth 4 (negsuc 1) (counts 41 21 11 0 0) ∷ at-depth 5 won (counts 52 20 19 0 0) ∷ [] })
 unfolding answer
 won-game = refl
 
 -- a finished game has no move
-over-game : run unlimited 5 0 no-table ≡ seen false 1 (record { depth = 1; score = lost; line = 255 ∷ []; stats = at-depth 1 lost (tally 1 1 0 0 0) ∷ [] })
+over-game : run unlimited 5 0 no-table ≡ seen false 1 (record { depth = 1; score = lost; line = 255 ∷ []; stats = at-depth 1 lost (counts 1 1 0 0 0) ∷ [] })
 unfolding answer
 over-game = refl
 
 -- taking three wins at once and comes first: the loop over the moves goes on, since the score is below the upper edge
-every-move-tried : run unlimited 1 3 no-table ≡ seen false 4 (record { depth = 1; score = won; line = 3 ∷ []; stats = at-depth 1 won (tally 4 3 0 0 0) ∷ [] })
+every-move-tried : run unlimited 1 3 no-table ≡ seen false 4 (record { depth = 1; score = won; line = 3 ∷ []; stats = at-depth 1 won (counts 4 3 0 0 0) ∷ [] })
 unfolding answer
 every-move-tried = refl
 
-every-move-tried-deeper : run unlimited 3 7 no-table ≡ seen false 42 (record { depth = 3; score = won; line = 3 ∷ 2 ∷ 2 ∷ []; stats = at-depth 1 (pos 3) (tally 4 3 0 0 0) ∷ at-depth 2 (negsuc 1) (tally 12 8 2 0 0) ∷ at-depth 3 won (tally 26 15 4 0 0) ∷ [] })
+every-move-tried-deeper : run unlimited 3 7 no-table ≡ seen false 42 (record { depth = 3; score = won; line = 3 ∷ 2 ∷ 2 ∷ []; stats = at-depth 1 (pos 3) (counts 4 3 0 0 0) ∷ at-depth 2 (negsuc 1) (counts 12 8 2 0 0) ∷ at-depth 3 won (counts 26 15 4 0 0) ∷ [] })
 unfolding answer
 every-move-tried-deeper = refl
 
--- remembered answers that are no moves are passed over
-junk-passed-over : run unlimited 8 12 junk ≡ seen false 289 (record { depth = 6; score = lost; line = 3 ∷ 1 ∷ 3 ∷ 1 ∷ 3 ∷ 1 ∷ []; stats = at-depth 1 (pos 5) (tally 4 3 0 0 0) ∷ at-depth 2 (negsuc 3) (tally 12 8 2 0 0) ∷ at-depth 3 (pos 3) (tally 22 13 4 0 0) ∷ at-depth 4 (negsuc 1) (tally 40 20 12 0 0) ∷ at-depth 5 (pos 2) (tally 110 59 26 0 0) ∷ at-depth 6 lost (tally 101 35 46 0 0) ∷ [] })
+-- responses that are no moves are passed over
+junk-passed-over : run unlimited 8 12 junk ≡ seen false 289 (record { depth = 6; score = lost; line = 3 ∷ 1 ∷ 3 ∷ 1 ∷ 3 ∷ 1 ∷ []; stats = at-depth 1 (pos 5) (counts 4 3 0 0 0) ∷ at-depth 2 (negsuc 3) (counts 12 8 2 0 0) ∷ at-depth 3 (pos 3) (counts 22 13 4 0 0) ∷ at-depth 4 (negsuc 1) (counts 40 20 12 0 0) ∷ at-depth 5 (pos 2) (counts 110 59 26 0 0) ∷ at-depth 6 lost (counts 101 35 46 0 0) ∷ [] })
 unfolding answer
 junk-passed-over = refl
 
@@ -194,7 +196,7 @@ not-walked = (refl, refl)
 
 -- ---- the table is on
 -- seven entries, all zero: some positions are hit, and some of the hits suffice
-table-suffices : run unlimited 6 13 (table 21) ≡ seen false 319 (record { depth = 6; score = negsuc 1; line = 1 ∷ 3 ∷ 1 ∷ 3 ∷ 1 ∷ 2 ∷ []; stats = at-depth 1 (pos 5) (tally 4 3 0 0 0) ∷ at-depth 2 (negsuc 3) (tally 12 8 2 1 0) ∷ at-depth 3 (pos 4) (tally 29 18 4 5 1) ∷ at-depth 4 (negsuc 2) (tally 68 37 16 11 4) ∷ at-depth 5 (pos 2) (tally 76 38 16 12 5) ∷ at-depth 6 (negsuc 1) (tally 130 64 38 9 2) ∷ [] })
+table-suffices : run unlimited 6 13 (table 21) ≡ seen false 319 (record { depth = 6; score = negsuc 1; line = 1 ∷ 3 ∷ 1 ∷ 3 ∷ 1 ∷ 2 ∷ []; stats = at-depth 1 (pos 5) (counts 4 3 0 0 0) ∷ at-depth 2 (negsuc 3) (counts 12 8 2 1 0) ∷ at-depth 3 (pos 4) (counts 29 18 4 5 1) ∷ at-depth 4 (negsuc 2) (counts 68 37 16 11 4) ∷ at-depth 5 (pos 2) (counts 76 38 16 12 5) ∷ at-depth 6 (negsuc 1) (counts 130 64 38 9 2) ∷ [] })
 unfolding answer
 table-suffices = refl
 
@@ -203,7 +205,7 @@ unfolding answer
 table-left = refl
 
 -- where the table answered, the line is not known beyond its move
-table-sets-one-place : run unlimited 5 14 (table 21) ≡ seen false 168 (record { depth = 5; score = pos 3; line = 1 ∷ 2 ∷ 2 ∷ 255 ∷ 255 ∷ []; stats = at-depth 1 (pos 5) (tally 4 3 0 0 0) ∷ at-depth 2 (negsuc 3) (tally 13 9 2 1 0) ∷ at-depth 3 (pos 4) (tally 29 18 5 5 1) ∷ at-depth 4 (negsuc 2) (tally 33 12 9 10 5) ∷ at-depth 5 (pos 3) (tally 89 43 18 16 9) ∷ [] })
+table-sets-one-place : run unlimited 5 14 (table 21) ≡ seen false 168 (record { depth = 5; score = pos 3; line = 1 ∷ 2 ∷ 2 ∷ 255 ∷ 255 ∷ []; stats = at-depth 1 (pos 5) (counts 4 3 0 0 0) ∷ at-depth 2 (negsuc 3) (counts 13 9 2 1 0) ∷ at-depth 3 (pos 4) (counts 29 18 5 5 1) ∷ at-depth 4 (negsuc 2) (counts 33 12 9 10 5) ∷ at-depth 5 (pos 3) (counts 89 43 18 16 9) ∷ [] })
 unfolding answer
 table-sets-one-place = refl
 
@@ -219,29 +221,29 @@ first-emptied = refl
 
 -- lent for heap 1, O to move: value -2^60 - 1, AtMost at depth 1, the empty move
 abbrev lent : Memory
-lent = fresh-memory no-answers no-answers (3 ∷ 17293822569102704639 ∷ 16712193 ∷ 0 ∷ 0 ∷ 0 ∷ 0 ∷ 0 ∷ 0 ∷ [])
+lent = fresh-memory no-responses (3 ∷ 17293822569102704639 ∷ 16712193 ∷ 0 ∷ 0 ∷ 0 ∷ 0 ∷ 0 ∷ 0 ∷ [])
 
 -- it suffices at depth 2, after a sibling has left a 2 in the line
-table-empties-one-place : run unlimited 2 4 lent ≡ seen false 9 (record { depth = 2; score = highest; line = 3 ∷ 255 ∷ []; stats = at-depth 1 (pos 2) (tally 4 3 0 0 0) ∷ at-depth 2 highest (tally 5 2 1 2 1) ∷ [] })
+table-empties-one-place : run unlimited 2 4 lent ≡ seen false 9 (record { depth = 2; score = highest; line = 3 ∷ 255 ∷ []; stats = at-depth 1 (pos 2) (counts 4 3 0 0 0) ∷ at-depth 2 highest (counts 5 2 1 2 1) ∷ [] })
 unfolding answer
 table-empties-one-place = refl
 
 -- ---- the allowance
 -- the unlimited search enters 94: so many are enough, and one less is not
-just-enough : run (at-most 94) 4 14 no-table ≡ seen false 94 (record { depth = 4; score = negsuc 2; line = 2 ∷ 1 ∷ 3 ∷ 3 ∷ []; stats = at-depth 1 (pos 5) (tally 4 3 0 0 0) ∷ at-depth 2 (negsuc 3) (tally 13 9 2 0 0) ∷ at-depth 3 (pos 4) (tally 32 21 5 0 0) ∷ at-depth 4 (negsuc 2) (tally 45 25 11 0 0) ∷ [] })
+just-enough : run (at-most 94) 4 14 no-table ≡ seen false 94 (record { depth = 4; score = negsuc 2; line = 2 ∷ 1 ∷ 3 ∷ 3 ∷ []; stats = at-depth 1 (pos 5) (counts 4 3 0 0 0) ∷ at-depth 2 (negsuc 3) (counts 13 9 2 0 0) ∷ at-depth 3 (pos 4) (counts 32 21 5 0 0) ∷ at-depth 4 (negsuc 2) (counts 45 25 11 0 0) ∷ [] })
 unfolding answer
 just-enough = refl
 
-one-short : run (at-most 93) 4 14 no-table ≡ seen true 93 (record { depth = 3; score = pos 4; line = 2 ∷ 1 ∷ 3 ∷ []; stats = at-depth 1 (pos 5) (tally 4 3 0 0 0) ∷ at-depth 2 (negsuc 3) (tally 13 9 2 0 0) ∷ at-depth 3 (pos 4) (tally 32 21 5 0 0) ∷ [] })
+one-short : run (at-most 93) 4 14 no-table ≡ seen true 93 (record { depth = 3; score = pos 4; line = 2 ∷ 1 ∷ 3 ∷ []; stats = at-depth 1 (pos 5) (counts 4 3 0 0 0) ∷ at-depth 2 (negsuc 3) (counts 13 9 2 0 0) ∷ at-depth 3 (pos 4) (counts 32 21 5 0 0) ∷ [] })
 unfolding answer
 one-short = refl
 
 -- its first three depths enter 49: so many give three whole depths, and one less two
-three-depths-exactly : run (at-most 49) 4 14 no-table ≡ seen true 49 (record { depth = 3; score = pos 4; line = 2 ∷ 1 ∷ 3 ∷ []; stats = at-depth 1 (pos 5) (tally 4 3 0 0 0) ∷ at-depth 2 (negsuc 3) (tally 13 9 2 0 0) ∷ at-depth 3 (pos 4) (tally 32 21 5 0 0) ∷ [] })
+three-depths-exactly : run (at-most 49) 4 14 no-table ≡ seen true 49 (record { depth = 3; score = pos 4; line = 2 ∷ 1 ∷ 3 ∷ []; stats = at-depth 1 (pos 5) (counts 4 3 0 0 0) ∷ at-depth 2 (negsuc 3) (counts 13 9 2 0 0) ∷ at-depth 3 (pos 4) (counts 32 21 5 0 0) ∷ [] })
 unfolding answer
 three-depths-exactly = refl
 
-three-depths-one-short : run (at-most 48) 4 14 no-table ≡ seen true 48 (record { depth = 2; score = negsuc 3; line = 3 ∷ 3 ∷ []; stats = at-depth 1 (pos 5) (tally 4 3 0 0 0) ∷ at-depth 2 (negsuc 3) (tally 13 9 2 0 0) ∷ [] })
+three-depths-one-short : run (at-most 48) 4 14 no-table ≡ seen true 48 (record { depth = 2; score = negsuc 3; line = 3 ∷ 3 ∷ []; stats = at-depth 1 (pos 5) (counts 4 3 0 0 0) ∷ at-depth 2 (negsuc 3) (counts 13 9 2 0 0) ∷ [] })
 unfolding answer
 three-depths-one-short = refl
 
@@ -251,10 +253,16 @@ unfolding answer
 no-depth-whole = refl
 
 -- with the table on
-table-stopped : run (at-most 150) 6 13 (table 21) ≡ seen true 150 (record { depth = 4; score = negsuc 2; line = 1 ∷ 1 ∷ 3 ∷ 3 ∷ []; stats = at-depth 1 (pos 5) (tally 4 3 0 0 0) ∷ at-depth 2 (negsuc 3) (tally 12 8 2 1 0) ∷ at-depth 3 (pos 4) (tally 29 18 4 5 1) ∷ at-depth 4 (negsuc 2) (tally 68 37 16 11 4) ∷ [] })
+table-stopped : run (at-most 150) 6 13 (table 21) ≡ seen true 150 (record { depth = 4; score = negsuc 2; line = 1 ∷ 1 ∷ 3 ∷ 3 ∷ []; stats = at-depth 1 (pos 5) (counts 4 3 0 0 0) ∷ at-depth 2 (negsuc 3) (counts 12 8 2 1 0) ∷ at-depth 3 (pos 4) (counts 29 18 4 5 1) ∷ at-depth 4 (negsuc 2) (counts 68 37 16 11 4) ∷ [] })
 unfolding answer
 table-stopped = refl
 
-table-stopped-leaves : answer (at-most 150) 6 13 (table 21) .memory ≡ record { count = 150; tally = tally 37 19 6 7 2; answers-x = set (set (set no-answers 1 2) 2 2) 3 1; answers-o = set (set (set no-answers 1 3) 2 2) 3 1; table = 21 ∷ 3 ∷ 65795 ∷ 22 ∷ 3 ∷ 131075 ∷ 23 ∷ 3 ∷ 131331 ∷ 17 ∷ 18446744073709551614 ∷ 196610 ∷ 25 ∷ 3 ∷ 65539 ∷ 26 ∷ 18446744073709551613 ∷ 65540 ∷ 20 ∷ 18446744073709551613 ∷ 131330 ∷ [] }
+table-stopped-leaves : answer (at-most 150) 6 13 (table 21) .memory
+    ≡ record {
+      count = 150;
+      tally = counts 37 19 6 7 2;
+      responses = record { to-x = set (set (set none-yet 1 2) 2 2) 3 1; to-o = set (set (set none-yet 1 3) 2 2) 3 1 };
+      table = 21 ∷ 3 ∷ 65795 ∷ 22 ∷ 3 ∷ 131075 ∷ 23 ∷ 3 ∷ 131331 ∷ 17 ∷ 18446744073709551614 ∷ 196610 ∷ 25 ∷ 3 ∷ 65539 ∷ 26 ∷ 18446744073709551613 ∷ 65540 ∷ 20 ∷ 18446744073709551613 ∷ 131330 ∷ [];
+    }
 unfolding answer
 table-stopped-leaves = refl

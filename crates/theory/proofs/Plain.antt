@@ -4,11 +4,11 @@ use mathlib.Core.Bool.{not}
 use mathlib.Core.Logic.{inl, inr}
 use Prim.Native.Nat.{ℕ, zero, suc, _+_}
 use native.Mathlib.Omega.{arith}
-use lib.Dec.{T}
+use lib.Dec.{T, T-not}
 use lib.IntN.{ℤ}
 use lib.Signed.{_≤ℤ_, _<ℤ_}
 use Rattle.base.specs.Lists.{In}
-use Rattle.base.proofs.Bool.{deny, is}
+use Rattle.base.proofs.Bool.{is}
 use Rattle.base.proofs.Branch.{if-ind}
 use Rattle.base.proofs.Integers.{hi, lo, zarith, ng}
 use Rattle.rules.specs.Evaluation.{won, lost}
@@ -30,12 +30,12 @@ module _ (G : Game) where
   pub plain-over : (d : ℕ) (p : G .Pos) → T (G .over p) → plain G d p ≡ G .value p
   unfolding plain
   plain-over zero p t = refl
-  plain-over (suc d) p t = if-ind (λ z. z ≡ G .value p) (G .over p) _ _ (λ _. refl) (λ u. absurd (deny (G .over p) u t))
+  plain-over (suc d) p t = if-ind (λ z. z ≡ G .value p) (G .over p) _ _ (λ _. refl) (λ u. absurd (T-not (G .over p) u t))
 
   -- else the best of what the listed moves promise
   pub plain-moves : (d : ℕ) (p : G .Pos) → T (not (G .over p)) → plain G (suc d) p ≡ best (promises G d p) (G .moves p)
   unfolding plain
-  plain-moves d p t = if-ind (λ z. z ≡ best (promises G d p) (G .moves p)) (G .over p) _ _ (λ u. absurd (deny (G .over p) t u)) (λ _. refl)
+  plain-moves d p t = if-ind (λ z. z ≡ best (promises G d p) (G .moves p)) (G .over p) _ _ (λ u. absurd (T-not (G .over p) t u)) (λ _. refl)
 
 module _ (G : Game) (L : Lawful G) where
   value-range : (p : G .Pos) → L .Good p → (lost ≤ℤ G .value p) × (G .value p ≤ℤ won)

@@ -1,6 +1,5 @@
 -- A score stays within the root's window if every evaluation does: a score is an evaluation, an edge of a window within it, a table's value, which
 -- is tested, or the negative of such a score, and the root's window is its own negative.
-use mathlib.Core.Path.{_≡_, subst}
 use mathlib.Core.List.{List, [], _∷_}
 use mathlib.Core.Option.{Option, none, some}
 use Prim.Native.Nat.{ℕ, zero, suc, _/_, _%_}
@@ -42,9 +41,6 @@ entry-within value rest = if-ind ValueWithin _ _ _
 look-up-within : (words : List ℕ) (h : ℕ) → ValueWithin (look-up words h)
 unfolding look-up
 look-up-within words h = if-ind ValueWithin (off words) _ _ (λ _. tt) (λ _. if-ind ValueWithin _ _ _ (λ _. entry-within _ _) (λ _. tt))
-
-pub look-up-range : (words : List ℕ) (h : ℕ) (e : Entry) → look-up words h ≡ some e → (lowest ≤ℤ e .value) × (e .value ≤ℤ highest)
-look-up-range words h e q = subst ValueWithin q (look-up-within words h)
 
 abbrev KnownWithin : Probed → Type 0
 KnownWithin (known v m s) = Within v

@@ -5,12 +5,11 @@ use mathlib.Core.Bool.{not}
 use mathlib.Core.List.{List, [], _∷_}
 use mathlib.Core.Logic.{inl, inr}
 use Prim.Native.Nat.{ℕ, zero, suc}
-use lib.Dec.{T}
+use lib.Dec.{T, T-not}
 use lib.ListN.{replicate}
 use lib.IntN.{ℤ, negℤ}
 use lib.Signed.{leZ, ltZ, _≤ℤ_, _<ℤ_, leZ-yes, ltZ-yes, ltZ-no}
 use Rattle.base.specs.Lists.{In}
-use Rattle.base.proofs.Bool.{deny}
 use Rattle.base.proofs.Branch.{if-ind}
 use Rattle.base.proofs.Integers.{hi, lo, zarith, ng, nle→, split, max-l, max-r, max-is}
 use Rattle.rules.specs.Evaluation.{won, lost}
@@ -135,13 +134,13 @@ module _ (G : Game) where
   over-found : (d : ℕ) (p : G .Pos) (a b : ℤ) (line : List ℕ) → T (G .over p) → Found (suc d) p a b (G .value p) line
   over-found d p a b line t = (
     subst (λ (z : ℤ). Bounds a b (G .value p) z) (sym (plain-over G (suc d) p t)) (bounds-refl a b (G .value p)),
-    (λ _ _. ((λ _. refl), (λ u. absurd (deny (G .over p) u t)))),
+    (λ _ _. ((λ _. refl), (λ u. absurd (T-not (G .over p) u t)))),
   )
 
   open-found : (d : ℕ) (p : G .Pos) (a b : ℤ) (old : List ℕ) (r : ℤ) (line : List ℕ) (ms : List ℕ) → T (not (G .over p)) → ((m : ℕ) → In m ms → In m (G .moves p)) → ((m : ℕ) → In m (G .moves p) → In m ms) → Left d p ms a b old r line → Found (suc d) p a b r line
   open-found d p a b old r line ms t i j w = (
     subst (λ (z : ℤ). Bounds a b r z) (best-same (promises G d p) ms (G .moves p) i j ∙ sym (plain-moves G d p t)) (w .most, w .least),
-    (λ u v. ((λ o. absurd (deny (G .over p) t o)), (λ _. w .led u v))),
+    (λ u v. ((λ o. absurd (T-not (G .over p) t o)), (λ _. w .led u v))),
   )
 
   module _ (L : Lawful G) where
@@ -172,7 +171,7 @@ module _ (G : Game) where
           (λ t. gives-map (LeftOff d p ms a b line) (LeftOff d p (m ∷ ms) a b line) _ (moves-left ms a line low' s' (h .1) ha hb (λ x j. inn x (inr j)))
           (λ r' l' _ w. (left-not d p m ms a b line r low' (h .0) hb (ltZ-no t) r' l' (w .0), w .1))))
 
-    -- with any allowance, previous move, line and remembered answers
+    -- with any allowance, previous move, line and response tables
     pub search-finds : (n : Allowance) (d : ℕ) → Finds d (search G n d)
     unfolding search plain
     search-finds n zero p a b line prev s g o ha hb ht = gives-entering (FoundOff zero p a b) n s _

@@ -10,7 +10,7 @@ use Rattle.base.specs.Checks.{first-failed}
 use Rattle.rules.specs.Play.{no-move}
 use Rattle.theory.specs.Limits.{Limits, console}
 use Rattle.theory.specs.Game.{Game}
-use Rattle.theory.specs.Memory.{no-tally, fresh-memory}
+use Rattle.theory.specs.Memory.{no-tally, Responses, fresh-memory}
 use Rattle.theory.specs.OrderedSearch.{at-most}
 use Rattle.theory.specs.Deepening.{Stats, Answer, analyze}
 
@@ -41,9 +41,8 @@ pub record Reported : Type 0 where
   pub stats : List Stats
   -- positions entered, over all depths
   pub count : ℕ
-  -- what is left of the remembered answers and the table
-  pub answers-x : List ℕ
-  pub answers-o : List ℕ
+  -- what is left of the response tables and the table
+  pub responses : Responses
   pub table : List ℕ
 
 abbrev pub no-stats : Stats
@@ -54,8 +53,8 @@ abbrev pub filled : {A : Type 0} → A → List A → List A
 filled x xs = xs ++ replicate (console .deepest - length xs) x
 
 -- refused at the entry: nothing is changed, and nothing is said
-abbrev pub refused-entry : ℕ → List ℕ → List ℕ → List ℕ → Reported
-refused-entry n xs os words = record {
+abbrev pub refused-entry : ℕ → Responses → List ℕ → Reported
+refused-entry n rs words = record {
   number = n;
   is-stopped = false;
   depth = 0;
@@ -63,29 +62,27 @@ refused-entry n xs os words = record {
   line = replicate (console .deepest) no-move;
   stats = replicate (console .deepest) no-stats;
   count = 0;
-  answers-x = xs;
-  answers-o = os;
+  responses = rs;
   table = words;
 }
 
--- 18: the allowance was spent inside depth 1
-abbrev pub report : Answer → Reported
-report x = record {
-  number = if x .is-stopped && eqb (x .whole .depth) 0 then (λ _. 18) else λ _. 0;
-  is-stopped = x .is-stopped;
-  depth = x .whole .depth;
-  score = x .whole .score;
-  line = filled no-move (x .whole .line);
-  stats = filled no-stats (x .whole .stats);
-  count = x .memory .count;
-  answers-x = x .memory .answers-x;
-  answers-o = x .memory .answers-o;
-  table = x .memory .table;
-}
-
 module _ (G : Game) where
-  unfoldable pub reported : Settings → G .Pos → List ℕ → List ℕ → List ℕ → Reported
-  reported c p xs os words =
+  -- of a search of p. 18: the allowance was spent inside depth 1
+  abbrev pub report : G .Pos → Answer → Reported
+  report p x = record {
+    number = if x .is-stopped && eqb (x .whole .depth) 0 then (λ _. 18) else λ _. 0;
+    is-stopped = x .is-stopped;
+    depth = x .whole .depth;
+    score = x .whole .score;
+    line = filled no-move (x .whole .line);
+    stats = filled no-stats (x .whole .stats);
+    count = x .memory .count;
+    responses = x .memory .responses;
+    table = x .memory .table;
+  }
+
+  unfoldable pub reported : Settings → G .Pos → Responses → List ℕ → Reported
+  reported c p rs words =
       let n = entry-refusal c (length words) in
-      if eqb n 0 then (λ _. report (analyze G (at-most (c .allowance)) (c .max-depth) p (fresh-memory xs os words)))
-      else λ _. refused-entry n xs os words
+      if eqb n 0 then (λ _. report p (analyze G (at-most (c .allowance)) (c .max-depth) p (fresh-memory rs words)))
+      else λ _. refused-entry n rs words

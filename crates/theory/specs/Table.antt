@@ -1,5 +1,5 @@
 -- The table: a row of 64-bit words, three an entry: hash; value as two's complement; depth + 256 × bound + 65,536 × move.
-use mathlib.Core.Bool.{Bool, true, false, _&&_}
+use mathlib.Core.Bool.{Bool, true, _&&_}
 use mathlib.Core.List.{List}
 use mathlib.Core.Option.{Option, none, some}
 use Prim.Native.Nat.{ℕ, zero, suc, _+_, _-_, _*_, _/_, _%_}
@@ -46,14 +46,14 @@ entry-of value rest =
 unfoldable pub off : List ℕ → Bool
 off words = ltb (length words) 3
 
--- where the entry of a hash begins: slot = hash modulo entries
-unfoldable pub begins : List ℕ → ℕ → ℕ
-begins words h = 3 * (h % (length words / 3))
+-- where the entry of a hash begins, in so many words: slot = hash modulo entries
+unfoldable pub begins : ℕ → ℕ → ℕ
+begins words h = 3 * (h % (words / 3))
 
 unfoldable pub look-up : List ℕ → ℕ → Option Entry
 look-up words h =
     if off words then (λ _. none) else
-    λ _. let i = begins words h in
+    λ _. let i = begins (length words) h in
     if eqb (getD words i 0) h then (λ _. entry-of (getD words (i + 1) 0) (getD words (i + 2) 0)) else λ _. none
 
 -- a store replaces an absent entry or a strictly shallower one
@@ -64,7 +64,7 @@ replaces depth (some e) = ltb (e .depth) depth
 unfoldable pub store : List ℕ → ℕ → Entry → List ℕ
 store words h e =
     if off words then (λ _. words) else
-    λ _. let i = begins words h in
+    λ _. let i = begins (length words) h in
     if replaces (e .depth) (entry-of (getD words (i + 1) 0) (getD words (i + 2) 0))
     then (λ _. set (set (set words i h) (i + 1) (word-of (e .value))) (i + 2) (rest-of e))
     else λ _. words

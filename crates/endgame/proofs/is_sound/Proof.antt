@@ -7,10 +7,11 @@ use borrow.Author.Tests.{not-true, not-false}
 use Rattle.base.specs.Lists.{all}
 use Rattle.rules.specs.Board.{nine}
 use Rattle.rules.specs.Sound.{sound}
+use Rattle.rules.proofs.Board.{nine-at}
 use Rattle.lines.proofs.Masks.{line-known}
 use Rattle.game.specs.Meaning.{position-of}
 use Rattle.endgame.specs.Parts.{live}
-use Rattle.endgame.proofs.Walk.{all-failed, all-passed, nine-at}
+use Rattle.endgame.proofs.Walk.{all-failed, all-passed}
 use Rattle.endgame.proofs.Sound.{line-of-x, line-of-o, no-line}
 use borrow.Author.Needs.{needs}
 use Rattle.endgame.proofs.is_sound.Statement.{statement}

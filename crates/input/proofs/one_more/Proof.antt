@@ -1,5 +1,4 @@
 -- The two ways of the test.
-use mathlib.Core.Path.{sym}
 use borrow.Author.Needs.{needs}
 use borrow.Author.Tests.{lt-ltb, le-ltb}
 use Rattle.base.specs.Branch.{if_then_else_}

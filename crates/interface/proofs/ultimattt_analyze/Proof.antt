@@ -1,10 +1,11 @@
 -- Each refusal in turn, or what the search and the analysis give.
 use mathlib.Core.Path.{sym, ap, _∙_}
 use denote.Ref.{now}
+use denote.Floats.{passes}
 use borrow.Author.Tests.{not-true, not-false}
 use Rattle.game.specs.declared.Game.{Game}
 use Rattle.game.specs.After.{games-after}
-use Rattle.interface.proofs.Calls.{is-so, analyzes-none, analyzes-no-draws, analyzes-few-answers, analyzes-no-report, analyzes-well}
+use Rattle.interface.proofs.Calls.{analyzes-none, analyzes-no-draws, analyzes-few-answers, analyzes-no-report, analyzes-well}
 use borrow.Author.Needs.{needs}
 use Rattle.interface.proofs.ultimattt_analyze.Statement.{statement}
 use Rattle.interface.proofs.ultimattt_analyze.Tie as tie
@@ -29,7 +30,7 @@ returns-4 c = let s = c .before .before .before .before .before .before .before 
     analyzes-no-report (s .position .now) (s .moves .now) (s .depth) (s .allowance) (s .draw-winner) (s .answers .now) (s .words .now) (s .report .now) (sym (c .before .before .before .before .is-position .ensures) ∙ not-false _ (c .before .before .before .if1 .left)) (c .before .before .if2 .left) (c .before .if3 .left) (c .if4 .taken)
 
 game-from-requires : tie.Need-game-from-requires
-game-from-requires c κs = is-so _ (sym (c .before .before .before .before .is-position .ensures) ∙ not-false _ (c .before .before .before .if1 .left))
+game-from-requires c κs = passes _ (sym (c .before .before .before .before .is-position .ensures) ∙ not-false _ (c .before .before .before .if1 .left))
 
 play-all-requires : tie.Need-play-all-requires
 play-all-requires c κs = search needs
@@ -83,7 +84,7 @@ returns-5 c =
     analyzes-well (s .position .now) (s .moves .now) (s .depth) (s .allowance) (s .draw-winner) (s .answers .now) (s .words .now) (s .report .now)
     (sym (is .is-position .ensures) ∙ not-false _ (i1 .if1 .left)) (i2 .if2 .left) (i3 .if3 .left) (i4 .if4 .left)
     (play .play-all .result) (play .play-all .ensures ∙ ap (λ (g : Game). games-after g (s .moves .now)) (game .game-from .ensures))
-    (draws .draws-from .result) (draws .draws-from .ensures) (memory .memory .result) (memory .memory .ensures .0) (memory .memory .ensures .1)
+    (draws .draws-from .result) (draws .draws-from .ensures) (memory .memory .result) (memory .memory .ensures)
     (search .analyze .result) (search .analyze .last .1 .1 .1 .0) (search .analyze .ensures)
     (new .new .result) (new .new .ensures) _ _ _ (kept .put-memory .ensures) (put .put .ensures) (c .number .ensures)
 

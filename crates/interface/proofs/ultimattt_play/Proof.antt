@@ -1,10 +1,11 @@
 -- Each move in turn, and the words of the game that they lead to.
 use mathlib.Core.Path.{sym, _∙_}
 use denote.Ref.{now}
+use denote.Floats.{passes}
 use borrow.Author.Tests.{not-true, not-false}
 use Rattle.interface.specs.Position.{most}
 use Rattle.interface.proofs.PositionWords.{within-long}
-use Rattle.interface.proofs.Calls.{is-so, plays-none, plays-short, plays-well}
+use Rattle.interface.proofs.Calls.{plays-none, plays-short, plays-well}
 use borrow.Author.Needs.{needs}
 use Rattle.interface.proofs.ultimattt_play.Statement.{statement}
 use Rattle.interface.proofs.ultimattt_play.Tie as tie
@@ -29,13 +30,13 @@ returns-2 c =
     plays-short (s .position .now) (s .moves .now) (s .answers .now) (sym (c .before .before .is-position .ensures) ∙ not-false _ (c .before .if1 .left)) (c .if2 .taken)
 
 game-from-requires : tie.Need-game-from-requires
-game-from-requires c κs = is-so _ (sym (c .before .before .before .is-position .ensures) ∙ not-false _ (c .before .before .if1 .left))
+game-from-requires c κs = passes _ (sym (c .before .before .before .is-position .ensures) ∙ not-false _ (c .before .before .if1 .left))
 
 play-requires : tie.Need-play-requires
 play-requires c κs = search needs
 
 put-requires : tie.Need-put-requires
-put-requires c κs = within-long most (c .before .before .before .before .before .before .before .before .before .before .before .before .before .before .args .position .now) (is-so _ (sym (c .before .before .before .before .before .before .before .before .before .is-position .ensures) ∙ not-false _ (c .before .before .before .before .before .before .before .before .if1 .left)))
+put-requires c κs = within-long most (c .before .before .before .before .before .before .before .before .before .before .before .before .before .before .args .position .now) (passes _ (sym (c .before .before .before .before .before .before .before .before .before .is-position .ensures) ∙ not-false _ (c .before .before .before .before .before .before .before .before .if1 .left)))
 
 same-length-3 : tie.Need-same-length-3
 same-length-3 c = search needs
@@ -47,7 +48,7 @@ returns-3 : tie.Need-returns-3
 returns-3 c =
     let s = c .before .before .before .before .before .before .before .before .before .before .before .before .before .before .before .before .before .args in
     let is = (sym (c .before .before .before .before .before .before .before .before .before .before .before .before .is-position .ensures) ∙ not-false _ (c .before .before .before .before .before .before .before .before .before .before .before .if1 .left)) in
-    plays-well (s .position .now) (s .moves .now) (s .answers .now) _ _ _ _ is (c .before .before .before .before .before .before .before .before .before .before .if2 .left) (within-long most (s .position .now) (is-so _ is))
+    plays-well (s .position .now) (s .moves .now) (s .answers .now) _ _ _ _ is (c .before .before .before .before .before .before .before .before .before .before .if2 .left) (within-long most (s .position .now) (passes _ is))
     (c .before .before .before .before .before .before .before .before .game-from .ensures) (c .before .before .before .before .before .before .play .ensures .0) (c .before .before .before .before .before .before .play .ensures .1) (c .before .before .put .ensures)
 
 pub ultimattt-play-spec : {M : Type 1} → statement M

@@ -1,8 +1,9 @@
 -- The text of the words' game.
 use mathlib.Core.Path.{sym, _∙_}
 use denote.Ref.{now}
+use denote.Floats.{passes}
 use borrow.Author.Tests.{not-true, not-false}
-use Rattle.interface.proofs.Calls.{is-so, renders-none, renders-short, renders-well}
+use Rattle.interface.proofs.Calls.{renders-none, renders-short, renders-well}
 use borrow.Author.Needs.{needs}
 use Rattle.interface.proofs.ultimattt_render.Statement.{statement}
 use Rattle.interface.proofs.ultimattt_render.Tie as tie
@@ -17,7 +18,7 @@ returns-2 : tie.Need-returns-2
 returns-2 c = renders-short (c .before .before .before .before .before .args .position .now) (c .before .before .before .before .before .args .out .now) (sym (c .before .before .is-position .ensures) ∙ not-false _ (c .before .if1 .left)) (c .if2 .taken)
 
 game-from-requires : tie.Need-game-from-requires
-game-from-requires c κs = is-so _ (sym (c .before .before .before .is-position .ensures) ∙ not-false _ (c .before .before .if1 .left))
+game-from-requires c κs = passes _ (sym (c .before .before .before .is-position .ensures) ∙ not-false _ (c .before .before .if1 .left))
 
 render-requires : tie.Need-render-requires
 render-requires c κs = search needs

@@ -1,13 +1,13 @@
 -- The number is 0 where the search was not refused.
 use mathlib.Core.Path.{sym, ap, _∙_}
 use mathlib.Core.List.{[]}
-use Rattle.base.proofs.Signed.{back}
 use Rattle.text.specs.ProgramLine.{refusal-text}
 use Rattle.status.specs.Sets.{set-of}
 use Rattle.minimax.specs.Report.{report-of}
 use Rattle.out.specs.OutBytes.{out-of}
 use Rattle.line.proofs.Answered.{report-refused, report-answered}
 use borrow.Author.Needs.{needs}
+use mir.Facts.{toZ-ofZ}
 use Rattle.line.proofs.reported.Statement.{statement}
 use Rattle.line.proofs.reported.Tie as tie
 
@@ -35,7 +35,7 @@ returns-2 c =
     let b = c .before .before .before .before .before in
     let a = b .before .args in
     report-answered (set-of (a .status)) _ (report-of (a .report) []) _ _ _ (c .before .before .before .legal-moves .ensures)
-    (back (a .report .score) (record { sfits = c .before .struct-told .given .1 .1 .1 .0 .1 }))
+    (toZ-ofZ {z = a .report .score} (record { sfits = c .before .struct-told .given .1 .1 .1 .0 .1 }))
     (sym (b .number .ensures) ∙ c .before .before .before .before .if1 .left) (c .answer .ensures)
 
 pub reported-spec : {M : Type 1} → statement M

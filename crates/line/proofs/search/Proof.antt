@@ -1,4 +1,4 @@
--- With no words and no remembered answers the search of the game is that of its position.
+-- With no words and no responses the search of the game is that of its position.
 use Rattle.line.proofs.Answered.{search-searched}
 use borrow.Author.Needs.{needs}
 use Rattle.line.proofs.search.Statement.{statement}

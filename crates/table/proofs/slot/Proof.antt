@@ -3,6 +3,7 @@ use mathlib.Core.Path.{refl}
 use native.Mathlib.Omega.{arith}
 use Rattle.table.proofs.Rows.{begins-within}
 use borrow.Author.Needs.{needs}
+use Rattle.theory.specs.Table.{begins}
 use Rattle.table.proofs.slot.Statement.{statement}
 use Rattle.table.proofs.slot.Tie as tie
 
@@ -10,9 +11,11 @@ rem-result : tie.Need-rem-result
 rem-result c = search needs
 
 mul-result : tie.Need-mul-result
+unfolding begins
 mul-result c = omega (arith, begins-within (c .args .words) (c .args .hash) (c .pre))
 
 returns : tie.Need-returns
+unfolding begins
 returns c = (refl, begins-within (c .args .words) (c .args .hash) (c .pre))
 
 pub slot-spec : {M : Type 1} → statement M

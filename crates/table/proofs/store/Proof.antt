@@ -8,7 +8,7 @@ use Rattle.theory.specs.Table.{word-of, replaces}
 use Rattle.table.specs.Entries.{entry-means}
 use Rattle.table.proofs.Rows.{held-at, store-off, store-refused, store-wrote}
 use borrow.Author.Needs.{needs}
-use Rattle.base.proofs.Signed.{back}
+use mir.Facts.{toZ-ofZ}
 use Rattle.table.proofs.store.Statement.{statement}
 use Rattle.table.proofs.store.Tie as tie
 
@@ -85,7 +85,7 @@ same-length c = search needs
 returns-3 : tie.Need-returns-3
 returns-3 c =
     let e = c .before .before .before .before .before .before .before .before .before .before .before .args .e in
-    let value = back (e .value) (record { sfits = c .before .before .struct-told .given .0 .1 }) in
+    let value = toZ-ofZ {z = e .value} (record { sfits = c .before .before .struct-told .given .0 .1 }) in
     store-wrote _ _ _ (c .before .before .before .before .before .before .before .before .before .if1 .left) (c .before .before .before .before .before .before .before .before .slot .ensures .0) (entry-means e) _ _
     (c .before .to-word .ensures ∙ ap word-of value) (c .rest-of .ensures) (sym (decision (c .before .before .before .before)) ∙ not-false _ (c .before .before .before .if2 .left))
 

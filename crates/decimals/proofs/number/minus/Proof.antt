@@ -1,12 +1,11 @@
 -- The two ways of a number, and none.
-use mathlib.Core.Path.{_≡_, refl, sym, ap, _∙_}
 use Prim.Native.Nat.{_^_}
-use lib.IntN.{pos, negℤ}
-use Rattle.base.proofs.Signed.{back, low-word, zero-sub, minus-fits}
+use Rattle.base.proofs.Signed.{low-word, zero-sub, minus-fits}
 use borrow.Author.Tests.{lt-ltb, le-ltb}
 use Rattle.base.specs.Branch.{if_then_else_}
 use Rattle.decimals.specs.Numbers.{minus}
 use borrow.Author.Needs.{needs}
+use mir.Facts.{toZ-ofZ}
 use Rattle.decimals.proofs.number.minus.Statement.{statement}
 use Rattle.decimals.proofs.number.minus.Tie as tie
 
@@ -24,7 +23,7 @@ enum-told c = search needs
 
 returns : tie.Need-returns
 unfolding minus if_then_else_
-returns c = rw (back _ (sub-t7 c), low-word (c .before .before .n .given .0 .0) (c .if1 .taken), zero-sub, c .before .before .n .given .1, lt-ltb _ (2 ^ 63) (c .if1 .taken))
+returns c = rw (toZ-ofZ (sub-t7 c), low-word (c .before .before .n .given .0 .0) (c .if1 .taken), zero-sub, c .before .before .n .given .1, lt-ltb _ (2 ^ 63) (c .if1 .taken))
 
 returns-2 : tie.Need-returns-2
 unfolding minus if_then_else_

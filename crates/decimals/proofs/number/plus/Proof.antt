@@ -1,8 +1,6 @@
 -- The two ways of a number, and none.
-use mathlib.Core.Path.{_≡_, refl, sym, ap, _∙_}
 use Prim.Native.Nat.{_^_}
-use lib.IntN.{pos, negℤ}
-use Rattle.base.proofs.Signed.{back, low-word, zero-sub, minus-fits}
+use Rattle.base.proofs.Signed.{low-word}
 use borrow.Author.Tests.{lt-ltb, le-ltb}
 use Rattle.base.specs.Branch.{if_then_else_}
 use Rattle.decimals.specs.Numbers.{plus}

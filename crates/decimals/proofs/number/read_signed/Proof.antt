@@ -1,5 +1,5 @@
 -- The three ways of a text: nothing, a minus before a number, a number.
-use mathlib.Core.Path.{_≡_, ap, _∙_}
+use mathlib.Core.Path.{ap, _∙_}
 use denote.Ref.{now}
 use Rattle.decimals.specs.Numbers.{plus, minus}
 use Rattle.decimals.proofs.Digits.{signed-none, signed-minus, signed-plus}

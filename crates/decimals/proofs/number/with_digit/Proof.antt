@@ -1,5 +1,5 @@
 -- The number stays below 2^64 up to 1844674407370955161 and the digit 5.
-use mathlib.Core.Path.{_≡_, refl, sym, ap, _∙_}
+use mathlib.Core.Path.{sym, _∙_}
 use native.Mathlib.Omega.{arith}
 use borrow.Author.Tests.{not-true, not-false}
 use Rattle.decimals.proofs.Digits.{within-bounds, digit-fits, digit-over, no-digit}

@@ -1,6 +1,5 @@
 -- The two ways of the test.
 use borrow.Author.Needs.{needs}
-use borrow.Author.Tests.{not-true}
 use Rattle.input.proofs.Input.is_end.Statement.{statement}
 use Rattle.input.proofs.Input.is_end.Tie as tie
 

@@ -1,5 +1,5 @@
 -- The lesser of two numbers is at most the second, and so many elements can be taken.
-use mathlib.Core.Path.{_≡_, sym, _∙_}
+use mathlib.Core.Path.{sym}
 use Prim.Native.Nat.{_≤_}
 use native.Mathlib.Omega.{arith}
 use lib.ListN.{length}

@@ -1,5 +1,5 @@
 -- With no room, a store past the end changes nothing.
-use mathlib.Core.Path.{_≡_, refl, sym}
+use mathlib.Core.Path.{refl, sym}
 use lib.Seq.{set-out}
 use denote.Ref.{now}
 use borrow.Author.Needs.{needs}
@@ -9,12 +9,6 @@ use Rattle.input.proofs.Line.push.Tie as tie
 one-more-requires : tie.Need-one-more-requires
 one-more-requires c κs = search needs
 
-mul-t8 : tie.Need-mul-t8
-mul-t8 c = search needs
-
-add-t10 : tie.Need-add-t10
-add-t10 c = search needs
-
 slice-write-kept : tie.Need-slice-write-kept
 slice-write-kept c = search needs
 
@@ -22,12 +16,12 @@ same-length : tie.Need-same-length
 same-length c = search needs
 
 returns : tie.Need-returns
-returns c = (rw (c .before .before .one-more .ensures), refl)
+returns c = (rw (c .before .one-more .ensures), refl)
 
 returns-2 : tie.Need-returns-2
-returns-2 c = let a = c .before .before .before .before .args in (rw (c .before .before .one-more .ensures), sym (set-out (now (a .kept)) (a .self .length) (a .b) (c .if1 .left)))
+returns-2 c = let a = c .before .before .before .args in (rw (c .before .one-more .ensures), sym (set-out (now (a .kept)) (a .self .length) (a .b) (c .if1 .left)))
 
 pub push-spec : {M : Type 1} → statement M
 push-spec =
     tie.close
-    (tie.spec one-more-requires mul-t8 add-t10 slice-write-kept same-length returns returns-2)
+    (tie.spec one-more-requires slice-write-kept same-length returns returns-2)

@@ -1,5 +1,4 @@
 -- The two ways of the test.
-use mathlib.Core.Path.{_≡_}
 use lib.Seq.{length-take-le}
 use denote.Ref.{now}
 use borrow.Author.Needs.{needs}

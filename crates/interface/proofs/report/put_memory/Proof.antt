@@ -1,4 +1,4 @@
--- The answers to O's moves follow those to X's.
+-- The responses to O's moves follow those to X's.
 use lib.ListN.{length-map}
 use denote.Ref.{now}
 use Rattle.interface.proofs.ReportWords.{both-put}
@@ -17,8 +17,10 @@ same-length c = search needs
 
 returns : tie.Need-returns
 returns c =
-    let s = c .before .before .before .before .before .before .before .before .before .before .before in
-    both-put (s .args .answers .now) _ _ (s .args .state .«answers_x») (s .args .state .«answers_o») (simp length-map at (s .good .1 .0 .1 .1 .0 .1 .0 .1)) (simp length-map at (s .good .1 .0 .1 .1 .1 .0 .1 .0 .1)) (c .before .before .before .before .before .before .put-moves .ensures) (c .before .before .put-moves2 .ensures)
+    let s = c .before .before .before .before .before .before .before .before .before .before .before .before in
+    both-put (s .args .answers .now) _ _ (s .args .state .responses .x) (s .args .state .responses .o)
+    (simp length-map at (s .good .1 .0 .1 .1 .0 .1 .1 .0 .1 .0 .1)) (simp length-map at (s .good .1 .0 .1 .1 .0 .1 .1 .1 .0 .1 .0 .1))
+    (c .before .before .before .before .before .before .put-moves .ensures) (c .before .before .put-moves2 .ensures)
 
 pub put-memory-spec : {M : Type 1} → statement M
 put-memory-spec = tie.close (tie.spec put-moves-requires put-moves-requires-2 same-length returns)

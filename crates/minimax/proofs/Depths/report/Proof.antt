@@ -10,8 +10,8 @@ use Rattle.minimax.proofs.Depths.report.Tie as tie
 ending-requires : tie.Need-ending-requires
 ending-requires c κs = search needs
 
-cast-t11 : tie.Need-cast-t11
-cast-t11 c = search needs
+cast-t12 : tie.Need-cast-t12
+cast-t12 c = search needs
 
 returns : tie.Need-returns
 returns c =
@@ -21,4 +21,4 @@ returns c =
     report-made (s .args .self) (s .args .state) (s .args .stopped) (s .pre) n k (c .before .before .ending .result) (c .before .before .ending .ensures) _ (told (s .args .self .score) (c .struct-told .given .1 .1 .1 .0 .1))
 
 pub report-spec : {M : Type 1} → statement M
-report-spec = tie.close (tie.spec ending-requires cast-t11 returns)
+report-spec = tie.close (tie.spec ending-requires cast-t12 returns)

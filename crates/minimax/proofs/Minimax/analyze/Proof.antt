@@ -1,7 +1,7 @@
 -- Refused at the entry, or searched.
 use mathlib.Core.Path.{sym, ap, _∙_}
 use Rattle.minimax.specs.Structs.{structs}
-use Rattle.minimax.specs.Report.{entry-number, settings-of}
+use Rattle.minimax.specs.Report.{scoring-of, entry-number, settings-of}
 use Rattle.minimax.proofs.Refusals.{limits, refused-reported, accepted-reported}
 use borrow.Author.Needs.{needs}
 use Rattle.minimax.proofs.Minimax.analyze.Statement.{statement}
@@ -25,7 +25,7 @@ deepen-requires c κs = limits (settings-of (c .before .before .before .before .
 returns : tie.Need-returns
 returns c =
     let s = c .before .before .before .before .before .before in
-    c .refused .ensures _ ∙ refused-reported (structs (s .args .config .«draw_winner»)) (settings-of (s .args .config)) (s .args .game) _ _ _ (c .before .before .why .given .0 .0) (sym (ap entry-number (c .before .before .why .given .1)) ∙ c .before .before .before .before .check .ensures)
+    c .refused .ensures _ ∙ refused-reported (structs (scoring-of (s .args .config))) (settings-of (s .args .config)) (s .args .game) _ _ (c .before .before .why .given .0 .0) (sym (ap entry-number (c .before .before .why .given .1)) ∙ c .before .before .before .before .check .ensures)
 
 same-length : tie.Need-same-length
 same-length c = search needs
@@ -33,7 +33,7 @@ same-length c = search needs
 returns-2 : tie.Need-returns-2
 returns-2 c =
     let s = c .before .before .before .before .before .before .before .before in
-    c .before .before .deepen .ensures ∙ accepted-reported (structs (s .args .config .«draw_winner»)) (settings-of (s .args .config)) (s .args .game) _ _ _ (sym (ap entry-number (c .before .before .before .before .enum-told .given .1)) ∙ c .before .before .before .before .before .before .check .ensures)
+    c .before .before .deepen .ensures ∙ accepted-reported (structs (scoring-of (s .args .config))) (settings-of (s .args .config)) (s .args .game) _ _ (sym (ap entry-number (c .before .before .before .before .enum-told .given .1)) ∙ c .before .before .before .before .before .before .check .ensures)
 
 pub analyze-spec : {M : Type 1} → statement M
 analyze-spec =

@@ -5,6 +5,8 @@ use native.Mathlib.Omega.{arith}
 use denote.Ref.{now}
 use Rattle.theory.specs.Deepening.{Whole}
 use Rattle.theory.specs.Reported.{report}
+use Rattle.minimax.specs.Structs.{structs}
+use Rattle.minimax.specs.Report.{scoring-of}
 use Rattle.minimax.proofs.Deepens.{Going, going-first, going-all, going-done, ask-asked, ask-counted, going-stopped, line-kept, going-decided, going-on}
 use Rattle.minimax.proofs.Minimax.deepen.Statement.{statement}
 use Rattle.minimax.proofs.Minimax.deepen.Tie as tie
@@ -25,7 +27,10 @@ begin-requires : tie.Need-begin-requires Inv-loop μ-loop
 begin-requires c κs = tt
 
 loop-holds : tie.Need-loop-holds Inv-loop μ-loop
-loop-holds c = going-first (c .before .before .before .before .args .self) (c .before .before .before .before .args .game) (c .before .before .before .before .args .config) (now (c .before .before .before .before .args .words)) (c .before .none .result) (c .begin .result) (c .before .none .ensures) (c .begin .ensures)
+loop-holds c =
+    let start = c .before .before .before .before in
+    going-first (start .args .self) (start .args .game) (start .args .config) (now (start .args .words)) (c .before .none .result)
+    (c .begin .result) (c .before .none .ensures) (c .begin .ensures)
 
 cast-if1 : tie.Need-cast-if1 Inv-loop μ-loop
 cast-if1 c = record { fits = omega (arith, c .before .loop .inv .empty .most) }
@@ -37,19 +42,71 @@ begin-requires-2 : tie.Need-begin-requires-2 Inv-loop μ-loop
 begin-requires-2 c κs = tt
 
 minimax-requires : tie.Need-minimax-requires Inv-loop μ-loop
-minimax-requires c κs = (ask-asked (c .before .before .before .before .before .before .before .before .before .before .before .args .game) (c .before .before .before .before .before .before .before .before .before .before .before .args .config) (now (c .before .before .before .before .before .before .before .before .before .before .before .args .words)) (c .before .before .before .before .before .before .before .before .none .result) (c .before .before .before .before .before .before .before .begin .result) (c .before .before .before .before .before .before .loop .words) (c .before .before .before .before .before .before .loop .whole) (c .before .before .before .before .before .before .loop .s) (c .before .before .before .before .before .before .loop .inv) (c .before .before .before .before .before .before .before .before .before .before .before .pre .0) (c .before .before .before .before .before .before .before .before .before .before .before .pre .1) (c .before .before .before .if1 .taken) (c .before .before .before .before .before .before .before .before .before .new .result) (c .before .before .before .before .before .before .before .before .before .new .ensures) (c .before .before .ask .result) (c .before .before .ask .ensures) (c .before .begin2 .result) (c .before .begin2 .ensures), ask-counted (c .before .before .before .before .before .before .before .before .before .before .before .args .game) (c .before .before .before .before .before .before .before .before .before .before .before .args .config) (now (c .before .before .before .before .before .before .before .before .before .before .before .args .words)) (c .before .before .before .before .before .before .before .before .none .result) (c .before .before .before .before .before .before .before .begin .result) (c .before .before .before .before .before .before .loop .words) (c .before .before .before .before .before .before .loop .whole) (c .before .before .before .before .before .before .loop .s) (c .before .before .before .before .before .before .loop .inv) (c .before .before .before .before .before .before .before .before .before .before .before .pre .0) (c .before .before .before .before .before .before .before .before .before .before .before .pre .1) (c .before .before .before .if1 .taken) (c .before .before .before .before .before .before .before .before .before .new .result) (c .before .before .before .before .before .before .before .before .before .new .ensures) (c .before .before .ask .result) (c .before .before .ask .ensures) (c .before .begin2 .result) (c .before .begin2 .ensures))
+minimax-requires c κs =
+    let start = c .before .before .before .before .before .before .before .before .before .before .before in
+    let turn = c .before .before .before .before .before .before in (
+      ask-asked (start .args .game) (start .args .config) (now (start .args .words)) (c .before .before .before .before .before
+          .before .before .before .none .result) (c .before .before .before .before .before .before .before .begin .result) (turn .loop
+          .words) (turn .loop .whole) (turn .loop .s) (turn .loop .inv) (start .pre .0) (start .pre .1) (c .before .before .before .if1
+          .taken) (c .before .before .before .before .before .before .before .before .before .new .result) (c .before .before .before
+          .before .before .before .before .before .before .new .ensures) (c .before .before .ask .result) (c .before .before .ask
+          .ensures) (c .before .begin2 .result) (c .before .begin2 .ensures),
+      ask-counted (start .args .game) (start .args .config) (now
+          (start .args .words)) (c .before .before .before .before .before .before .before .before .none .result) (c .before .before
+          .before .before .before .before .before .begin .result) (turn .loop .words) (turn .loop .whole) (turn .loop .s) (turn .loop
+          .inv) (start .pre .0) (start .pre .1) (c .before .before .before .if1 .taken) (c .before .before .before .before .before
+          .before .before .before .before .new .result) (c .before .before .before .before .before .before .before .before .before .new
+          .ensures) (c .before .before .ask .result) (c .before .before .ask .ensures) (c .before .begin2 .result) (c .before .begin2
+          .ensures),
+    )
 
 report-requires : tie.Need-report-requires Inv-loop μ-loop
 report-requires c κs = c .before .before .before .before .before .before .before .before .before .before .loop .inv .empty
 
 same-length : tie.Need-same-length Inv-loop μ-loop
-same-length c = c .before .before .before .before .minimax .kept .1 .1 .1 .0 ∙ c .before .before .before .before .before .before .before .before .before .before .before .loop .inv .long
+same-length c =
+    let turn = c .before .before .before .before .before .before .before .before .before .before .before in
+    c .before .before .before .before .minimax .kept .1 .1 .1 .0 ∙ turn .loop .inv .long
 
 returns : tie.Need-returns Inv-loop μ-loop
-returns c = c .report .ensures _ ∙ ap report (going-stopped (c .before .before .before .before .before .before .before .before .before .before .before .before .before .before .before .before .args .game) (c .before .before .before .before .before .before .before .before .before .before .before .before .before .before .before .before .args .config) (now (c .before .before .before .before .before .before .before .before .before .before .before .before .before .before .before .before .args .words)) (c .before .before .before .before .before .before .before .before .before .before .before .before .before .none .result) (c .before .before .before .before .before .before .before .before .before .before .before .before .begin .result) (c .before .before .before .before .before .before .before .before .before .before .before .loop .words) (c .before .before .before .before .before .before .before .before .before .before .before .loop .whole) (c .before .before .before .before .before .before .before .before .before .before .before .loop .s) (c .before .before .before .before .before .before .before .before .before .before .before .loop .inv) (c .before .before .before .before .before .before .before .before .before .before .before .before .before .before .before .before .pre .0) (c .before .before .before .before .before .before .before .before .before .before .before .before .before .before .before .before .pre .1) (c .before .before .before .before .before .before .before .before .if1 .taken) (c .before .before .before .before .before .before .before .before .before .before .before .before .before .before .new .result) (c .before .before .before .before .before .before .before .before .before .before .before .before .before .before .new .ensures) (c .before .before .before .before .before .before .before .ask .result) (c .before .before .before .before .before .before .before .ask .ensures) (c .before .before .before .before .before .before .begin2 .result) (c .before .before .before .before .before .before .begin2 .ensures) (c .before .before .before .before .minimax .result) (c .before .before .before .before .minimax .last .1 .1 .1 .0) (c .before .before .before .before .minimax .ensures) (c .before .before .before .before .minimax .kept .1 .1 .1 .0) (c .before .if2 .taken) ∙ going-all (c .before .before .before .before .before .before .before .before .before .before .before .before .before .before .before .before .args .self) (c .before .before .before .before .before .before .before .before .before .before .before .before .before .before .before .before .args .game) (c .before .before .before .before .before .before .before .before .before .before .before .before .before .before .before .before .args .config) (now (c .before .before .before .before .before .before .before .before .before .before .before .before .before .before .before .before .args .words)) (c .before .before .before .before .before .before .before .before .before .before .before .before .before .none .result) (c .before .before .before .before .before .before .before .before .before .before .before .before .begin .result) (c .before .before .before .before .before .before .before .before .before .before .before .before .before .none .ensures) (c .before .before .before .before .before .before .before .before .before .before .before .before .begin .ensures))
+returns c =
+    let start = c .before .before .before .before .before .before .before .before .before .before .before .before .before .before .before .before in
+    let turn = c .before .before .before .before .before .before .before .before .before .before .before in
+    c .report .ensures (scoring-of (start .args .config)) (start .args .game) _ ∙ ap (report (structs (scoring-of (start .args
+    .config))) (start .args .game)) (going-stopped (start .args .game) (start .args .config) (now (start .args .words)) (c .before
+    .before .before .before .before .before .before .before .before .before .before .before .before .none .result) (c .before
+    .before .before .before .before .before .before .before .before .before .before .before .begin .result) (turn .loop .words)
+    (turn .loop .whole) (turn .loop .s) (turn .loop .inv) (start .pre .0) (start .pre .1) (c .before .before .before .before
+    .before .before .before .before .if1 .taken) (c .before .before .before .before .before .before .before .before .before
+    .before .before .before .before .before .new .result) (c .before .before .before .before .before .before .before .before
+    .before .before .before .before .before .before .new .ensures) (c .before .before .before .before .before .before .before .ask
+    .result) (c .before .before .before .before .before .before .before .ask .ensures) (c .before .before .before .before .before
+    .before .begin2 .result) (c .before .before .before .before .before .before .begin2 .ensures) (c .before .before .before
+    .before .minimax .result) (c .before .before .before .before .minimax .last .1 .1 .1 .0) (c .before .before .before .before
+    .minimax .ensures) (c .before .before .before .before .minimax .kept .1 .1 .1 .0) (c .before .if2 .taken) ∙ going-all (start
+    .args .self) (start .args .game) (start .args .config) (now (start .args .words)) (c .before .before .before .before .before
+    .before .before .before .before .before .before .before .before .none .result) (c .before .before .before .before .before
+    .before .before .before .before .before .before .before .begin .result) (c .before .before .before .before .before .before
+    .before .before .before .before .before .before .before .none .ensures) (c .before .before .before .before .before .before
+    .before .before .before .before .before .before .begin .ensures))
 
 deeper-requires : tie.Need-deeper-requires Inv-loop μ-loop
-deeper-requires c κs = (omega (arith, c .before .before .before .before .before .before .before .if1 .taken, c .before .before .before .before .before .before .before .before .before .before .before .before .before .before .before .pre .0), c .before .before .before .before .before .before .before .before .before .before .loop .inv .empty, line-kept (c .before .before .before .before .before .before .before .before .before .before .before .before .before .before .before .args .game) (c .before .before .before .before .before .before .before .before .before .before .before .before .before .before .before .args .config) (now (c .before .before .before .before .before .before .before .before .before .before .before .before .before .before .before .args .words)) (c .before .before .before .before .before .before .before .before .before .before .before .before .none .result) (c .before .before .before .before .before .before .before .before .before .before .before .begin .result) (c .before .before .before .before .before .before .before .before .before .before .loop .words) (c .before .before .before .before .before .before .before .before .before .before .loop .whole) (c .before .before .before .before .before .before .before .before .before .before .loop .s) (c .before .before .before .before .before .before .before .before .before .before .loop .inv) (c .before .before .before .before .before .before .before .before .before .before .before .before .before .before .before .pre .0) (c .before .before .before .before .before .before .before .before .before .before .before .before .before .before .before .pre .1) (c .before .before .before .before .before .before .before .if1 .taken) (c .before .before .before .before .before .before .before .before .before .before .before .before .before .new .result) (c .before .before .before .before .before .before .before .before .before .before .before .before .before .new .ensures) (c .before .before .before .before .before .before .ask .result) (c .before .before .before .before .before .before .ask .ensures) (c .before .before .before .before .before .begin2 .result) (c .before .before .before .before .before .begin2 .ensures) (c .before .before .before .minimax .result) (c .before .before .before .minimax .last .1 .1 .1 .0) (c .before .before .before .minimax .ensures) (c .before .before .before .minimax .kept .1 .1 .1 .0) (c .if2 .left))
+deeper-requires c κs =
+    let start = c .before .before .before .before .before .before .before .before .before .before .before .before .before .before .before in
+    let turn = c .before .before .before .before .before .before .before .before .before .before in (
+      omega (arith, c .before .before .before .before .before .before .before .if1 .taken, start .pre .0),
+      turn .loop .inv .empty,
+      line-kept (start .args .game) (start .args .config) (now (start .args .words)) (c .before .before .before .before .before
+          .before .before .before .before .before .before .before .none .result) (c .before .before .before .before .before .before
+          .before .before .before .before .before .begin .result) (turn .loop .words) (turn .loop .whole) (turn .loop .s) (turn .loop
+          .inv) (start .pre .0) (start .pre .1) (c .before .before .before .before .before .before .before .if1 .taken) (c .before
+          .before .before .before .before .before .before .before .before .before .before .before .before .new .result) (c .before
+          .before .before .before .before .before .before .before .before .before .before .before .before .new .ensures) (c .before
+          .before .before .before .before .before .ask .result) (c .before .before .before .before .before .before .ask .ensures) (c
+          .before .before .before .before .before .begin2 .result) (c .before .before .before .before .before .begin2 .ensures) (c
+          .before .before .before .minimax .result) (c .before .before .before .minimax .last .1 .1 .1 .0) (c .before .before .before
+          .minimax .ensures) (c .before .before .before .minimax .kept .1 .1 .1 .0) (c .if2 .left),
+    )
 
 is-decided-requires : tie.Need-is-decided-requires Inv-loop μ-loop
 is-decided-requires c κs = tt
@@ -58,16 +115,65 @@ report-requires-2 : tie.Need-report-requires-2 Inv-loop μ-loop
 report-requires-2 c κs = c .before .before .before .deeper .ensures .1
 
 same-length-2 : tie.Need-same-length-2 Inv-loop μ-loop
-same-length-2 c = c .before .before .before .before .before .before .before .before .minimax .kept .1 .1 .1 .0 ∙ c .before .before .before .before .before .before .before .before .before .before .before .before .before .before .before .loop .inv .long
+same-length-2 c =
+    let turn = c .before .before .before .before .before .before .before .before .before .before .before .before .before .before .before in
+    c .before .before .before .before .before .before .before .before .minimax .kept .1 .1 .1 .0 ∙ turn .loop .inv .long
 
 returns-2 : tie.Need-returns-2 Inv-loop μ-loop
-returns-2 c = c .report2 .ensures _ ∙ ap report (going-decided (c .before .before .before .before .before .before .before .before .before .before .before .before .before .before .before .before .before .before .before .before .args .game) (c .before .before .before .before .before .before .before .before .before .before .before .before .before .before .before .before .before .before .before .before .args .config) (now (c .before .before .before .before .before .before .before .before .before .before .before .before .before .before .before .before .before .before .before .before .args .words)) (c .before .before .before .before .before .before .before .before .before .before .before .before .before .before .before .before .before .none .result) (c .before .before .before .before .before .before .before .before .before .before .before .before .before .before .before .before .begin .result) (c .before .before .before .before .before .before .before .before .before .before .before .before .before .before .before .loop .words) (c .before .before .before .before .before .before .before .before .before .before .before .before .before .before .before .loop .whole) (c .before .before .before .before .before .before .before .before .before .before .before .before .before .before .before .loop .s) (c .before .before .before .before .before .before .before .before .before .before .before .before .before .before .before .loop .inv) (c .before .before .before .before .before .before .before .before .before .before .before .before .before .before .before .before .before .before .before .before .pre .0) (c .before .before .before .before .before .before .before .before .before .before .before .before .before .before .before .before .before .before .before .before .pre .1) (c .before .before .before .before .before .before .before .before .before .before .before .before .if1 .taken) (c .before .before .before .before .before .before .before .before .before .before .before .before .before .before .before .before .before .before .new .result) (c .before .before .before .before .before .before .before .before .before .before .before .before .before .before .before .before .before .before .new .ensures) (c .before .before .before .before .before .before .before .before .before .before .before .ask .result) (c .before .before .before .before .before .before .before .before .before .before .before .ask .ensures) (c .before .before .before .before .before .before .before .before .before .before .begin2 .result) (c .before .before .before .before .before .before .before .before .before .before .begin2 .ensures) (c .before .before .before .before .before .before .before .before .minimax .result) (c .before .before .before .before .before .before .before .before .minimax .last .1 .1 .1 .0) (c .before .before .before .before .before .before .before .before .minimax .ensures) (c .before .before .before .before .before .before .before .before .minimax .kept .1 .1 .1 .0) (c .before .before .before .before .before .if2 .left) (c .before .before .before .before .deeper .result) (c .before .before .before .before .deeper .ensures) _ (c .before .before .is-decided .ensures) (c .before .if3 .taken) ∙ going-all (c .before .before .before .before .before .before .before .before .before .before .before .before .before .before .before .before .before .before .before .before .args .self) (c .before .before .before .before .before .before .before .before .before .before .before .before .before .before .before .before .before .before .before .before .args .game) (c .before .before .before .before .before .before .before .before .before .before .before .before .before .before .before .before .before .before .before .before .args .config) (now (c .before .before .before .before .before .before .before .before .before .before .before .before .before .before .before .before .before .before .before .before .args .words)) (c .before .before .before .before .before .before .before .before .before .before .before .before .before .before .before .before .before .none .result) (c .before .before .before .before .before .before .before .before .before .before .before .before .before .before .before .before .begin .result) (c .before .before .before .before .before .before .before .before .before .before .before .before .before .before .before .before .before .none .ensures) (c .before .before .before .before .before .before .before .before .before .before .before .before .before .before .before .before .begin .ensures))
+returns-2 c =
+    let start = c .before .before .before .before .before .before .before .before .before .before .before .before .before .before .before .before .before .before .before .before in
+    let turn = c .before .before .before .before .before .before .before .before .before .before .before .before .before .before .before in
+    c .report2 .ensures (scoring-of (start .args .config)) (start .args .game) _ ∙ ap (report (structs (scoring-of (start .args
+    .config))) (start .args .game)) (going-decided (start .args .game) (start .args .config) (now (start .args .words)) (c .before
+    .before .before .before .before .before .before .before .before .before .before .before .before .before .before .before
+    .before .none .result) (c .before .before .before .before .before .before .before .before .before .before .before .before
+    .before .before .before .before .begin .result) (turn .loop .words) (turn .loop .whole) (turn .loop .s) (turn .loop .inv)
+    (start .pre .0) (start .pre .1) (c .before .before .before .before .before .before .before .before .before .before .before
+    .before .if1 .taken) (c .before .before .before .before .before .before .before .before .before .before .before .before
+    .before .before .before .before .before .before .new .result) (c .before .before .before .before .before .before .before
+    .before .before .before .before .before .before .before .before .before .before .before .new .ensures) (c .before .before
+    .before .before .before .before .before .before .before .before .before .ask .result) (c .before .before .before .before
+    .before .before .before .before .before .before .before .ask .ensures) (c .before .before .before .before .before .before
+    .before .before .before .before .begin2 .result) (c .before .before .before .before .before .before .before .before .before
+    .before .begin2 .ensures) (c .before .before .before .before .before .before .before .before .minimax .result) (c .before
+    .before .before .before .before .before .before .before .minimax .last .1 .1 .1 .0) (c .before .before .before .before .before
+    .before .before .before .minimax .ensures) (c .before .before .before .before .before .before .before .before .minimax .kept
+    .1 .1 .1 .0) (c .before .before .before .before .before .if2 .left) (c .before .before .before .before .deeper .result) (c
+    .before .before .before .before .deeper .ensures) _ (c .before .before .is-decided .ensures) (c .before .if3 .taken) ∙
+    going-all (start .args .self) (start .args .game) (start .args .config) (now (start .args .words)) (c .before .before .before
+    .before .before .before .before .before .before .before .before .before .before .before .before .before .before .none .result)
+    (c .before .before .before .before .before .before .before .before .before .before .before .before .before .before .before
+    .before .begin .result) (c .before .before .before .before .before .before .before .before .before .before .before .before
+    .before .before .before .before .before .none .ensures) (c .before .before .before .before .before .before .before .before
+    .before .before .before .before .before .before .before .before .begin .ensures))
 
 loop-less : tie.Need-loop-less Inv-loop μ-loop
-loop-less c = let e = ap (λ (w : Whole). w .depth) (c .before .before .before .deeper .ensures .0) in omega (arith, c .before .before .before .before .before .before .before .before .before .before .before .if1 .taken)
+loop-less c =
+    let e = ap (λ (w : Whole). w .depth) (c .before .before .before .deeper .ensures .0) in omega (
+      arith,
+      c .before .before
+          .before .before .before .before .before .before .before .before .before .if1 .taken,
+    )
 
 loop-again : tie.Need-loop-again Inv-loop μ-loop
-loop-again c = going-on (c .before .before .before .before .before .before .before .before .before .before .before .before .before .before .before .before .before .before .before .args .game) (c .before .before .before .before .before .before .before .before .before .before .before .before .before .before .before .before .before .before .before .args .config) (now (c .before .before .before .before .before .before .before .before .before .before .before .before .before .before .before .before .before .before .before .args .words)) (c .before .before .before .before .before .before .before .before .before .before .before .before .before .before .before .before .none .result) (c .before .before .before .before .before .before .before .before .before .before .before .before .before .before .before .begin .result) (c .before .before .before .before .before .before .before .before .before .before .before .before .before .before .loop .words) (c .before .before .before .before .before .before .before .before .before .before .before .before .before .before .loop .whole) (c .before .before .before .before .before .before .before .before .before .before .before .before .before .before .loop .s) (c .before .before .before .before .before .before .before .before .before .before .before .before .before .before .loop .inv) (c .before .before .before .before .before .before .before .before .before .before .before .before .before .before .before .before .before .before .before .pre .0) (c .before .before .before .before .before .before .before .before .before .before .before .before .before .before .before .before .before .before .before .pre .1) (c .before .before .before .before .before .before .before .before .before .before .before .if1 .taken) (c .before .before .before .before .before .before .before .before .before .before .before .before .before .before .before .before .before .new .result) (c .before .before .before .before .before .before .before .before .before .before .before .before .before .before .before .before .before .new .ensures) (c .before .before .before .before .before .before .before .before .before .before .ask .result) (c .before .before .before .before .before .before .before .before .before .before .ask .ensures) (c .before .before .before .before .before .before .before .before .before .begin2 .result) (c .before .before .before .before .before .before .before .before .before .begin2 .ensures) (c .before .before .before .before .before .before .before .minimax .result) (c .before .before .before .before .before .before .before .minimax .last .1 .1 .1 .0) (c .before .before .before .before .before .before .before .minimax .ensures) (c .before .before .before .before .before .before .before .minimax .kept .1 .1 .1 .0) (c .before .before .before .before .if2 .left) (c .before .before .before .deeper .result) (c .before .before .before .deeper .ensures) _ (c .before .is-decided .ensures) (c .if3 .left)
+loop-again c =
+    let start = c .before .before .before .before .before .before .before .before .before .before .before .before .before .before .before .before .before .before .before in
+    let turn = c .before .before .before .before .before .before .before .before .before .before .before .before .before .before in
+    going-on (start .args .game) (start .args .config) (now (start .args .words)) (c .before .before .before .before .before
+    .before .before .before .before .before .before .before .before .before .before .before .none .result) (c .before .before
+    .before .before .before .before .before .before .before .before .before .before .before .before .before .begin .result) (turn
+    .loop .words) (turn .loop .whole) (turn .loop .s) (turn .loop .inv) (start .pre .0) (start .pre .1) (c .before .before .before
+    .before .before .before .before .before .before .before .before .if1 .taken) (c .before .before .before .before .before
+    .before .before .before .before .before .before .before .before .before .before .before .before .new .result) (c .before
+    .before .before .before .before .before .before .before .before .before .before .before .before .before .before .before
+    .before .new .ensures) (c .before .before .before .before .before .before .before .before .before .before .ask .result) (c
+    .before .before .before .before .before .before .before .before .before .before .ask .ensures) (c .before .before .before
+    .before .before .before .before .before .before .begin2 .result) (c .before .before .before .before .before .before .before
+    .before .before .begin2 .ensures) (c .before .before .before .before .before .before .before .minimax .result) (c .before
+    .before .before .before .before .before .before .minimax .last .1 .1 .1 .0) (c .before .before .before .before .before .before
+    .before .minimax .ensures) (c .before .before .before .before .before .before .before .minimax .kept .1 .1 .1 .0) (c .before
+    .before .before .before .if2 .left) (c .before .before .before .deeper .result) (c .before .before .before .deeper .ensures) _
+    (c .before .is-decided .ensures) (c .if3 .left)
 
 report-requires-3 : tie.Need-report-requires-3 Inv-loop μ-loop
 report-requires-3 c κs = c .before .before .before .loop .inv .empty
@@ -76,7 +182,16 @@ same-length-3 : tie.Need-same-length-3 Inv-loop μ-loop
 same-length-3 c = c .before .before .before .before .loop .inv .long
 
 returns-3 : tie.Need-returns-3 Inv-loop μ-loop
-returns-3 c = c .report3 .ensures _ ∙ ap report (going-done (c .before .before .before .before .before .before .before .before .before .args .game) (c .before .before .before .before .before .before .before .before .before .args .config) (now (c .before .before .before .before .before .before .before .before .before .args .words)) (c .before .before .before .before .before .before .none .result) (c .before .before .before .before .before .begin .result) (c .before .before .before .before .loop .words) (c .before .before .before .before .loop .whole) (c .before .before .before .before .loop .s) (c .before .before .before .before .loop .inv) (c .before .if1 .left) ∙ going-all (c .before .before .before .before .before .before .before .before .before .args .self) (c .before .before .before .before .before .before .before .before .before .args .game) (c .before .before .before .before .before .before .before .before .before .args .config) (now (c .before .before .before .before .before .before .before .before .before .args .words)) (c .before .before .before .before .before .before .none .result) (c .before .before .before .before .before .begin .result) (c .before .before .before .before .before .before .none .ensures) (c .before .before .before .before .before .begin .ensures))
+returns-3 c =
+    let start = c .before .before .before .before .before .before .before .before .before in
+    let turn = c .before .before .before .before in
+    c .report3 .ensures (scoring-of (start .args .config)) (start .args .game) _ ∙ ap (report (structs (scoring-of (start .args
+    .config))) (start .args .game)) (going-done (start .args .game) (start .args .config) (now (start .args .words)) (c .before
+    .before .before .before .before .before .none .result) (c .before .before .before .before .before .begin .result) (turn .loop
+    .words) (turn .loop .whole) (turn .loop .s) (turn .loop .inv) (c .before .if1 .left) ∙ going-all (start .args .self) (start
+    .args .game) (start .args .config) (now (start .args .words)) (c .before .before .before .before .before .before .none
+    .result) (c .before .before .before .before .before .begin .result) (c .before .before .before .before .before .before .none
+    .ensures) (c .before .before .before .before .before .begin .ensures))
 
 pub deepen-spec : {M : Type 1} → statement M
 deepen-spec =

@@ -3,10 +3,10 @@ use mathlib.Core.Path.{_∙_, ap}
 use lib.IntN.{ℤ}
 use Rattle.text.specs.ProgramLine.{signed}
 use Rattle.status.specs.Sets.{set-of}
-use Rattle.base.proofs.Signed.{back}
 use Rattle.out.specs.OutBytes.{added-all, move-bytes}
 use Rattle.out.proofs.OutBytes.{answer-written}
 use borrow.Author.Needs.{needs}
+use mir.Facts.{toZ-ofZ}
 use Rattle.out.proofs.Out.answer.Statement.{statement}
 use Rattle.out.proofs.Out.answer.Tie as tie
 
@@ -57,7 +57,7 @@ returns c =
     (c .before .before .before .before .before .before .before .push2 .ensures)
     (c .before .before .before .before .before .before .decimal2 .ensures)
     (c .before .before .before .before .before .push3 .ensures)
-    (c .before .before .before .before .signed .ensures ∙ ap (λ (z : ℤ). added-all (c .before .before .before .before .before .push3 .result) (signed z)) (back (c .before .before .before .before .before .before .before .before .before .before .before .before .args .score) (c .before .before .before .before .before .before .before .before .before .before .before .before .fits .score)))
+    (c .before .before .before .before .signed .ensures ∙ ap (λ (z : ℤ). added-all (c .before .before .before .before .before .push3 .result) (signed z)) (toZ-ofZ (c .before .before .before .before .before .before .before .before .before .before .before .before .fits .score)))
     (c .before .before .before .push4 .ensures)
     (c .before .before .decimal3 .ensures)
     (c .before .push5 .ensures)

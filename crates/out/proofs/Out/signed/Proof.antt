@@ -2,9 +2,10 @@
 use mathlib.Core.Path.{ap}
 use native.Mathlib.Omega.{arith}
 use lib.IntN.{natAbs}
-use Rattle.base.proofs.Signed.{back, next-in, minus-next-in, minus-next-is, natural-fits}
+use Rattle.base.proofs.Signed.{next-in, minus-next-in, minus-next-is, natural-fits}
 use Rattle.out.proofs.Signs.{negative-added, natural-added}
 use borrow.Author.Needs.{needs}
+use mir.Facts.{toZ-ofZ}
 use Rattle.out.proofs.Out.signed.Statement.{statement}
 use Rattle.out.proofs.Out.signed.Tie as tie
 
@@ -33,13 +34,13 @@ returns c =
     (c .before .push .ensures) (c .decimal .ensures)
 
 cast-decimal : tie.Need-cast-decimal
-cast-decimal c = rw (back (c .before .args .n) (c .before .fits .n)) (natural-fits (c .before .args .n) (c .before .fits .n) (c .if1 .left))
+cast-decimal c = rw (toZ-ofZ (c .before .fits .n)) (natural-fits (c .before .args .n) (c .before .fits .n) (c .if1 .left))
 
 decimal-requires-2 : tie.Need-decimal-requires-2
 decimal-requires-2 c κs = search needs
 
 returns-2 : tie.Need-returns-2
-returns-2 c = natural-added _ _ (c .before .before .args .n) (c .before .before .fits .n) (c .before .if1 .left) _ (ap natAbs (back (c .before .before .args .n) (c .before .before .fits .n))) (c .decimal2 .ensures)
+returns-2 c = natural-added _ _ (c .before .before .args .n) (c .before .before .fits .n) (c .before .if1 .left) _ (ap natAbs (toZ-ofZ (c .before .before .fits .n))) (c .decimal2 .ensures)
 
 pub signed-spec : {M : Type 1} → statement M
 signed-spec =

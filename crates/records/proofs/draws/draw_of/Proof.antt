@@ -1,5 +1,4 @@
 -- The text's one byte.
-use mathlib.Core.Path.{sym, _∙_}
 use lib.ListN.{length}
 use denote.Ref.{now}
 use borrow.Author.Needs.{needs}

@@ -1,10 +1,10 @@
 -- Digit `board` of the closed boards is clear; over 8 a board reads as open.
 use mathlib.Core.Path.{ap, _∙_}
-use mathlib.Core.Bool.{not}
+use mathlib.Core.Bool.{not, Bool·not-not}
 use Prim.Native.Nat.{ℕ}
 use native.Mathlib.Omega.{arith}
 use Rattle.base.specs.Bits.{bit}
-use Rattle.base.proofs.Numbers.{digit-clear, bit-digits, not-twice}
+use Rattle.base.proofs.Numbers.{digit-clear, bit-digits}
 use Rattle.boards.proofs.Packed.{state-past}
 use borrow.Author.Needs.{needs}
 use Rattle.boards.proofs.states.GlobalStates.in_play.Statement.{statement}
@@ -23,7 +23,7 @@ shr-result : tie.Need-shr-result
 shr-result c = search needs
 
 returns-2 : tie.Need-returns-2
-returns-2 c = digit-clear _ _ ∙ ap not (ap (λ (n : ℕ). bit n (c .before .before .args .board)) (c .donebits .ensures) ∙ bit-digits _ 9 _ (omega arith)) ∙ not-twice _
+returns-2 c = digit-clear _ _ ∙ ap not (ap (λ (n : ℕ). bit n (c .before .before .args .board)) (c .donebits .ensures) ∙ bit-digits _ 9 _ (omega arith)) ∙ Bool·not-not _
 
 pub in-play-spec : {M : Type 1} → statement M
 in-play-spec = tie.close (tie.spec returns donebits-requires cast-result shr-result returns-2)

@@ -1,5 +1,5 @@
 -- The two ways of a digit.
-use mathlib.Core.Path.{_≡_, refl, sym, ap, _∙_}
+use mathlib.Core.Path.{sym, _∙_}
 use borrow.Author.Needs.{needs}
 use Rattle.decimals.proofs.list.Scan.longer.Statement.{statement}
 use Rattle.decimals.proofs.list.Scan.longer.Tie as tie

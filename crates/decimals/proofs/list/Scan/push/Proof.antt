@@ -1,5 +1,4 @@
 -- The ways of a byte.
-use mathlib.Core.Path.{_≡_, refl, sym, ap, _∙_}
 use denote.Ref.{now}
 use borrow.Author.Tests.{not-true, not-false}
 use Rattle.decimals.proofs.Blanks.{goes-on, nothing, room, no-room}

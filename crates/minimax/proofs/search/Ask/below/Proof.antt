@@ -1,8 +1,6 @@
 -- Negatives within the window are exact, and the move's own board is valued anew.
 use mathlib.Core.Path.{ap, _∙_}
-use mathlib.Core.List.{List}
 use Prim.Native.Nat.{ℕ, _-_}
-use lib.IntN.{ℤ}
 use lib.ListN.{set}
 use Rattle.game.specs.Meaning.{position-of}
 use Rattle.evaluation.specs.Values.{board-value}

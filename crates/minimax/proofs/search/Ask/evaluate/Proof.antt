@@ -4,6 +4,7 @@ use Rattle.game.specs.Meaning.{position-of}
 use Rattle.evaluation.specs.Values.{evaluate-by}
 use Rattle.base.proofs.Signed.{result}
 use Rattle.evaluation.proofs.Overall.{by-values}
+use Rattle.minimax.specs.State.{asked-scoring}
 use borrow.Author.Needs.{needs}
 use Rattle.minimax.proofs.search.Ask.evaluate.Statement.{statement}
 use Rattle.minimax.proofs.search.Ask.evaluate.Tie as tie
@@ -15,7 +16,8 @@ returns : tie.Need-returns
 returns c =
     let s = c .before .before .before in
     let a = s .args .self in
-    result (c .evaluate .ok) (c .evaluate .ensures) ∙ ap (evaluate-by (a .«draw_winner») (position-of (a .game))) (s .pre) ∙ by-values (a .«draw_winner») (position-of (a .game))
+    let sc = asked-scoring a in
+    result (c .evaluate .ok) (c .evaluate .ensures) ∙ ap (evaluate-by sc (position-of (a .game))) (s .pre) ∙ by-values sc (position-of (a .game))
 
 pub evaluate-spec : {M : Type 1} → statement M
 evaluate-spec = tie.close (tie.spec evaluate-requires returns)

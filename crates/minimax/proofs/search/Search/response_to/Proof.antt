@@ -2,7 +2,7 @@
 use mathlib.Core.Path.{_≡_}
 use native.Mathlib.Omega.{arith}
 use lib.ListN.{length, length-map}
-use Rattle.minimax.proofs.States.{answer-by}
+use Rattle.minimax.proofs.States.{response-by}
 use borrow.Author.Needs.{needs}
 use Rattle.minimax.proofs.search.Search.response_to.Statement.{statement}
 use Rattle.minimax.proofs.search.Search.response_to.Tie as tie
@@ -24,13 +24,15 @@ element-copy-out-result-2 c = search needs
 
 returns : tie.Need-returns
 returns c =
-    let n : length (c .before .before .before .before .args .t1 .«answers_o») ≡ 256 = simp length-map at (c .before .before .before .before .good .0 .1 .1 .1 .0 .1 .0 .1) in
-    λ words. answer-by (c .before .before .before .before .args .t1) words (c .before .before .before .before .args .prev) (c .before .before .before .before .args .t1 .«answers_o») (c .before .before .before .before .args .turn) (rw (c .before .enum-told .given .1)) (omega arith) _
+    let s = c .before .before .before .before in
+    let n : length (s .args .t1 .«responses_o») ≡ 256 = simp length-map at (s .good .0 .1 .1 .1 .0 .1 .0 .1) in
+    λ words. response-by (s .args .t1) words (s .args .prev) (s .args .t1 .«responses_o») (s .args .turn) (rw (c .before .enum-told .given .1)) (omega arith) _
 
 returns-2 : tie.Need-returns-2
 returns-2 c =
-    let n : length (c .before .before .before .before .args .t1 .«answers_x») ≡ 256 = simp length-map at (c .before .before .before .before .good .0 .1 .1 .0 .1 .0 .1) in
-    λ words. answer-by (c .before .before .before .before .args .t1) words (c .before .before .before .before .args .prev) (c .before .before .before .before .args .t1 .«answers_x») (c .before .before .before .before .args .turn) (rw (c .before .enum-told2 .given .1)) (omega arith) _
+    let s = c .before .before .before .before in
+    let n : length (s .args .t1 .«responses_x») ≡ 256 = simp length-map at (s .good .0 .1 .1 .0 .1 .0 .1) in
+    λ words. response-by (s .args .t1) words (s .args .prev) (s .args .t1 .«responses_x») (s .args .turn) (rw (c .before .enum-told2 .given .1)) (omega arith) _
 
 pub response-to-spec : {M : Type 1} → statement M
 response-to-spec =

@@ -1,5 +1,4 @@
 -- The two ways of the test.
-use mathlib.Core.Path.{_≡_, refl, sym, ap, _∙_}
 use borrow.Author.Tests.{eq-eqb, ne-eqb}
 use borrow.Author.Needs.{needs}
 use Rattle.records.proofs.totals.Totals.verdict.Statement.{statement}

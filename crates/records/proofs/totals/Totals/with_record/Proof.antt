@@ -1,5 +1,4 @@
 -- By the outcome.
-use mathlib.Core.Path.{_≡_, refl, sym, ap, _∙_}
 use borrow.Author.Needs.{needs}
 use Rattle.records.proofs.totals.Totals.with_record.Statement.{statement}
 use Rattle.records.proofs.totals.Totals.with_record.Tie as tie
