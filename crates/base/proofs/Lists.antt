@@ -7,7 +7,7 @@ use Prim.Native.Nat.{ℕ, zero, suc, _+_, _≤_, _<_}
 use native.Mathlib.Omega.{arith}
 use lib.Dec.{T, eqb, eqb→eq, eqb-refl, T-not, not-T}
 use lib.ListN.{length, getD}
-use Rattle.base.specs.Lists.{any, all, keep, In, elem, once, from, each}
+use Rattle.base.specs.Lists.{any, all, filter, In, elem, unique, from, concat-map}
 use Rattle.base.proofs.Bool.{and→, →and, or→, →or-l, →or-r, is}
 use Rattle.base.proofs.Branch.{if-ind}
 
@@ -44,18 +44,18 @@ module _ {A : Type 0} where
   default-unused (x ∷ xs) (suc i) d e h = default-unused xs i d e (omega arith)
 
 -- ---- membership of numbers, and what is kept
-pub keep-in : (f : ℕ → Bool) (x : ℕ) (xs : List ℕ) → In x (keep f xs) → In x xs × T (f x)
-unfolding keep
-keep-in f x [] h = absurd h
-keep-in f x (y ∷ xs) h = if-ind (λ l. In x l → In x (y ∷ xs) × T (f x)) (f y) _ _
-    (λ t k. elim k [ inl e ↦ (inl e, subst (λ (z : ℕ). T (f z)) (sym e) t) | inr k ↦ (let r = keep-in f x xs k in (inr (r .0), r .1)) ])
-    (λ _ k. let r = keep-in f x xs k in (inr (r .0), r .1)) h
+pub filter-in : (f : ℕ → Bool) (x : ℕ) (xs : List ℕ) → In x (filter f xs) → In x xs × T (f x)
+unfolding filter
+filter-in f x [] h = absurd h
+filter-in f x (y ∷ xs) h = if-ind (λ l. In x l → In x (y ∷ xs) × T (f x)) (f y) _ _
+    (λ t k. elim k [ inl e ↦ (inl e, subst (λ (z : ℕ). T (f z)) (sym e) t) | inr k ↦ (let r = filter-in f x xs k in (inr (r .0), r .1)) ])
+    (λ _ k. let r = filter-in f x xs k in (inr (r .0), r .1)) h
 
-pub in-keep : (f : ℕ → Bool) (x : ℕ) (xs : List ℕ) → In x xs → T (f x) → In x (keep f xs)
-unfolding keep
-in-keep f x [] h t = absurd h
-in-keep f x (y ∷ xs) (inl e) t = if-ind (λ l. In x l) (f y) _ _ (λ _. inl e) (λ u. absurd (T-not (f y) u (subst (λ (z : ℕ). T (f z)) e t)))
-in-keep f x (y ∷ xs) (inr h) t = if-ind (λ l. In x l) (f y) _ _ (λ _. inr (in-keep f x xs h t)) (λ _. in-keep f x xs h t)
+pub in-filter : (f : ℕ → Bool) (x : ℕ) (xs : List ℕ) → In x xs → T (f x) → In x (filter f xs)
+unfolding filter
+in-filter f x [] h t = absurd h
+in-filter f x (y ∷ xs) (inl e) t = if-ind (λ l. In x l) (f y) _ _ (λ _. inl e) (λ u. absurd (T-not (f y) u (subst (λ (z : ℕ). T (f z)) e t)))
+in-filter f x (y ∷ xs) (inr h) t = if-ind (λ l. In x l) (f y) _ _ (λ _. inr (in-filter f x xs h t)) (λ _. in-filter f x xs h t)
 
 pub in-elem : (x : ℕ) (xs : List ℕ) → In x xs → T (elem x xs)
 unfolding elem
@@ -68,13 +68,13 @@ unfolding elem
 elem-in x [] t = absurd t
 elem-in x (y ∷ xs) t = elim (or→ (eqb x y) _ t) [ inl u ↦ inl (eqb→eq x y u) | inr u ↦ inr (elem-in x xs u) ]
 
-pub once-keep : (f : ℕ → Bool) (xs : List ℕ) → T (once xs) → T (once (keep f xs))
-unfolding once keep
-once-keep f [] t = tt
-once-keep f (x ∷ xs) t =
-    let r = once-keep f xs (and→ (not (elem x xs)) _ t .1) in
-    if-ind (λ l. T (once l)) (f x) _ _
-    (λ _. →and (not (elem x (keep f xs))) _ (not-T (elem x (keep f xs)) (λ u. T-not (elem x xs) (and→ (not (elem x xs)) _ t .0) (in-elem x xs (keep-in f x xs (elem-in x (keep f xs) u) .0)))) r)
+pub unique-filter : (f : ℕ → Bool) (xs : List ℕ) → T (unique xs) → T (unique (filter f xs))
+unfolding unique filter
+unique-filter f [] t = tt
+unique-filter f (x ∷ xs) t =
+    let r = unique-filter f xs (and→ (not (elem x xs)) _ t .1) in
+    if-ind (λ l. T (unique l)) (f x) _ _
+    (λ _. →and (not (elem x (filter f xs))) _ (not-T (elem x (filter f xs)) (λ u. T-not (elem x xs) (and→ (not (elem x xs)) _ t .0) (in-elem x xs (filter-in f x xs (elem-in x (filter f xs) u) .0)))) r)
     (λ _. r)
 
 eq-or : (i x : ℕ) → i ≤ x → (x ≡ i) ⊎ (suc i ≤ x)
@@ -104,8 +104,8 @@ pub in-r : (x : ℕ) (xs ys : List ℕ) → In x ys → In x (xs ++ ys)
 in-r x [] ys h = h
 in-r x (y ∷ xs) ys h = inr (in-r x xs ys h)
 
-pub in-each : (f : ℕ → List ℕ) (x y : ℕ) (xs : List ℕ) → In x xs → In y (f x) → In y (each f xs)
-unfolding each
-in-each f x y [] h k = absurd h
-in-each f x y (z ∷ xs) (inl e) k = in-l y (f z) (each f xs) (subst (λ (w : ℕ). In y (f w)) e k)
-in-each f x y (z ∷ xs) (inr h) k = in-r y (f z) (each f xs) (in-each f x y xs h k)
+pub in-concat-map : (f : ℕ → List ℕ) (x y : ℕ) (xs : List ℕ) → In x xs → In y (f x) → In y (concat-map f xs)
+unfolding concat-map
+in-concat-map f x y [] h k = absurd h
+in-concat-map f x y (z ∷ xs) (inl e) k = in-l y (f z) (concat-map f xs) (subst (λ (w : ℕ). In y (f w)) e k)
+in-concat-map f x y (z ∷ xs) (inr h) k = in-r y (f z) (concat-map f xs) (in-concat-map f x y xs h k)

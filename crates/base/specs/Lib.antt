@@ -1,6 +1,6 @@
 pub mod Branch
 pub mod Lists
-pub mod Change
+pub mod Update
 pub mod Integers
 pub mod Bits
 pub mod Checks

@@ -17,14 +17,14 @@ module _ {A : Type 0} where
   all f (x ∷ xs) = f x && all f xs
 
   -- those that pass a test, in their order
-  unfoldable pub keep : (A → Bool) → List A → List A
-  keep f [] = []
-  keep f (x ∷ xs) = if f x then (λ _. x ∷ keep f xs) else λ _. keep f xs
+  unfoldable pub filter : (A → Bool) → List A → List A
+  filter f [] = []
+  filter f (x ∷ xs) = if f x then (λ _. x ∷ filter f xs) else λ _. filter f xs
 
   -- how many pass a test
-  unfoldable pub how-many : (A → Bool) → List A → ℕ
-  how-many f [] = 0
-  how-many f (x ∷ xs) = cond (f x) 1 0 + how-many f xs
+  unfoldable pub count : (A → Bool) → List A → ℕ
+  count f [] = 0
+  count f (x ∷ xs) = cond (f x) 1 0 + count f xs
 
   -- x stands in the list
   abbrev pub In : A → List A → Type 0
@@ -36,9 +36,9 @@ elem x [] = false
 elem x (y ∷ ys) = eqb x y || elem x ys
 
 -- each number stands there once
-unfoldable pub once : List ℕ → Bool
-once [] = true
-once (x ∷ xs) = not (elem x xs) && once xs
+unfoldable pub unique : List ℕ → Bool
+unique [] = true
+unique (x ∷ xs) = not (elem x xs) && unique xs
 
 -- n numbers, from i on
 abbrev pub from : ℕ → ℕ → List ℕ
@@ -46,9 +46,9 @@ from i zero = []
 from i (suc n) = i ∷ from (suc i) n
 
 -- the lists of all numbers of a list, joined
-unfoldable pub each : (ℕ → List ℕ) → List ℕ → List ℕ
-each f [] = []
-each f (x ∷ xs) = f x ++ each f xs
+unfoldable pub concat-map : (ℕ → List ℕ) → List ℕ → List ℕ
+concat-map f [] = []
+concat-map f (x ∷ xs) = f x ++ concat-map f xs
 
 -- the sum of a number for each
 unfoldable pub total : (ℕ → ℕ) → List ℕ → ℕ

@@ -5,9 +5,9 @@ use Rattle.boards.specs.declared.moves.MoveError.{MoveError}
 use Rattle.boards.specs.declared.moves.MoveError.the-variants.{WrongBoard, WonBoard, OutOfBounds, NotEmpty, GameOver}
 use Rattle.boards.specs.declared.moves.Answer.{Answer}
 use Rattle.boards.specs.declared.moves.Answer.the-variants.{Accepted, Refused}
-use Rattle.boards.specs.Answers.{error-number, answer-number}
+use Rattle.boards.specs.Answers.{move-error-number, answer-number}
 
-pub error-most : (e : MoveError) → error-number e ≤ 13
+pub error-most : (e : MoveError) → move-error-number e ≤ 13
 error-most OutOfBounds = omega arith
 error-most GameOver = omega arith
 error-most WonBoard = omega arith

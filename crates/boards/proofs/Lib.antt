@@ -1,6 +1,6 @@
 pub mod Packed
 pub mod Rows
-pub mod Cells
-pub mod Hashes
-pub mod Cursors
+pub mod With
+pub mod RowsHash
+pub mod Cursor
 pub mod Answers

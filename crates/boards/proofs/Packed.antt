@@ -15,13 +15,13 @@ use Rattle.rules.specs.declared.GameState.{GameState}
 use Rattle.rules.specs.declared.GameState.the-variants.{InPlay}
 use Rattle.base.specs.Branch.{if_then_else_}
 use Rattle.base.specs.Bits.{bit, digits}
-use Rattle.base.proofs.Digits.{bit-yes, bit-no, bit-and, bit-or, bit-not, bit-shr, bit-nought}
-use Rattle.base.proofs.Numbers.{masked, digit-test}
+use Rattle.base.proofs.BitsOperations.{bit-yes, bit-no, bit-and, bit-or, bit-not, bit-shr, bit-nought}
+use Rattle.base.proofs.Bits.{masked, digit-test}
 use Rattle.rules.specs.Board.{mine, blank, in-play, won-by, drawn}
 use Rattle.boards.specs.declared.local.Row.{Row}
 use Rattle.boards.specs.declared.local.LocalBoards.{LocalBoards}
 use Rattle.boards.specs.declared.states.GlobalStates.{GlobalStates}
-use Rattle.boards.specs.Packed.{cell-from, no-row, row-of, place, cell-at, state-from, state-at}
+use Rattle.boards.specs.Packed.{cell-of-bits, no-row, row-of, place, cell-at, state-of-bits, state-at}
 use Rattle.boards.specs.Rows.{row-cell}
 
 -- ---- a cell
@@ -51,7 +51,7 @@ module _ (l : LocalBoards) (b c : ℕ) where
 
 -- the row that was read, and what its two digits say
 module _ (l : LocalBoards) (b c : ℕ) (r : Row) (n : length (l .rows) ≡ 3) (h : c < 9) (e : r ≡ row-of l b) where
-  read : cell-from (bit (r .x) (place b c)) (bit (r .o) (place b c)) ≡ cell-at l b c
+  read : cell-of-bits (bit (r .x) (place b c)) (bit (r .o) (place b c)) ≡ cell-at l b c
   read = rw e (sym (cell-read l b c (omega arith) h))
 
   pub reads-x : bitAnd (r .x / 2 ^ place b c) 1 ≡ 1 → Played X ≡ cell-at l b c
@@ -63,24 +63,24 @@ module _ (l : LocalBoards) (b c : ℕ) (r : Row) (n : length (l .rows) ≡ 3) (h
   pub reads-none : (bitAnd (r .x / 2 ^ place b c) 1 ≡ 1 → ⊥) → (bitAnd (r .o / 2 ^ place b c) 1 ≡ 1 → ⊥) → Empty ≡ cell-at l b c
   reads-none x o = rw (bit-no (r .x) (place b c) x, bit-no (r .o) (place b c) o) at read
 
-x-mine : (p q : Bool) → p ≡ mine X (cell-from p q)
+x-mine : (p q : Bool) → p ≡ mine X (cell-of-bits p q)
 x-mine true q = refl
 x-mine false true = refl
 x-mine false false = refl
 
-o-mine : (p q : Bool) → (q && not p) ≡ mine O (cell-from p q)
+o-mine : (p q : Bool) → (q && not p) ≡ mine O (cell-of-bits p q)
 o-mine true true = refl
 o-mine true false = refl
 o-mine false true = refl
 o-mine false false = refl
 
-taken : (p q : Bool) → (q || p) ≡ not (blank (cell-from p q))
+taken : (p q : Bool) → (q || p) ≡ not (blank (cell-of-bits p q))
 taken true true = refl
 taken true false = refl
 taken false true = refl
 taken false false = refl
 
-pub not-taken : (p q : Bool) → not (p || q) ≡ blank (cell-from p q)
+pub not-taken : (p q : Bool) → not (p || q) ≡ blank (cell-of-bits p q)
 not-taken true q = refl
 not-taken false true = refl
 not-taken false false = refl
@@ -113,7 +113,7 @@ module _ (l : LocalBoards) (b : ℕ) (r : Row) (h : length (l .rows) ≡ 3) (e :
 
 -- ---- a state
 module _ (s : GlobalStates) (b : ℕ) where
-  pub state-in : b < 9 → state-at s b ≡ state-from (bit (s .x) b) (bit (s .o) b)
+  pub state-in : b < 9 → state-at s b ≡ state-of-bits (bit (s .x) b) (bit (s .o) b)
   unfolding state-at if_then_else_
   state-in h = rw (lt-ltb b 9 h)
 
@@ -122,34 +122,34 @@ module _ (s : GlobalStates) (b : ℕ) where
   state-past h = rw (le-ltb b 9 h)
 
   -- what the two digits that were read say
-  pub reads-state : (p q : Bool) → b < 9 → eqb (bitAnd (s .x / 2 ^ b) 1) 1 ≡ p → eqb (bitAnd (s .o / 2 ^ b) 1) 1 ≡ q → state-from p q ≡ state-at s b
+  pub reads-state : (p q : Bool) → b < 9 → eqb (bitAnd (s .x / 2 ^ b) 1) 1 ≡ p → eqb (bitAnd (s .o / 2 ^ b) 1) 1 ≡ q → state-of-bits p q ≡ state-at s b
   reads-state p q h x o = rw (state-in h, sym (digit-test (s .x) b) ∙ x, sym (digit-test (s .o) b) ∙ o)
 
 -- ---- the nine states
 pub nine-states : (s : GlobalStates) (test : GameState → Bool) (n : ℕ)
-    → ((k : ℕ) → k < 9 → bit n k ≡ test (state-from (bit (s .x) k) (bit (s .o) k)))
+    → ((k : ℕ) → k < 9 → bit n k ≡ test (state-of-bits (bit (s .x) k) (bit (s .o) k)))
     → bitAnd n 511 ≡ digits (λ b. test (state-at s b)) 9
 nine-states s test n e = masked (λ b. test (state-at s b)) 9 n (λ b h. e b h ∙ ap test (sym (state-in s b h)))
 
-x-won : (p q : Bool) → (p && not q) ≡ won-by X (state-from p q)
+x-won : (p q : Bool) → (p && not q) ≡ won-by X (state-of-bits p q)
 x-won true true = refl
 x-won true false = refl
 x-won false true = refl
 x-won false false = refl
 
-o-won : (p q : Bool) → (q && not p) ≡ won-by O (state-from p q)
+o-won : (p q : Bool) → (q && not p) ≡ won-by O (state-of-bits p q)
 o-won true true = refl
 o-won true false = refl
 o-won false true = refl
 o-won false false = refl
 
-both-drawn : (p q : Bool) → (p && q) ≡ drawn (state-from p q)
+both-drawn : (p q : Bool) → (p && q) ≡ drawn (state-of-bits p q)
 both-drawn true true = refl
 both-drawn true false = refl
 both-drawn false true = refl
 both-drawn false false = refl
 
-done : (p q : Bool) → (p || q) ≡ not (in-play (state-from p q))
+done : (p q : Bool) → (p || q) ≡ not (in-play (state-of-bits p q))
 done true true = refl
 done true false = refl
 done false true = refl

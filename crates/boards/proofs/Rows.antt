@@ -8,15 +8,15 @@ use lib.Bits.{bitAnd, bitOr, bitXor, and-le-l, and-le-r, or-lt}
 use lib.Dec.{eqb}
 use Rattle.base.specs.Bits.{bit, digits}
 use Rattle.base.specs.Lists.{from}
-use Rattle.base.proofs.Agree.{all-same}
+use Rattle.base.proofs.ListsAgree.{all-same}
 use Rattle.base.proofs.Bool.{Law, always}
-use Rattle.base.proofs.Digits.{xor, bit-and, bit-or, bit-xor, bit-not}
-use Rattle.base.proofs.Every.{sameB, sameB-eq}
+use Rattle.base.proofs.BitsOperations.{xor, bit-and, bit-or, bit-xor, bit-not}
+use Rattle.base.proofs.ListsEvery.{sameB, sameB-eq}
 use Rattle.base.proofs.Lists.{from-in}
-use Rattle.base.proofs.Numbers.{digits-lt, bit-digits, is-digits, digits-same, digit-read, none-set}
+use Rattle.base.proofs.Bits.{digits-lt, bit-digits, is-digits, digits-same, digit-read, none-set}
 use Rattle.rules.specs.Board.{blank, same-cell}
 use Rattle.boards.specs.declared.local.Row.{Row}
-use Rattle.boards.specs.Packed.{cell-from}
+use Rattle.boards.specs.Packed.{cell-of-bits}
 use Rattle.boards.specs.Rows.{row-cell, row-free, row-same}
 use Rattle.boards.proofs.Packed.{bit-without, not-taken}
 
@@ -66,9 +66,9 @@ abbrev differs : Bool → Bool → Bool → Bool → Bool → Bool
 differs m x o x' o' = (xor x x' && m) || (xor (o && not x) (o' && not x') && m)
 
 one-cell : Law 5
-one-cell m x o x' o' = sameB (not (differs m x o x' o')) (not m || same-cell (cell-from x o) (cell-from x' o'))
+one-cell m x o x' o' = sameB (not (differs m x o x' o')) (not m || same-cell (cell-of-bits x o) (cell-of-bits x' o'))
 
-one-cell-holds : (m x o x' o' : Bool) → not (differs m x o x' o') ≡ (not m || same-cell (cell-from x o) (cell-from x' o'))
+one-cell-holds : (m x o x' o' : Bool) → not (differs m x o x' o') ≡ (not m || same-cell (cell-of-bits x o) (cell-of-bits x' o'))
 unfolding one-cell
 one-cell-holds m x o x' o' = sameB-eq _ _ (always 5 one-cell tt m x o x' o')
 

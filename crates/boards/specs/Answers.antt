@@ -11,17 +11,17 @@ use Rattle.boards.specs.declared.moves.Answer.{Answer}
 use Rattle.boards.specs.declared.moves.Answer.the-variants.{Accepted, Refused}
 use Rattle.boards.specs.declared.moves.Built.{Built}
 
-abbrev pub error-number : MoveError → ℕ
-error-number OutOfBounds = 9
-error-number GameOver = 10
-error-number WonBoard = 11
-error-number WrongBoard = 12
-error-number NotEmpty = 13
+abbrev pub move-error-number : MoveError → ℕ
+move-error-number OutOfBounds = 9
+move-error-number GameOver = 10
+move-error-number WonBoard = 11
+move-error-number WrongBoard = 12
+move-error-number NotEmpty = 13
 
 -- 0 where nothing is refused
 abbrev pub answer-number : Answer → ℕ
 answer-number Accepted = 0
-answer-number (Refused e) = error-number e
+answer-number (Refused e) = move-error-number e
 
 -- a board or cell over 8 is refusal 9
 abbrev pub in-range : ℕ → ℕ → Bool

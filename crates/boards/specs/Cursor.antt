@@ -1,7 +1,7 @@
 -- What a cursor means: the list of the moves that it has left.
 use mathlib.Core.List.{List, [], _∷_, _++_, map}
 use Prim.Native.Nat.{ℕ, _+_, _*_, _/_, _%_}
-use Rattle.base.specs.Lists.{keep, from, elem}
+use Rattle.base.specs.Lists.{filter, from, elem}
 use Rattle.base.specs.Bits.{bit, digits}
 use Rattle.rules.specs.Play.{move-of}
 use Rattle.boards.specs.declared.moves.MoveIterator.{MoveIterator}
@@ -14,7 +14,7 @@ move-at r k = move-of (3 * r + k / 9) (k % 9)
 
 -- a bit for each place of a row
 unfoldable pub row-moves : ℕ → ℕ → List ℕ
-row-moves r n = map (move-at r) (keep (bit n) (from 0 27))
+row-moves r n = map (move-at r) (filter (bit n) (from 0 27))
 
 unfoldable pub moves-left : MoveIterator → List ℕ
 moves-left it = row-moves 0 (it .top) ++ (row-moves 1 (it .middle) ++ row-moves 2 (it .bottom))

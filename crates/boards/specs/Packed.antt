@@ -16,10 +16,10 @@ use Rattle.boards.specs.declared.local.LocalBoards.{LocalBoards}
 use Rattle.boards.specs.declared.states.GlobalStates.{GlobalStates}
 
 -- ---- cells
-abbrev pub cell-from : Bool → Bool → CellState
-cell-from true o = Played X
-cell-from false true = Played O
-cell-from false false = Empty
+abbrev pub cell-of-bits : Bool → Bool → CellState
+cell-of-bits true o = Played X
+cell-of-bits false true = Played O
+cell-of-bits false false = Empty
 
 abbrev pub no-row : Row
 no-row = record { x = 0; o = 0 }
@@ -35,15 +35,15 @@ place b c = b % 3 * 9 + c
 unfoldable pub cell-at : LocalBoards → ℕ → ℕ → CellState
 cell-at l b c =
     if ltb b 9 && ltb c 9
-    then (λ _. cell-from (bit (row-of l b .x) (place b c)) (bit (row-of l b .o) (place b c)))
+    then (λ _. cell-of-bits (bit (row-of l b .x) (place b c)) (bit (row-of l b .o) (place b c)))
     else λ _. Empty
 
 -- ---- states of the boards: drawn if both bits
-abbrev pub state-from : Bool → Bool → GameState
-state-from true true = Drawn
-state-from true false = Won X
-state-from false true = Won O
-state-from false false = InPlay
+abbrev pub state-of-bits : Bool → Bool → GameState
+state-of-bits true true = Drawn
+state-of-bits true false = Won X
+state-of-bits false true = Won O
+state-of-bits false false = InPlay
 
 unfoldable pub state-at : GlobalStates → ℕ → GameState
-state-at s b = if ltb b 9 then (λ _. state-from (bit (s .x) b) (bit (s .o) b)) else λ _. InPlay
+state-at s b = if ltb b 9 then (λ _. state-of-bits (bit (s .x) b) (bit (s .o) b)) else λ _. InPlay

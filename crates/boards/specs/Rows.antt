@@ -13,11 +13,11 @@ use Rattle.rules.specs.Hash.{board-key, cells-hash}
 use Rattle.boards.specs.declared.local.Row.{Row}
 use Rattle.boards.specs.declared.local.LocalBoards.{LocalBoards}
 use Rattle.boards.specs.declared.moves.MoveIterator.{MoveIterator}
-use Rattle.boards.specs.Packed.{cell-from, no-row}
+use Rattle.boards.specs.Packed.{cell-of-bits, no-row}
 
 -- the cell at a place of a row
 abbrev pub row-cell : Row → ℕ → CellState
-row-cell r k = cell-from (bit (r .x) k) (bit (r .o) k)
+row-cell r k = cell-of-bits (bit (r .x) k) (bit (r .o) k)
 
 -- the empty cells of the boards that have their bit among three
 unfoldable pub row-free : Row → ℕ → ℕ

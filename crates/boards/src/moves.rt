@@ -8,7 +8,7 @@ ghost use lib.Bits.{bitAnd};
 ghost use lib.Dec.{eqb};
 ghost use lib.ListN.{length};
 ghost use Rattle.rules.specs.Play.{board-of, cell-of, no-move};
-ghost use Rattle.boards.specs.Answers.{error-number, answer-number, Builds};
+ghost use Rattle.boards.specs.Answers.{move-error-number, answer-number, Builds};
 ghost use Rattle.boards.specs.Cursor.{move-at, moves-left, listed};
 
 // The cells of all boards: no game has more moves, so no search is deeper and no variation longer.
@@ -24,7 +24,7 @@ pub enum MoveError {
 
 impl MoveError {
     pub fn number(self) -> u64
-        ensures { λ r. ⌜ r ≡ error-number self ⌝ }
+        ensures { λ r. ⌜ r ≡ move-error-number self ⌝ }
     {
         match self {
             MoveError::OutOfBounds => 9,

@@ -1,2 +1,2 @@
-pub mod Digits
-pub mod Blanks
+pub mod NumbersDigits
+pub mod Lists

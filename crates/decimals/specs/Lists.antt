@@ -19,9 +19,9 @@ new-scan = record { value = 0; any = false; count = 0; good = true }
 abbrev pub spoilt : Scan → Scan
 spoilt s = record { value = 0; any = false; count = s .count; good = false }
 
-abbrev pub longer : Scan → Number → Scan
-longer s (Is n) = record { value = n; any = true; count = s .count; good = s .good }
-longer s Bad = spoilt s
+abbrev pub with-number : Scan → Number → Scan
+with-number s (Is n) = record { value = n; any = true; count = s .count; good = s .good }
+with-number s Bad = spoilt s
 
 -- whether a blank ends a number for which there is room, with room for n
 abbrev pub ends : Scan → ℕ → Bool
@@ -30,7 +30,7 @@ ends s n = s .any && ltb (s .count) n
 -- after a byte, with room for n numbers
 unfoldable pub scanned : Scan → ℕ → ℕ → Scan
 scanned s b n =
-    if not (eqb b 0x20) then (λ _. longer s (with-digit (s .value) b)) else
+    if not (eqb b 0x20) then (λ _. with-number s (with-digit (s .value) b)) else
     λ _. if ends s n then (λ _. record { value = 0; any = false; count = s .count + 1; good = s .good }) else
     λ _. spoilt s
 

@@ -10,12 +10,12 @@ use Rattle.decimals.specs.declared.number.Number.the-variants.{Is, Bad}
 use Rattle.decimals.specs.declared.number.Signed.{Signed}
 use Rattle.decimals.specs.declared.number.Signed.the-variants.{Is as Whole, Bad as None}
 
-abbrev pub within : ℕ → ℕ → ℕ → Bool
-within b low high = leb low b && leb b high
+abbrev pub between : ℕ → ℕ → ℕ → Bool
+between b low high = leb low b && leb b high
 
 -- a digit more; none if the byte is no digit, or if the number is 2^64 or more
 unfoldable pub with-digit : ℕ → ℕ → Number
-with-digit value b = if within b 0x30 0x39 && ltb (value * 10 + (b - 0x30)) (2 ^ 64) then (λ _. Is (value * 10 + (b - 0x30))) else λ _. Bad
+with-digit value b = if between b 0x30 0x39 && ltb (value * 10 + (b - 0x30)) (2 ^ 64) then (λ _. Is (value * 10 + (b - 0x30))) else λ _. Bad
 
 abbrev pub and-then : Number → (ℕ → Number) → Number
 and-then (Is n) f = f n
@@ -29,14 +29,14 @@ unfoldable pub read-number : List ℕ → Number
 read-number [] = Bad
 read-number (b ∷ bs) = digits-after 0 (b ∷ bs)
 
-unfoldable pub plus : Number → Signed
-plus (Is n) = if ltb n (2 ^ 63) then (λ _. Whole (pos n)) else λ _. None
-plus Bad = None
+unfoldable pub positive-of : Number → Signed
+positive-of (Is n) = if ltb n (2 ^ 63) then (λ _. Whole (pos n)) else λ _. None
+positive-of Bad = None
 
-unfoldable pub minus : Number → Signed
-minus (Is n) = if ltb n (2 ^ 63) then (λ _. Whole (negℤ (pos n))) else λ _. None
-minus Bad = None
+unfoldable pub negative-of : Number → Signed
+negative-of (Is n) = if ltb n (2 ^ 63) then (λ _. Whole (negℤ (pos n))) else λ _. None
+negative-of Bad = None
 
 unfoldable pub read-signed : List ℕ → Signed
 read-signed [] = None
-read-signed (b ∷ bs) = if eqb b 0x2d then (λ _. minus (read-number bs)) else λ _. plus (read-number (b ∷ bs))
+read-signed (b ∷ bs) = if eqb b 0x2d then (λ _. negative-of (read-number bs)) else λ _. positive-of (read-number (b ∷ bs))

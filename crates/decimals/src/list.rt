@@ -1,7 +1,7 @@
 // Lists of decimal numbers parted by single blanks, read byte by byte into lent words.
 ghost use mathlib.Core.Path.{_≡_};
 ghost use lib.ListN.{length, getD};
-ghost use Rattle.decimals.specs.Lists.{new-scan, spoilt, longer, scanned, written, scanned-all, counted};
+ghost use Rattle.decimals.specs.Lists.{new-scan, spoilt, with-number, scanned, written, scanned-all, counted};
 ghost use Rattle.decimals.specs.Numbers.{with-digit};
 use crate::number::Number;
 use crate::number::with_digit;
@@ -40,7 +40,7 @@ impl Scan {
 
     // With a digit more.
     fn longer(self, b: u8) -> Scan
-        ensures { λ r. ⌜ r ≡ longer self (with-digit (self .value) b) ⌝ }
+        ensures { λ r. ⌜ r ≡ with-number self (with-digit (self .value) b) ⌝ }
     {
         match with_digit(self.value, b) {
             Number::Is(value) => Scan {

@@ -1,7 +1,7 @@
 // Decimal numbers.
 ghost use mathlib.Core.Path.{_≡_};
 ghost use mathlib.Core.Bool.{cond};
-ghost use Rattle.decimals.specs.Numbers.{within, with-digit, read-number, read-signed, plus, minus};
+ghost use Rattle.decimals.specs.Numbers.{between, with-digit, read-number, read-signed, positive-of, negative-of};
 
 pub enum Number {
     Is(u64),
@@ -15,7 +15,7 @@ pub enum Signed {
 
 // Whether a byte lies within two others.
 pub fn within(b: u8, low: u8, high: u8) -> bool
-    ensures { λ r. ⌜ r ≡ within b low high ⌝ }
+    ensures { λ r. ⌜ r ≡ between b low high ⌝ }
 {
     if b < low { false } else { b <= high }
 }
@@ -60,7 +60,7 @@ pub fn read_number(text: &[u8]) -> Number
 }
 
 fn plus(n: Number) -> Signed
-    ensures { λ r. ⌜ r ≡ plus n ⌝ }
+    ensures { λ r. ⌜ r ≡ positive-of n ⌝ }
 {
     match n {
         Number::Is(value) => {
@@ -75,7 +75,7 @@ fn plus(n: Number) -> Signed
 }
 
 fn minus(n: Number) -> Signed
-    ensures { λ r. ⌜ r ≡ minus n ⌝ }
+    ensures { λ r. ⌜ r ≡ negative-of n ⌝ }
 {
     match n {
         Number::Is(value) => {
@@ -91,7 +91,7 @@ fn minus(n: Number) -> Signed
 
 // A size below 2^63 with its sign.
 pub fn with_sign(negative: bool, size: u64) -> Signed
-    ensures { λ r. ⌜ r ≡ cond negative (minus (Number.Is size)) (plus (Number.Is size)) ⌝ }
+    ensures { λ r. ⌜ r ≡ cond negative (negative-of (Number.Is size)) (positive-of (Number.Is size)) ⌝ }
 {
     if negative {
         minus(Number::Is(size))

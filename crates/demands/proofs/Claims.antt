@@ -11,7 +11,7 @@ use lib.ListN.{length, getD}
 use borrow.Author.Tests.{eqb-true, eqb-false}
 use Rattle.base.specs.Branch.{if_then_else_}
 use Rattle.rules.specs.declared.Player.{Player}
-use Rattle.rules.specs.Position.{Position, start, going}
+use Rattle.rules.specs.Position.{Position, start, unfinished}
 use Rattle.rules.specs.Play.{no-move, accepts, tried, reached}
 use Rattle.rules.specs.Status.{allows, alone}
 use Rattle.rules.specs.Endgame.{analysis}
@@ -21,47 +21,47 @@ use Rattle.theory.specs.Game.{Game}
 use Rattle.theory.specs.Table.{off}
 use Rattle.theory.specs.Memory.{Responses, Memory, fresh-memory}
 use Rattle.theory.specs.OrderedSearch.{at-most}
-use Rattle.theory.specs.Deepening.{Answer, analyze}
+use Rattle.theory.specs.Deepening.{SearchAnswer, analyze}
 use Rattle.theory.specs.Reported.{Settings, entry-refusal, Reported, report, reported}
-use Rattle.theory.specs.Line.{Walk, walk, ends-on, Begins}
+use Rattle.theory.specs.Variation.{Playout, play-out, ends-on, FirstAttains}
 use Rattle.theory.proofs.Allowance.{spent-means-mark, lt-or}
-use Rattle.theory.proofs.Places.{analyze-places}
-use Rattle.reference.specs.Reference.{game, plain-minimax, win-for}
-use Rattle.reference.specs.Answers.{entries, AnswersWhole}
-use Rattle.reference.proofs.Search.{unstopped-right, alone-scores, left-out-never-scores, not-nothing}
-use Rattle.minimax.proofs.Refusals.{some-depth, accepted-reported, turned-reported}
-use Rattle.demands.specs.Claims.{NotStopped, MarkSays, Right, StatusHolds}
+use Rattle.theory.proofs.OrderedSearchPlaces.{analyze-places}
+use Rattle.rules_game.specs.RulesGame.{game, plain-minimax, win-for}
+use Rattle.rules_game.specs.Answers.{entries, AnswersWhole}
+use Rattle.rules_game.proofs.Answers.{unstopped-right, alone-scores, left-out-never-scores, not-nothing}
+use Rattle.minimax.proofs.ReportRefusals.{some-depth, accepted-reported, turned-reported}
+use Rattle.demands.specs.Claims.{NotStopped, MarkSays, ReportsMinimax, StatusHolds}
 
--- ---- a line and what is appended to it
-walk-longer : (G : Game) (d : ℕ) (p : G .Pos) (line rest : List ℕ) → length line ≡ d → walk G d p (line ++ rest) ≡ walk G d p line
-unfolding walk
+-- ---- a variation and what is appended to it
+walk-longer : (G : Game) (d : ℕ) (p : G .Pos) (line rest : List ℕ) → length line ≡ d → play-out G d p (line ++ rest) ≡ play-out G d p line
+unfolding play-out
 walk-longer G zero p line rest e = refl
 walk-longer G (suc d) p [] rest e = absurd (omega arith)
-walk-longer G (suc d) p (m ∷ line) rest e = ap (λ (w : Walk (G .Pos)). if G .over p then (λ _. record { accepted = true; end = p; odd = false }) else λ _. record { accepted = G .accepts p m && w .accepted; end = w .end; odd = not (w .odd) }) (walk-longer G d (G .play p m) line rest (omega arith))
+walk-longer G (suc d) p (m ∷ line) rest e = ap (λ (w : Playout (G .Pos)). if G .over p then (λ _. record { accepted = true; end = p; odd = false }) else λ _. record { accepted = G .accepts p m && w .accepted; end = w .end; odd = not (w .odd) }) (walk-longer G d (G .play p m) line rest (omega arith))
 
 ends-longer : (G : Game) (d : ℕ) (p : G .Pos) (line rest : List ℕ) → length line ≡ d → ends-on G d p (line ++ rest) ≡ ends-on G d p line
 unfolding ends-on
-ends-longer G d p line rest e = ap (λ (w : Walk (G .Pos)). cond (w .odd) (negℤ (G .value (w .end))) (G .value (w .end))) (walk-longer G d p line rest e)
+ends-longer G d p line rest e = ap (λ (w : Playout (G .Pos)). cond (w .odd) (negℤ (G .value (w .end))) (G .value (w .end))) (walk-longer G d p line rest e)
 
--- the first move of a line that begins so
+-- the first move of a variation that begins so
 module _ (sc : Scoring) (k : ℕ) (p : Position) where
-  first-legal : (line rest : List ℕ) (r : ℤ) → Begins (game sc) k p line r → T (accepts p (getD (line ++ rest) 0 no-move))
+  first-legal : (line rest : List ℕ) (r : ℤ) → FirstAttains (game sc) k p line r → T (accepts p (getD (line ++ rest) 0 no-move))
   first-legal [] rest r b = absurd b
   first-legal (m ∷ line) rest r b = moves-are-accepted p m .0 (b .0)
 
-  first-attains : (line rest : List ℕ) (r : ℤ) → Begins (game sc) k p line r → negℤ (plain-minimax sc k (tried p (getD (line ++ rest) 0 no-move))) ≡ r
+  first-attains : (line rest : List ℕ) (r : ℤ) → FirstAttains (game sc) k p line r → negℤ (plain-minimax sc k (tried p (getD (line ++ rest) 0 no-move))) ≡ r
   first-attains [] rest r b = absurd b
   first-attains (m ∷ line) rest r b = b .1
 
 -- ---- a search of the position that a list of tried moves reaches, if it is unfinished
-module _ (ms : List ℕ) (t : T (going (reached start ms))) (sc : Scoring) (c : Settings) (rs : Responses) where
+module _ (ms : List ℕ) (t : T (unfinished (reached start ms))) (sc : Scoring) (c : Settings) (rs : Responses) where
   abbrev p : Position
   p = reached start ms
 
   abbrev s : Memory
   s = fresh-memory rs []
 
-  abbrev answer : Answer
+  abbrev answer : SearchAnswer
   answer = analyze (game sc) (at-most (c .allowance)) (c .max-depth) p s
 
   abbrev x : Reported
@@ -86,20 +86,20 @@ module _ (ms : List ℕ) (t : T (going (reached start ms))) (sc : Scoring) (c : 
     whole : AnswersWhole sc (c .max-depth - 1) p answer
     whole = whole-by (c .max-depth) (c .max-depth - 1) (depth-is (n .accepted)) (n .enough)
 
-    report-right : Right sc c rs p (report (game sc) p answer)
+    report-right : ReportsMinimax sc c rs p (report (game sc) p answer)
     report-right = let places = analyze-places (game sc) (at-most (c .allowance)) (c .max-depth) p s in let r = whole .right in let d = depth-is (n .accepted) in record {
       score = r .score-is ∙ ap (λ (y : ℕ). plain-minimax sc y p) (sym d);
-      first-legal = first-legal sc (c .max-depth - 1) p (answer .whole .line) _ (answer .whole .score) (whole .first-attains);
-      first-attains = first-attains sc (c .max-depth - 1) p (answer .whole .line) _ (answer .whole .score) (whole .first-attains);
+      first-legal = first-legal sc (c .max-depth - 1) p (answer .completed .pv) _ (answer .completed .score) (whole .first-attains);
+      first-attains = first-attains sc (c .max-depth - 1) p (answer .completed .pv) _ (answer .completed .score) (whole .first-attains);
       some-depth = r .some-depth;
       no-deeper = omega (arith, r .no-deeper);
       deep = elim (r .deep) [ inl q ↦ inl (q ∙ sym d) | inr q ↦ inr q ];
-      line-legal = subst (λ (w : Walk Position). T (w .accepted)) (sym (walk-longer (game sc) (answer .whole .depth) p (answer .whole .line) _ places)) (r .accepted);
-      line-ends = r .ends ∙ sym (ends-longer (game sc) (answer .whole .depth) p (answer .whole .line) _ places);
+      line-legal = subst (λ (w : Playout Position). T (w .accepted)) (sym (walk-longer (game sc) (answer .completed .depth) p (answer .completed .pv) _ places)) (r .accepted);
+      line-ends = r .ends ∙ sym (ends-longer (game sc) (answer .completed .depth) p (answer .completed .pv) _ places);
     }
 
-    pub reported-right : Right sc c rs p x
-    reported-right = subst (Right sc c rs p) (is-report (n .accepted)) report-right
+    pub reported-right : ReportsMinimax sc c rs p x
+    reported-right = subst (ReportsMinimax sc c rs p) (is-report (n .accepted)) report-right
 
     unmarked-number : (b : Bool) (d : ℕ) → T (not b) → _≡_ {A = ℕ} (if b && eqb d 0 then (λ _. 18) else λ _. 0) 0
     unfolding if_then_else_
@@ -107,7 +107,7 @@ module _ (ms : List ℕ) (t : T (going (reached start ms))) (sc : Scoring) (c : 
     unmarked-number false d u = refl
 
     number-none : x .number ≡ 0
-    number-none = subst (λ (y : Reported). y .number ≡ 0) (is-report (n .accepted)) (unmarked-number (answer .is-stopped) (answer .whole .depth) (whole .unmarked))
+    number-none = subst (λ (y : Reported). y .number ≡ 0) (is-report (n .accepted)) (unmarked-number (answer .is-stopped) (answer .completed .depth) (whole .unmarked))
 
     not-marked : T (not (x .is-stopped))
     not-marked = subst (λ (y : Reported). T (not (y .is-stopped))) (is-report (n .accepted)) (whole .unmarked)
@@ -129,20 +129,20 @@ module _ (ms : List ℕ) (t : T (going (reached start ms))) (sc : Scoring) (c : 
   reported-marks = record { number-none = number-none; not-marked = not-marked; only-then = only-then }
 
 -- ---- with no draw winner
-module _ (ms : List ℕ) (t : T (going (reached start ms))) (c : Settings) (rs : Responses) where
+module _ (ms : List ℕ) (t : T (unfinished (reached start ms))) (c : Settings) (rs : Responses) where
   alone-by : (w : Player) → T (alone (analysis (reached start ms) .status) w) → NotStopped no-draw-winner c rs (reached start ms) → 3 ≤ c .max-depth → reported (game no-draw-winner) c (reached start ms) rs [] .score ≡ win-for w (reached start ms)
   alone-by w a n three = sym (ap (λ (y : Reported). y .score) (is-report ms t no-draw-winner c rs (n .accepted)))
       ∙ by-depth (c .max-depth) (n .enough) (depth-is ms t no-draw-winner c rs (n .accepted)) three
     where
-      by-depth : (d : ℕ) → entries no-draw-winner d (reached start ms) (fresh-memory rs []) ≤ c .allowance → d ≡ suc (c .max-depth - 1) → 3 ≤ d → analyze (game no-draw-winner) (at-most (c .allowance)) d (reached start ms) (fresh-memory rs []) .whole .score ≡ win-for w (reached start ms)
-      by-depth d h e k = subst (λ (y : ℕ). entries no-draw-winner y (reached start ms) (fresh-memory rs []) ≤ c .allowance → analyze (game no-draw-winner) (at-most (c .allowance)) y (reached start ms) (fresh-memory rs []) .whole .score ≡ win-for w (reached start ms)) (sym e)
+      by-depth : (d : ℕ) → entries no-draw-winner d (reached start ms) (fresh-memory rs []) ≤ c .allowance → d ≡ suc (c .max-depth - 1) → 3 ≤ d → analyze (game no-draw-winner) (at-most (c .allowance)) d (reached start ms) (fresh-memory rs []) .completed .score ≡ win-for w (reached start ms)
+      by-depth d h e k = subst (λ (y : ℕ). entries no-draw-winner y (reached start ms) (fresh-memory rs []) ≤ c .allowance → analyze (game no-draw-winner) (at-most (c .allowance)) y (reached start ms) (fresh-memory rs []) .completed .score ≡ win-for w (reached start ms)) (sym e)
           (λ i. alone-scores ms t (fresh-memory rs []) (table-off ms t no-draw-winner c rs) refl (c .max-depth - 1) (c .allowance) i (omega arith) w a) h
 
   never-by : (w : Player) → T (not (allows (analysis (reached start ms) .status) w)) → reported (game no-draw-winner) c (reached start ms) rs [] .score ≡ win-for w (reached start ms) → ⊥
   never-by w out h = by-refusal (eqb (entry-refusal c 0) 0) refl
     where
-      searched-never : (d k : ℕ) → d ≡ suc k → analyze (game no-draw-winner) (at-most (c .allowance)) d (reached start ms) (fresh-memory rs []) .whole .score ≡ win-for w (reached start ms) → ⊥
-      searched-never d k e = subst (λ (y : ℕ). analyze (game no-draw-winner) (at-most (c .allowance)) y (reached start ms) (fresh-memory rs []) .whole .score ≡ win-for w (reached start ms) → ⊥) (sym e)
+      searched-never : (d k : ℕ) → d ≡ suc k → analyze (game no-draw-winner) (at-most (c .allowance)) d (reached start ms) (fresh-memory rs []) .completed .score ≡ win-for w (reached start ms) → ⊥
+      searched-never d k e = subst (λ (y : ℕ). analyze (game no-draw-winner) (at-most (c .allowance)) y (reached start ms) (fresh-memory rs []) .completed .score ≡ win-for w (reached start ms) → ⊥) (sym e)
           (left-out-never-scores ms t (fresh-memory rs []) (table-off ms t no-draw-winner c rs) refl k w out (at-most (c .allowance)))
 
       by-refusal : (b : Bool) → eqb (entry-refusal c 0) 0 ≡ b → ⊥

@@ -1,6 +1,6 @@
 -- Each promise says the refusals of demand 1: the number is that of the first check that fails.
 use lib.Ieee.Bits.{is-true, is-false}
-use Rattle.demands.proofs.AskingLines.{asking-line-holds}
+use Rattle.demands.proofs.Demand1Lines.{asking-line-holds}
 use Rattle.demands.proofs.ReadingTexts.{reading-move-holds, reading-position-holds}
 use mathlib.Core.Path.{_≡_, refl, sym, ap, _∙_, subst}
 use mathlib.Core.Bool.{Bool, true, false, not, _||_, _&&_, or-assoc, Bool·not-not}
@@ -22,17 +22,17 @@ use Rattle.rules.specs.declared.CellState.the-variants.{Empty}
 use Rattle.rules.specs.declared.GameState.{GameState}
 use Rattle.rules.specs.declared.GameState.the-variants.{InPlay}
 use Rattle.rules.specs.Board.{nine, sides, has-line}
-use Rattle.rules.specs.Position.{Position, going, open-board, free-cell, has}
+use Rattle.rules.specs.Position.{Position, unfinished, open-board, free-cell, has}
 use Rattle.rules.specs.Play.{no-move, move-of, board-of, cell-of, checks, accepts}
 use Rattle.rules.specs.Sound.{sound}
 use Rattle.rules.specs.Status.{Status as Set, unproven}
-use Rattle.rules.specs.Endgame.{Analysis as Meant, no-stats as no-counts, analysis-checks, analysis, judging-checks, evaluate-move}
+use Rattle.rules.specs.Endgame.{Analysis as Meant, no-endgame-stats as no-counts, analysis-checks, analysis, judging-checks, evaluate-move}
 use Rattle.rules.proofs.Play.{tried-accepted}
 use Rattle.rules.proofs.Endgame.{analysis-finished}
 use Rattle.theory.specs.Limits.{console}
 use Rattle.theory.specs.Game.{Game as Searched}
 use Rattle.theory.specs.Memory.{Memory, fresh-memory}
-use Rattle.theory.specs.Deepening.{Whole, Answer}
+use Rattle.theory.specs.Deepening.{Completed, SearchAnswer}
 use Rattle.theory.specs.Reported.{entry-checks, entry-refusal, no-stats, filled, refused-entry, report, reported}
 use Rattle.theory.proofs.Allowance.{none-whole-marked, none-whole-counted, none-whole-nothing, none-whole-is}
 use Rattle.boards.specs.declared.moves.Move.{Move}
@@ -42,25 +42,25 @@ use Rattle.boards.specs.declared.states.GlobalStates.{GlobalStates}
 use Rattle.boards.specs.Packed.{cell-at, state-at}
 use Rattle.boards.specs.Answers.{answer-number, in-range, range-refusal, Builds}
 use Rattle.game.specs.declared.Game.{Game}
-use Rattle.game.specs.declared.Made.{Made}
+use Rattle.game.specs.declared.MoveResult.{MoveResult}
 use Rattle.game.specs.declared.CellAnswer.{CellAnswer}
 use Rattle.game.specs.declared.StateAnswer.{StateAnswer}
 use Rattle.game.specs.Meaning.{position-of}
 use Rattle.game.specs.After.{Plays}
 use Rattle.game.specs.Look.{Looks-cell, Looks-state}
 use Rattle.game.proofs.Meaning.{game-accepted, game-refused}
-use Rattle.game.proofs.Answers.{first-is-refusal, nought-accepts, refused-not-accepts}
+use Rattle.game.proofs.AfterRefusals.{first-is-refusal, nought-accepts, refused-not-accepts}
 use Rattle.status.specs.Sets.{status-of}
 use Rattle.endgame.specs.declared.Analysis.{Analysis}
 use Rattle.endgame.specs.declared.MoveStatus.{MoveStatus}
-use Rattle.endgame.specs.Means.{judging-number, Analyses, Judges}
+use Rattle.endgame.specs.Means.{move-status-number, Analyses, Judges}
 use Rattle.minimax.specs.declared.Minimax.{Minimax}
 use Rattle.minimax.specs.declared.Config.{Config}
 use Rattle.minimax.specs.declared.Report.{Report}
 use Rattle.minimax.specs.Structs.{structs}
 use Rattle.minimax.specs.State.{responses-of}
 use Rattle.minimax.specs.Report.{settings-of, report-of, answer-of, reported-of, scoring-of}
-use Rattle.demands.specs.Demand1.{Playing, depth-1-enters, searching, Silent, Searching, line-of-boards, broken-board, unsound, analysing, Analysing, Judging, LookingCell, LookingBoard, Building, Demand1}
+use Rattle.demands.specs.Demand1.{Playing, depth-1-enters, searching, NothingReported, Searching, line-of-boards, broken-board, unsound, analysing, Analysing, JudgingMove, LookingCell, LookingBoard, Building, Demand1}
 
 -- ---- a list of one check
 one-passes : (t : Bool) (n : ℕ) → T t → T (all-pass ((t, n) ∷ []))
@@ -68,7 +68,7 @@ unfolding all-pass all
 one-passes t n u = →and t true u tt
 
 -- ---- playing
-module _ (g : Game) (m : Move) (r : Made) (h : Plays g m r) where
+module _ (g : Game) (m : Move) (r : MoveResult) (h : Plays g m r) where
   abbrev p : Position
   p = position-of g
 
@@ -91,7 +91,7 @@ module _ (m : Minimax) (g : Game) (c : Config) (words : List ℕ) where
   abbrev s : Memory
   s = fresh-memory (responses-of (m .responses)) words
 
-  abbrev y : Answer
+  abbrev y : SearchAnswer
   y = answer-of m g c words
 
   abbrev entry : List (Bool × ℕ)
@@ -105,7 +105,7 @@ module _ (m : Minimax) (g : Game) (c : Config) (words : List ℕ) where
   unfolding all
   turned-holds t = record {
     number = sym (failed-++ entry ((enough, 18) ∷ []) t);
-    refused = λ _. record { depth = refl; score = refl; line = refl; stats = refl };
+    refused = λ _. record { depth = refl; score = refl; pv = refl; stats = refl };
     at-entry = λ _ _. record { count = refl; unmarked = tt; responses = refl; table = refl };
     in-depth-1 = λ e. absurd (omega (arith, ltb→lt (first-failed entry) 18 (failed-number (λ k. ltb k 18) entry tt t)));
   }
@@ -120,7 +120,7 @@ module _ (m : Minimax) (g : Game) (c : Config) (words : List ℕ) where
     last-decides = passed-++ entry ((enough, 18) ∷ []) t
 
     abbrev spent : Bool
-    spent = y .is-stopped && eqb (y .whole .depth) 0
+    spent = y .is-stopped && eqb (y .completed .depth) 0
 
     not-enough : spent ≡ ltb (c .allowance) (depth-1-enters m g c words)
     not-enough = none-whole-is G (c .allowance) (c .«max_depth») g s (omega arith) some-depth
@@ -149,12 +149,12 @@ module _ (m : Minimax) (g : Game) (c : Config) (words : List ℕ) where
       }
     ]
       where
-        silent : T spent → Silent m g c words (report G g y)
+        silent : T spent → NothingReported m g c words (report G g y)
         silent u = let w = none-whole-nothing G (c .allowance) (c .«max_depth») g s (omega arith) u in record {
-          depth = ap (λ (v : Whole). v .depth) w;
-          score = ap (λ (v : Whole). v .score) w;
-          line = ap (λ (v : Whole). filled no-move (v .line)) w;
-          stats = ap (λ (v : Whole). filled no-stats (v .stats)) w;
+          depth = ap (λ (v : Completed). v .depth) w;
+          score = ap (λ (v : Completed). v .score) w;
+          pv = ap (λ (v : Completed). filled no-move (v .pv)) w;
+          stats = ap (λ (v : Completed). filled no-stats (v .stats)) w;
         }
 
   reported-holds : Searching m g c words (reported-of m g c words)
@@ -204,7 +204,7 @@ module _ (g : Game) where
       ∙ ap not (neither (x || o) broken) ∙ Bool·not-not ((x || o) || broken) ∙ or-assoc x o broken
 
   analysing-is : analysis-checks here ≡ analysing g
-  analysing-is i = (not (going here && unsound-is i), 14) ∷ []
+  analysing-is i = (not (unfinished here && unsound-is i), 14) ∷ []
 
   -- the number of an analysis, and what it says where it is not 0
   record Analysed (x : Meant) : Type 0 where
@@ -214,7 +214,7 @@ module _ (g : Game) where
 
   analysed : Analysed (analysis here)
   unfolding analysis
-  analysed = if-ind Analysed (going here && sound here) _ _
+  analysed = if-ind Analysed (unfinished here && sound here) _ _
       (λ t. record {
         number = sym (all-pass-0 (analysis-checks here) (passes t));
         full = λ h. absurd (h refl);
@@ -222,9 +222,9 @@ module _ (g : Game) where
       })
       (λ _. record { number = refl; full = λ _. refl; none-counted = λ _. refl })
     where
-      passes : T (going here && sound here) → T (all-pass (analysis-checks here))
-      passes t = one-passes _ 14 (not-T (going here && not (sound here)) (λ u.
-          T-not (sound here) (and→ (going here) _ u .1) (and→ (going here) _ t .1)))
+      passes : T (unfinished here && sound here) → T (all-pass (analysis-checks here))
+      passes t = one-passes _ 14 (not-T (unfinished here && not (sound here)) (λ u.
+          T-not (sound here) (and→ (unfinished here) _ u .1) (and→ (unfinished here) _ t .1)))
 
   pub analysing-holds : (a : Analysis) → Analyses g a → Analysing g a
   analysing-holds a h = record {
@@ -245,7 +245,7 @@ module _ (g : Game) where
     abbrev judging : List (Bool × ℕ)
     judging = judging-checks here (m .bits)
 
-    judged-number : judging-number (r .answer) ≡ first-failed judging
+    judged-number : move-status-number (r .answer) ≡ first-failed judging
     unfolding evaluate-move
     judged-number = h .number
 
@@ -253,7 +253,7 @@ module _ (g : Game) where
     unfolding evaluate-move
     judged-full t = if-ind (λ (s : Set). s ≡ unproven) (all-pass judging) _ _ (λ u. absurd (T-not (all-pass judging) t u)) (λ _. refl)
 
-    pub judging-holds : Judging g m r
+    pub judging-holds : JudgingMove g m r
     judging-holds = record {
       number = judged-number ∙ (λ i. first-failed (analysing-is i ++ checks here (board-of (m .bits)) (cell-of (m .bits))));
       refused = λ e. h .status ∙ ap status-of (judged-full (some-failed judging (λ q. e (judged-number ∙ q))));

@@ -11,21 +11,21 @@ use Rattle.rules.specs.Evaluation.{evaluate}
 use Rattle.rules.specs.Endgame.{analysis, evaluate-move}
 use Rattle.rules.specs.Compare.{bound-depth, open-boards, equivalent}
 use Rattle.theory.specs.Reported.{reported}
-use Rattle.reference.specs.Reference.{game}
+use Rattle.rules_game.specs.RulesGame.{game}
 use Rattle.text.specs.Reading.{reads, read}
 use Rattle.text.specs.Writing.{text-of}
 use Rattle.game.specs.declared.Game.{Game}
 use Rattle.game.specs.Meaning.{position-of}
 use Rattle.game.specs.After.{refusal, games-after}
 use Rattle.game.specs.Neat.{neat, game-of}
-use Rattle.game.proofs.Hash.{Fresh, zobrist-fresh}
-use Rattle.game.proofs.Played.{played-neat, played-means, played-hash}
+use Rattle.game.proofs.AfterHash.{Fresh, zobrist-fresh}
+use Rattle.game.proofs.AfterList.{played-neat, played-means, played-hash}
 use Rattle.notation.specs.declared.Parsed.{Parsed}
 use Rattle.notation.specs.Parsed.{game-for, Parses}
-use Rattle.notation.proofs.ReadGames.{ReadGame, read-gives-a-game}
+use Rattle.notation.proofs.ParsedGames.{ReadGame, read-gives-a-game}
 use Rattle.minimax.specs.State.{responses-of}
 use Rattle.minimax.specs.Report.{scoring-of, settings-of}
-use Rattle.minimax.proofs.Rules.{reported-rules}
+use Rattle.minimax.proofs.Structs.{reported-rules}
 use Rattle.demands.specs.Demand2.{SameAs, Demand2}
 
 -- a neat game with the fresh hash

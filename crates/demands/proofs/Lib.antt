@@ -1,7 +1,7 @@
 pub mod Claims
-pub mod AfterMoves
+pub mod Demand3
 pub mod Demand2
-pub mod AskingLines
+pub mod Demand1Lines
 pub mod ReadingTexts
 pub mod Demand1
 pub mod Twelve

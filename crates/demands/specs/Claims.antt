@@ -15,9 +15,9 @@ use Rattle.rules.specs.Evaluation.{Scoring, no-draw-winner}
 use Rattle.theory.specs.Memory.{Responses, fresh-memory}
 use Rattle.theory.specs.Deepening.{decided}
 use Rattle.theory.specs.Reported.{Settings, entry-refusal, Reported}
-use Rattle.theory.specs.Line.{walk, ends-on}
-use Rattle.reference.specs.Reference.{game, plain-minimax, win-for}
-use Rattle.reference.specs.Answers.{entries}
+use Rattle.theory.specs.Variation.{play-out, ends-on}
+use Rattle.rules_game.specs.RulesGame.{game, plain-minimax, win-for}
+use Rattle.rules_game.specs.Answers.{entries}
 
 module _ (sc : Scoring) (c : Settings) (rs : Responses) (p : Position) where
   -- a search is not stopped when nothing refuses it and the ordered search, unlimited, enters no more positions than it is allowed
@@ -34,20 +34,20 @@ module _ (sc : Scoring) (c : Settings) (rs : Responses) (p : Position) where
       pub only-then : x .number ≡ 0 → T (not (x .is-stopped)) → NotStopped
 
     -- of a search that is not stopped
-    pub record Right : Type 0 where
+    pub record ReportsMinimax : Type 0 where
       -- the score is plain minimax's to the limit, scored the same way
       pub score : x .score ≡ plain-minimax sc (c .max-depth) p
       -- the first move is legal, and plain minimax to one depth less after it, negated, is the score
-      pub first-legal : T (accepts p (getD (x .line) 0 no-move))
-      pub first-attains : negℤ (plain-minimax sc (c .max-depth - 1) (tried p (getD (x .line) 0 no-move))) ≡ x .score
-      -- the line's depth is the last whole depth, which is the limit unless the score ended the search sooner
+      pub first-legal : T (accepts p (getD (x .pv) 0 no-move))
+      pub first-attains : negℤ (plain-minimax sc (c .max-depth - 1) (tried p (getD (x .pv) 0 no-move))) ≡ x .score
+      -- the variation's depth is the last completed depth, which is the limit unless the score ended the search sooner
       pub some-depth : 1 ≤ x .depth
       pub no-deeper : x .depth ≤ c .max-depth
       pub deep : (x .depth ≡ c .max-depth) ⊎ T (decided (x .score))
       -- its moves up to that depth, or to the game's end if sooner, are each accepted, and the evaluation of the position reached, negated if the
       -- other side is then to move, is the score
-      pub line-legal : T (walk (game sc) (x .depth) p (x .line) .accepted)
-      pub line-ends : x .score ≡ ends-on (game sc) (x .depth) p (x .line)
+      pub line-legal : T (play-out (game sc) (x .depth) p (x .pv) .accepted)
+      pub line-ends : x .score ≡ ends-on (game sc) (x .depth) p (x .pv)
 
 -- with no draw winner, s being the endgame status
 module _ (c : Settings) (rs : Responses) (p : Position) (x : Reported) (s : Status) where

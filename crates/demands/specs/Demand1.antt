@@ -16,7 +16,7 @@ use Rattle.rules.specs.declared.GameState.the-variants.{InPlay}
 use Rattle.rules.specs.Board.{blank, mine, in-play, won-by, nine, has-line}
 use Rattle.rules.specs.Play.{no-move, move-of, board-of, cell-of, checks, after}
 use Rattle.rules.specs.Status.{unproven}
-use Rattle.rules.specs.Endgame.{no-stats as no-counts}
+use Rattle.rules.specs.Endgame.{no-endgame-stats as no-counts}
 use Rattle.text.specs.Reading.{sections}
 use Rattle.text.specs.MoveText.{coordinate}
 use Rattle.text.specs.ProgramLine.{asked, line-refusal, refusal-text}
@@ -30,7 +30,7 @@ use Rattle.boards.specs.declared.moves.Built.{Built}
 use Rattle.boards.specs.Packed.{cell-at, state-at}
 use Rattle.boards.specs.Answers.{answer-number, in-range, Builds}
 use Rattle.game.specs.declared.Game.{Game}
-use Rattle.game.specs.declared.Made.{Made}
+use Rattle.game.specs.declared.MoveResult.{MoveResult}
 use Rattle.game.specs.declared.CellAnswer.{CellAnswer}
 use Rattle.game.specs.declared.StateAnswer.{StateAnswer}
 use Rattle.game.specs.Meaning.{position-of}
@@ -46,18 +46,18 @@ use Rattle.notation.specs.Parsed.{parse-number, move-number, Parses, Parses-mov
 use Rattle.status.specs.Sets.{status-of}
 use Rattle.endgame.specs.declared.Analysis.{Analysis}
 use Rattle.endgame.specs.declared.MoveStatus.{MoveStatus}
-use Rattle.endgame.specs.Means.{made-number, judging-number, stats-of, Analyses, Judges}
+use Rattle.endgame.specs.Means.{analysis-number, move-status-number, endgame-stats-of, Analyses, Judges}
 use Rattle.minimax.specs.declared.Minimax.{Minimax}
 use Rattle.minimax.specs.declared.Config.{Config}
 use Rattle.minimax.specs.declared.Report.{Report}
 use Rattle.minimax.specs.Structs.{structs}
 use Rattle.minimax.specs.State.{responses-of}
 use Rattle.minimax.specs.Report.{settings-of, report-of, answer-of, reported-of, scoring-of}
-use Rattle.line.specs.Answered.{answer-line}
+use Rattle.program_line.specs.Answered.{answer-line}
 
 -- ---- playing: the rules' own checks
 -- refused play returns the old game
-pub record Playing (g : Game) (m : Move) (r : Made) : Type 0 where
+pub record Playing (g : Game) (m : Move) (r : MoveResult) : Type 0 where
   pub number : answer-number (r .answer) ≡ first-failed (checks (position-of g) (board-of (m .bits)) (cell-of (m .bits)))
   pub refused : (answer-number (r .answer) ≡ 0 → ⊥) → r .game ≡ g
   pub accepted : answer-number (r .answer) ≡ 0 → r .game ≡ after-move g (board-of (m .bits)) (cell-of (m .bits))
@@ -77,10 +77,10 @@ module _ (m : Minimax) (g : Game) (c : Config) (words : List ℕ) where
   -- x is what is reported
   module _ (x : Reported) where
     -- score 0 and no move, of no depth
-    pub record Silent : Type 0 where
+    pub record NothingReported : Type 0 where
       pub depth : x .depth ≡ 0
       pub score : x .score ≡ pos 0
-      pub line : x .line ≡ replicate (console .deepest) no-move
+      pub pv : x .pv ≡ replicate (console .deepest) no-move
       pub stats : x .stats ≡ replicate (console .deepest) no-stats
 
     -- nothing is changed, and no position was entered
@@ -91,7 +91,7 @@ module _ (m : Minimax) (g : Game) (c : Config) (words : List ℕ) where
       pub table : x .table ≡ words
 
     -- all that is allowed was entered; response tables and table are as the ordered search has left them where it stopped
-    pub record Spent : Type 0 where
+    pub record SpentInDepth1 : Type 0 where
       pub count : x .count ≡ c .allowance
       pub marked : T (x .is-stopped)
       pub responses : x .responses ≡ answer-of m g c words .memory .responses
@@ -99,10 +99,10 @@ module _ (m : Minimax) (g : Game) (c : Config) (words : List ℕ) where
 
     pub record Searching : Type 0 where
       pub number : x .number ≡ first-failed searching
-      pub refused : (x .number ≡ 0 → ⊥) → Silent
+      pub refused : (x .number ≡ 0 → ⊥) → NothingReported
       -- 15 to 17
       pub at-entry : (x .number ≡ 0 → ⊥) → (x .number ≡ 18 → ⊥) → Unchanged
-      pub in-depth-1 : x .number ≡ 18 → Spent
+      pub in-depth-1 : x .number ≡ 18 → SpentInDepth1
 
 -- ---- the endgame analysis
 -- a side has a line of boards
@@ -125,18 +125,18 @@ analysing g = (not (in-play (g .«game_state») && unsound g), 14) ∷ []
 -- the full set and no counts
 pub record Unanswered (a : Analysis) : Type 0 where
   pub full : a .proven ≡ status-of unproven
-  pub none-counted : stats-of (a .stats) ≡ no-counts
+  pub none-counted : endgame-stats-of (a .stats) ≡ no-counts
 
 pub record Analysing (g : Game) (a : Analysis) : Type 0 where
-  pub number : made-number (a .made) ≡ first-failed (analysing g)
-  pub refused : (made-number (a .made) ≡ 0 → ⊥) → Unanswered a
-  pub finished-number : T (not (in-play (g .«game_state»))) → made-number (a .made) ≡ 0
+  pub number : analysis-number (a .answer) ≡ first-failed (analysing g)
+  pub refused : (analysis-number (a .answer) ≡ 0 → ⊥) → Unanswered a
+  pub finished-number : T (not (in-play (g .«game_state»))) → analysis-number (a .answer) ≡ 0
   pub finished : T (not (in-play (g .«game_state»))) → Unanswered a
 
 -- a move's status: 14 first, then what playing refuses
-pub record Judging (g : Game) (m : Move) (r : MoveStatus) : Type 0 where
-  pub number : judging-number (r .answer) ≡ first-failed (analysing g ++ checks (position-of g) (board-of (m .bits)) (cell-of (m .bits)))
-  pub refused : (judging-number (r .answer) ≡ 0 → ⊥) → r .status ≡ status-of unproven
+pub record JudgingMove (g : Game) (m : Move) (r : MoveStatus) : Type 0 where
+  pub number : move-status-number (r .answer) ≡ first-failed (analysing g ++ checks (position-of g) (board-of (m .bits)) (cell-of (m .bits)))
+  pub refused : (move-status-number (r .answer) ≡ 0 → ⊥) → r .status ≡ status-of unproven
 
 -- ---- looking at a cell or a board, and building a move
 pub record LookingCell (b c : ℕ) (r : CellAnswer) : Type 0 where
@@ -244,12 +244,12 @@ pub record AskingLine (line : List ℕ) : Type 0 where
 pub record Demand1 : Type 0 where
   pub position-text : (text : List ℕ) (r : Parsed) → Parses text r → ReadingPosition text r
   pub move-text : (text : List ℕ) (r : ParsedMove) → Parses-move text r → ReadingMove text r
-  pub play : (g : Game) (m : Move) (r : Made) → Plays g m r → Playing g m r
+  pub play : (g : Game) (m : Move) (r : MoveResult) → Plays g m r → Playing g m r
   pub cell : (g : Game) (b c : ℕ) (r : CellAnswer) → Looks-cell (position-of g) b c r → LookingCell b c r
   pub board : (g : Game) (b : ℕ) (r : StateAnswer) → Looks-state (position-of g) b r → LookingBoard b r
   pub build : (b c : ℕ) (r : Built) → Builds b c r → Building b c r
   pub endgame : (g : Game) (a : Analysis) → Analyses g a → Analysing g a
-  pub move-status : (g : Game) (m : Move) (r : MoveStatus) → Judges g m r → Judging g m r
+  pub move-status : (g : Game) (m : Move) (r : MoveStatus) → Judges g m r → JudgingMove g m r
   -- words and words' are the table's before and after
   pub search : (m : Minimax) (g : Game) (c : Config) (words : List ℕ) (r : Report) (words' : List ℕ) →
       report-of r words' ≡ reported-of m g c words → Searching m g c words (report-of r words')

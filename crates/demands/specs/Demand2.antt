@@ -11,7 +11,7 @@ use Rattle.rules.specs.Evaluation.{Scoring, evaluate}
 use Rattle.rules.specs.Endgame.{analysis, evaluate-move}
 use Rattle.rules.specs.Compare.{bound-depth, open-boards, equivalent}
 use Rattle.theory.specs.Reported.{reported}
-use Rattle.reference.specs.Reference.{game}
+use Rattle.rules_game.specs.RulesGame.{game}
 use Rattle.text.specs.Reading.{reads, read}
 use Rattle.text.specs.Writing.{text-of}
 use Rattle.game.specs.declared.Game.{Game}

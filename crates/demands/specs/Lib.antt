@@ -1,5 +1,5 @@
 pub mod Claims
-pub mod AfterMoves
+pub mod Demand3
 pub mod Demand2
 pub mod Demand1
 pub mod Twelve

@@ -12,7 +12,7 @@ use Rattle.rules.specs.Hash.{zobrist}
 use Rattle.rules.specs.Evaluation.{no-draw-winner, evaluate}
 use Rattle.text.specs.Reading.{Reading, reads, refuses, read}
 use Rattle.text.specs.MoveText.{reads-move, move-refusal, read-move}
-use Rattle.line.specs.Answered.{answer-line}
+use Rattle.program_line.specs.Answered.{answer-line}
 
 -- the bytes of a quoted text of ASCII
 unfoldable pub quoted : String → List ℕ

@@ -1,8 +1,8 @@
-pub mod Walk
-pub mod Sets
-pub mod Sound
-pub mod Lacking
-pub mod Critical
-pub mod Attack
-pub mod Statuses
-pub mod Answers
+pub mod PartsLoop
+pub mod PartsSets
+pub mod PartsSound
+pub mod PartsLacking
+pub mod PartsCritical
+pub mod PartsAttack
+pub mod MeansStatuses
+pub mod MeansAnswers

@@ -4,33 +4,33 @@ use mathlib.Core.Bool.{Bool}
 use mathlib.Core.Option.{Option, some}
 use Prim.Native.Nat.{ℕ}
 use Rattle.rules.specs.Status.{Status as Set}
-use Rattle.rules.specs.Endgame.{Stats as Counts, narrow, analysis, evaluate-move}
+use Rattle.rules.specs.Endgame.{EndgameStats as Counts, narrow, analysis, evaluate-move}
 use Rattle.status.specs.declared.Status.{Status}
 use Rattle.status.specs.declared.Read.{Read}
 use Rattle.status.specs.Sets.{status-of, read-of}
 use Rattle.boards.specs.declared.moves.Move.{Move}
-use Rattle.boards.specs.Answers.{error-number}
+use Rattle.boards.specs.Answers.{move-error-number}
 use Rattle.game.specs.declared.Game.{Game}
 use Rattle.game.specs.Meaning.{position-of}
-use Rattle.endgame.specs.declared.Stats.{Stats}
-use Rattle.endgame.specs.declared.Made.{Made}
-use Rattle.endgame.specs.declared.Made.the-variants.{Analysed, Unsound}
+use Rattle.endgame.specs.declared.EndgameStats.{EndgameStats}
+use Rattle.endgame.specs.declared.AnalysisAnswer.{AnalysisAnswer}
+use Rattle.endgame.specs.declared.AnalysisAnswer.the-variants.{Analysed, Unsound}
 use Rattle.endgame.specs.declared.Analysis.{Analysis}
-use Rattle.endgame.specs.declared.Judging.{Judging}
-use Rattle.endgame.specs.declared.Judging.the-variants.{Judged, Refused, Unsound as NotSound}
+use Rattle.endgame.specs.declared.MoveStatusAnswer.{MoveStatusAnswer}
+use Rattle.endgame.specs.declared.MoveStatusAnswer.the-variants.{Judged, Refused, Unsound as NotSound}
 use Rattle.endgame.specs.declared.MoveStatus.{MoveStatus}
 
-abbrev pub made-number : Made → ℕ
-made-number Analysed = 0
-made-number Unsound = 14
+abbrev pub analysis-number : AnalysisAnswer → ℕ
+analysis-number Analysed = 0
+analysis-number Unsound = 14
 
-abbrev pub judging-number : Judging → ℕ
-judging-number Judged = 0
-judging-number (Refused e) = error-number e
-judging-number NotSound = 14
+abbrev pub move-status-number : MoveStatusAnswer → ℕ
+move-status-number Judged = 0
+move-status-number (Refused e) = move-error-number e
+move-status-number NotSound = 14
 
-abbrev pub stats-of : Stats → Counts
-stats-of s = record {
+abbrev pub endgame-stats-of : EndgameStats → Counts
+endgame-stats-of s = record {
   attacker-critical = s .«attacker_critical»;
   defender-critical = s .«defender_critical»;
   both-critical = s .«both_critical»;
@@ -41,17 +41,17 @@ stats-of s = record {
 
 -- what `Analysis::new` gives
 pub record Analyses (g : Game) (r : Analysis) : Type 0 where
-  pub refusal : made-number (r .made) ≡ analysis (position-of g) .refusal
+  pub refusal : analysis-number (r .answer) ≡ analysis (position-of g) .refusal
   pub status : r .proven ≡ status-of (analysis (position-of g) .status)
-  pub stats : stats-of (r .stats) ≡ analysis (position-of g) .stats
+  pub stats : endgame-stats-of (r .stats) ≡ analysis (position-of g) .stats
 
 -- what `evaluate_move` gives
 pub record Judges (g : Game) (m : Move) (r : MoveStatus) : Type 0 where
-  pub number : judging-number (r .answer) ≡ evaluate-move (position-of g) (m .bits) .refusal
+  pub number : move-status-number (r .answer) ≡ evaluate-move (position-of g) (m .bits) .refusal
   pub status : r .status ≡ status-of (evaluate-move (position-of g) (m .bits) .status)
 
 -- what `limited` gives: of a set, or of none, what `narrow` leaves
-pub record Limits (can : Bool) (left : Status) (proven r : Read) : Type 0 where
+pub record Narrows (can : Bool) (left : Status) (proven r : Read) : Type 0 where
   pub narrowed : (t : Set) (s : Option Set) → left ≡ status-of t → proven ≡ read-of s → r ≡ read-of (narrow can t s)
 
 -- the sets are not in conflict: one is left

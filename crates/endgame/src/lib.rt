@@ -9,16 +9,16 @@ ghost use lib.Dec.{T, eqb};
 ghost use Rattle.base.specs.Bits.{bit, digits};
 ghost use Rattle.base.specs.Lists.{any, all};
 ghost use Rattle.rules.specs.Board.{other, nine, lines};
-ghost use Rattle.rules.specs.Position.{going, open-board, free-cell};
+ghost use Rattle.rules.specs.Position.{unfinished, open-board, free-cell};
 ghost use Rattle.rules.specs.Play.{cell-of};
 ghost use Rattle.rules.specs.Sound.{sound};
 ghost use Rattle.rules.specs.Status.{unproven};
-ghost use Rattle.rules.specs.Endgame.{critical, prove-attacker, forced-loss, winnable, proven, combine, no-stats, or-unproven, judge};
+ghost use Rattle.rules.specs.Endgame.{critical, prove-attacker, forced-loss, winnable, proven, combine, no-endgame-stats, or-unproven, judge};
 ghost use Rattle.status.specs.Sets.{status-of};
 ghost use Rattle.game.specs.Meaning.{position-of};
 ghost use Rattle.lines.specs.Masks.{line-at};
 ghost use Rattle.endgame.specs.Parts.{live, lacks-one, critical-by};
-ghost use Rattle.endgame.specs.Means.{made-number, judging-number, stats-of, Analyses, Judges, Limits, Agrees};
+ghost use Rattle.endgame.specs.Means.{analysis-number, move-status-number, endgame-stats-of, Analyses, Judges, Narrows, Agrees};
 use boards::Answer;
 use boards::Move;
 use boards::MoveError;
@@ -31,7 +31,7 @@ use status::Read;
 use status::Status;
 
 // What one analysis found: each 0 or 1, `unwinnable` up to 2.
-pub struct Stats {
+pub struct EndgameStats {
     pub attacker_critical: usize,
     pub defender_critical: usize,
     pub both_critical: usize,
@@ -41,56 +41,56 @@ pub struct Stats {
 }
 
 // Whether an analysis was made.
-pub enum Made {
+pub enum AnalysisAnswer {
     Analysed,
     Unsound,
 }
 
-impl Made {
+impl AnalysisAnswer {
     pub fn number(self) -> u64
-        ensures { λ r. ⌜ r ≡ made-number self ⌝ }
+        ensures { λ r. ⌜ r ≡ analysis-number self ⌝ }
     {
         match self {
-            Made::Analysed => 0,
-            Made::Unsound => 14,
+            AnalysisAnswer::Analysed => 0,
+            AnalysisAnswer::Unsound => 14,
         }
     }
 }
 
 // Not made, or of a finished game: the full set and no counts.
 pub struct Analysis {
-    pub made: Made,
+    pub answer: AnalysisAnswer,
     pub proven: Status,
-    pub stats: Stats,
+    pub stats: EndgameStats,
 }
 
 // Whether a move was judged.
-pub enum Judging {
+pub enum MoveStatusAnswer {
     Judged,
     Refused(MoveError),
     Unsound,
 }
 
-impl Judging {
+impl MoveStatusAnswer {
     pub fn number(self) -> u64
-        ensures { λ r. ⌜ r ≡ judging-number self ⌝ }
+        ensures { λ r. ⌜ r ≡ move-status-number self ⌝ }
     {
         match self {
-            Judging::Judged => 0,
-            Judging::Refused(why) => why.number(),
-            Judging::Unsound => 14,
+            MoveStatusAnswer::Judged => 0,
+            MoveStatusAnswer::Refused(why) => why.number(),
+            MoveStatusAnswer::Unsound => 14,
         }
     }
 }
 
 // What judging a move gives: refused, the full set.
 pub struct MoveStatus {
-    pub answer: Judging,
+    pub answer: MoveStatusAnswer,
     pub status: Status,
 }
 
-impl Stats {
-    pub const NONE: Stats = Stats {
+impl EndgameStats {
+    pub const NONE: EndgameStats = EndgameStats {
         attacker_critical: 0,
         defender_critical: 0,
         both_critical: 0,
@@ -139,7 +139,7 @@ fn is_sound(pos: Game) -> bool
 
 // Unfinished and not sound.
 fn is_unsound(pos: Game) -> bool
-    ensures { λ r. ⌜ r ≡ (going (position-of pos) && not (sound (position-of pos))) ⌝ }
+    ensures { λ r. ⌜ r ≡ (unfinished (position-of pos) && not (sound (position-of pos))) ⌝ }
 {
     if pos.game_over() {
         return false;
@@ -159,13 +159,13 @@ fn count(found: bool) -> usize
     if found { 1 } else { 0 }
 }
 
-fn unanalysed(made: Made) -> Analysis
-    ensures { λ r. ⌜ (r .made ≡ made) × (r .proven ≡ status-of unproven) × (stats-of (r .stats) ≡ no-stats) ⌝ }
+fn unanalysed(answer: AnalysisAnswer) -> Analysis
+    ensures { λ r. ⌜ (r .answer ≡ answer) × (r .proven ≡ status-of unproven) × (endgame-stats-of (r .stats) ≡ no-endgame-stats) ⌝ }
 {
     Analysis {
-        made,
+        answer,
         proven: Status::unproven(),
-        stats: Stats::NONE,
+        stats: EndgameStats::NONE,
     }
 }
 
@@ -174,17 +174,17 @@ impl Analysis {
         ensures { λ r. ⌜ Analyses pos r ⌝ }
     {
         if pos.game_over() {
-            return unanalysed(Made::Analysed);
+            return unanalysed(AnalysisAnswer::Analysed);
         }
         if !is_sound(pos) {
-            return unanalysed(Made::Unsound);
+            return unanalysed(AnalysisAnswer::Unsound);
         }
         Analysis::analysed(pos)
     }
 
     // The analysis of an unfinished sound position.
     fn analysed(pos: Game) -> Analysis
-        requires { ⌜ T (going (position-of pos)) × T (sound (position-of pos)) ⌝ }
+        requires { ⌜ T (unfinished (position-of pos)) × T (sound (position-of pos)) ⌝ }
         ensures { λ r. ⌜ Analyses pos r ⌝ }
     {
         let who = pos.player();
@@ -198,7 +198,7 @@ impl Analysis {
         let x = is_winnable(pos, Player::X);
         let o = is_winnable(pos, Player::O);
         let unwinnable = count(!x) + count(!o);
-        let stats = Stats {
+        let stats = EndgameStats {
             attacker_critical: count(attacker),
             defender_critical: count(defender),
             both_critical: count(both(attacker, defender)),
@@ -207,7 +207,7 @@ impl Analysis {
             prove_defender: count(loses),
         };
         Analysis {
-            made: Made::Analysed,
+            answer: AnalysisAnswer::Analysed,
             proven: combined(who, wins, loses, x, o),
             stats,
         }
@@ -226,7 +226,7 @@ pub fn evaluate_move(pos: Game, m: Move) -> MoveStatus
 {
     if is_unsound(pos) {
         return MoveStatus {
-            answer: Judging::Unsound,
+            answer: MoveStatusAnswer::Unsound,
             status: Status::unproven(),
         };
     }
@@ -234,11 +234,11 @@ pub fn evaluate_move(pos: Game, m: Move) -> MoveStatus
     let answer = tried.answer;
     match answer {
         Answer::Accepted => MoveStatus {
-            answer: Judging::Judged,
+            answer: MoveStatusAnswer::Judged,
             status: move_status(pos, m),
         },
         Answer::Refused(why) => MoveStatus {
-            answer: Judging::Refused(why),
+            answer: MoveStatusAnswer::Refused(why),
             status: Status::unproven(),
         },
     }
@@ -281,7 +281,7 @@ fn proven_of(who: Player, wins: bool, loses: bool) -> Status
 
 // What is left of a set if a side can no longer win.
 fn limited(can: bool, left: Status, proven: Read) -> Read
-    ensures { λ r. ⌜ Limits can left proven r ⌝ }
+    ensures { λ r. ⌜ Narrows can left proven r ⌝ }
 {
     if can {
         return proven;

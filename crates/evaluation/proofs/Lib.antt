@@ -1,5 +1,5 @@
-pub mod Lines
-pub mod Boards
-pub mod Overall
-pub mod Carried
-pub mod Ends
+pub mod ValuesLines
+pub mod ValuesBoards
+pub mod ValuesOverall
+pub mod ValuesAfter
+pub mod ValuesEnds

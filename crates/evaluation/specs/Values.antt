@@ -10,8 +10,8 @@ use Rattle.rules.specs.declared.GameState.the-variants.{InPlay, Drawn, Won}
 use Rattle.base.specs.Branch.{if_then_else_}
 use Rattle.base.specs.Integers.{sum}
 use Rattle.rules.specs.Board.{nine, Line, lines}
-use Rattle.rules.specs.Position.{Position, going, won-boards}
-use Rattle.rules.specs.Evaluation.{Scoring, count, unless-both, board-score, seen-by, evaluate}
+use Rattle.rules.specs.Position.{Position, unfinished, won-boards}
+use Rattle.rules.specs.Evaluation.{Scoring, places-in, unless-both, board-score, seen-by, evaluate}
 
 -- 20 for a board that a side has won, and the score of one in play
 abbrev pub value-in : Position → ℕ → GameState → ℤ
@@ -32,7 +32,7 @@ value-at values i = getD values i (pos 0)
 
 unfoldable pub overall-value : (ℕ → Bool) → (ℕ → Bool) → List ℤ → Line → ℤ
 overall-value xs os values l =
-    unless-both (count xs l) (count os l) (value-at values (l .i) +ℤ (value-at values (l .j) +ℤ value-at values (l .k)))
+    unless-both (places-in xs l) (places-in os l) (value-at values (l .i) +ℤ (value-at values (l .j) +ℤ value-at values (l .k)))
 
 -- as X sees it
 unfoldable pub score-by : Position → List ℤ → ℤ
@@ -40,4 +40,4 @@ score-by p values = sum (overall-value (won-boards p X) (won-boards p O) values)
 
 -- the evaluation, with boards that are said to have these values, which count in play alone
 unfoldable pub evaluate-by : Scoring → Position → List ℤ → ℤ
-evaluate-by sc p values = if going p then (λ _. seen-by (p .turn) (score-by p values)) else λ _. evaluate sc p
+evaluate-by sc p values = if unfinished p then (λ _. seen-by (p .turn) (score-by p values)) else λ _. evaluate sc p

@@ -8,7 +8,7 @@ ghost use lib.ListN.{set};
 ghost use Rattle.base.specs.Bits.{bit};
 ghost use Rattle.base.specs.Integers.{sum};
 ghost use Rattle.rules.specs.Board.{lines, mine};
-ghost use Rattle.rules.specs.Evaluation.{won, count, worth, board-line, seen-by, draw-value, scoring-with, evaluate};
+ghost use Rattle.rules.specs.Evaluation.{won, places-in, worth, board-line, seen-by, draw-value, scoring-with, evaluate};
 ghost use Rattle.boards.specs.Packed.{cell-at};
 ghost use Rattle.game.specs.Meaning.{position-of};
 ghost use Rattle.lines.specs.Masks.{line-at};
@@ -54,7 +54,7 @@ fn drawn(draw_winner: DrawWinner, turn: Player) -> i64
 // What a side's places in line i give, if the other side has none there: nothing for three.
 fn potential(bits: u32, i: usize) -> i64
     requires { ⌜ i < 8 ⌝ }
-    ensures { λ r. ⌜ r ≡ pos (worth (count (bit bits) (line-at i))) ⌝ }
+    ensures { λ r. ⌜ r ≡ pos (worth (places-in (bit bits) (line-at i))) ⌝ }
 {
     let mask = WIN_MASKS[i];
     let places = bits & mask;

@@ -9,11 +9,11 @@ use lib.Bits.{bitXor, xor-comm, xor-zero-l}
 use lib.Dec.{T, T-not}
 use lib.ListN.{length, getD, getD-replicate}
 use Rattle.base.specs.Branch.{if_then_else_}
-use Rattle.base.specs.Change.{put}
+use Rattle.base.specs.Update.{update}
 use Rattle.base.proofs.Branch.{if-ind}
 use Rattle.base.proofs.Bool.{is}
-use Rattle.base.proofs.Change.{put-at}
-use Rattle.base.proofs.Digits.{bit-nought}
+use Rattle.base.proofs.Update.{update-at}
+use Rattle.base.proofs.BitsOperations.{bit-nought}
 use Rattle.rules.specs.declared.Player.{Player}
 use Rattle.rules.specs.declared.CellState.{CellState}
 use Rattle.rules.specs.declared.CellState.the-variants.{Empty}
@@ -33,7 +33,7 @@ use Rattle.boards.specs.declared.states.GlobalStates.{GlobalStates}
 use Rattle.boards.specs.Packed.{no-row, place, cell-at, state-at}
 use Rattle.boards.specs.With.{with-cell, with-state}
 use Rattle.boards.specs.Rows.{row-cell, closing}
-use Rattle.boards.proofs.Cells.{cell-after, state-after}
+use Rattle.boards.proofs.With.{cell-after, state-after}
 use Rattle.boards.proofs.Packed.{cell-in, cell-past-board, cell-past-cell, state-in, state-past}
 use Rattle.game.specs.declared.Game.{Game}
 use Rattle.game.specs.Meaning.{position-of}
@@ -79,11 +79,11 @@ module _ (g : Game) (b c : ℕ) (n : length (g .«local_boards» .rows) ≡ 3) (
   cells-made = cell-after (g .«local_boards») b c w n hb hc f
 
   row-made : cell-at boards b ≡ row p b c
-  row-made = ap (λ (h : ℕ → ℕ → CellState). h b) (cell-after (g .«local_boards») b c w n hb hc f) ∙ put-at (λ (r : ℕ → CellState). r ≡ row p b c) (p .cells) b (row p b c) refl
+  row-made = ap (λ (h : ℕ → ℕ → CellState). h b) (cell-after (g .«local_boards») b c w n hb hc f) ∙ update-at (λ (r : ℕ → CellState). r ≡ row p b c) (p .cells) b (row p b c) refl
 
   made-here : after p b c .states b ≡ made p b c
   unfolding after
-  made-here = put-at (λ (s : GameState). s ≡ made p b c) (p .states) b (made p b c) refl
+  made-here = update-at (λ (s : GameState). s ≡ made p b c) (p .states) b (made p b c) refl
 
   -- the board's state, as it is looked up in the new boards
   pub state-made : result w (λ i. mine w (cell-at boards b i)) (λ i. blank (cell-at boards b i)) ≡ after p b c .states b
@@ -91,7 +91,7 @@ module _ (g : Game) (b c : ℕ) (n : length (g .«local_boards» .rows) ≡ 3) (
 
   states-made : state-at states ≡ after p b c .states
   unfolding after
-  states-made = state-after (g .«global_states») b (after p b c .states b) hb o ∙ ap (put (p .states) b) made-here
+  states-made = state-after (g .«global_states») b (after p b c .states b) hb o ∙ ap (update (p .states) b) made-here
 
   pub game-made : result w (λ i. won-by w (state-at states i)) (λ i. in-play (state-at states i)) ≡ after p b c .state
   unfolding after
@@ -102,7 +102,7 @@ module _ (g : Game) (b c : ℕ) (n : length (g .«local_boards» .rows) ≡ 3) (
   unfolding after-move
   after-move-means = λ i. record {
     turn = after p b c .turn;
-    due = after p b c .due;
+    next-board = after p b c .next-board;
     cells = cells-made i;
     states = states-made i;
     state = after p b c .state;
@@ -124,7 +124,7 @@ module _ (g : Game) (b c : ℕ) (n : length (g .«local_boards» .rows) ≡ 3) (
     states-are : ss ≡ states
     states-are = e-states ∙ ap (with-state (g .«global_states») b) state-is
 
-    next-is : next ≡ after p b c .due
+    next-is : next ≡ after p b c .next-board
     unfolding after
     next-is = e-next ∙ ap (λ (f : ℕ → GameState). if in-play (f c) then (λ _. Only c) else λ _. Any) (ap state-at states-are ∙ states-made)
 

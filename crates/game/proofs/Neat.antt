@@ -14,8 +14,8 @@ use Rattle.base.specs.Bits.{bit, digits}
 use Rattle.base.specs.Lists.{all}
 use Rattle.base.proofs.Bool.{and→, →and, is}
 use Rattle.base.proofs.Branch.{if-ind}
-use Rattle.base.proofs.Digits.{bit-and, bit-nought}
-use Rattle.base.proofs.Numbers.{bit-ext, bit-ext-below, digits-lt, bit-digits, is-digits, unmarked}
+use Rattle.base.proofs.BitsOperations.{bit-and, bit-nought}
+use Rattle.base.proofs.Bits.{bit-ext, bit-ext-below, digits-lt, bit-digits, is-digits, unmarked}
 use Rattle.rules.specs.declared.Player.{Player}
 use Rattle.rules.specs.declared.Player.the-variants.{X, O}
 use Rattle.rules.specs.declared.CellState.{CellState}
@@ -30,18 +30,18 @@ use Rattle.rules.proofs.Play.{same-position, Legal, accepts→}
 use Rattle.boards.specs.declared.local.Row.{Row}
 use Rattle.boards.specs.declared.local.LocalBoards.{LocalBoards}
 use Rattle.boards.specs.declared.states.GlobalStates.{GlobalStates}
-use Rattle.boards.specs.Packed.{cell-from, no-row, row-of, place, cell-at, state-from, state-at}
+use Rattle.boards.specs.Packed.{cell-of-bits, no-row, row-of, place, cell-at, state-of-bits, state-at}
 use Rattle.boards.specs.Rows.{row-cell}
 use Rattle.boards.specs.With.{row-with, with-cell, state-with, with-state}
 use Rattle.boards.proofs.Packed.{cell-in, cell-past-board, cell-past-cell, state-in, state-past}
-use Rattle.boards.proofs.Cells.{no-x}
+use Rattle.boards.proofs.With.{no-x}
 use Rattle.game.specs.declared.Game.{Game}
 use Rattle.game.specs.Meaning.{position-of}
 use Rattle.game.specs.After.{after-move, game-after}
 use Rattle.game.specs.Built.{new-game, recalculated}
 use Rattle.game.specs.Neat.{neat-row, neat-next, neat, row-bits, state-bits, row-for, game-of}
 use Rattle.game.proofs.Meaning.{game-accepted, game-refused}
-use Rattle.game.proofs.Rows.{place-cell}
+use Rattle.game.proofs.MeaningRows.{place-cell}
 
 -- ---- the parts of the test
 pub record Neat (g : Game) : Type 0 where
@@ -94,7 +94,7 @@ row→ r t =
     →and (ltb (r .x) (2 ^ 27)) _ (lt→ltb _ _ (n .xs))
     (→and (ltb (r .o) (2 ^ 27)) _ (lt→ltb _ _ (n .os)) (rw (bit-ext (bitAnd (r .x) (r .o)) 0 (λ k. bit-and (r .x) (r .o) k ∙ n .apart k ∙ sym (bit-nought k))) tt))
 
-none-o : (p q : Bool) → T (blank (cell-from p q)) → q ≡ false
+none-o : (p q : Bool) → T (blank (cell-of-bits p q)) → q ≡ false
 none-o false false t = refl
 none-o false true t = absurd t
 none-o true q t = absurd t
@@ -169,24 +169,24 @@ game-after-neat g m t = elim (is (accepts (position-of g) m)) [
 ]
 
 -- ---- a neat game is fixed by its position and its hash
-one-x : (p q : Bool) → mine X (cell-from p q) ≡ p
+one-x : (p q : Bool) → mine X (cell-of-bits p q) ≡ p
 one-x true q = refl
 one-x false true = refl
 one-x false false = refl
 
-one-o : (p q : Bool) → (p && q) ≡ false → mine O (cell-from p q) ≡ q
+one-o : (p q : Bool) → (p && q) ≡ false → mine O (cell-of-bits p q) ≡ q
 one-o true true e = sym e
 one-o true false e = refl
 one-o false true e = refl
 one-o false false e = refl
 
-state-x : (p q : Bool) → (won-by X (state-from p q) || drawn (state-from p q)) ≡ p
+state-x : (p q : Bool) → (won-by X (state-of-bits p q) || drawn (state-of-bits p q)) ≡ p
 state-x true true = refl
 state-x true false = refl
 state-x false true = refl
 state-x false false = refl
 
-state-o : (p q : Bool) → (won-by O (state-from p q) || drawn (state-from p q)) ≡ q
+state-o : (p q : Bool) → (won-by O (state-of-bits p q) || drawn (state-of-bits p q)) ≡ q
 state-o true true = refl
 state-o true false = refl
 state-o false true = refl
@@ -266,7 +266,7 @@ module _ (p : Position) (h : ℕ) where
       (λ k i. bit-and (digits (f X) 27) (digits (f O) 27) k ∙ ap₂ _&&_ (bit-digits (f X) 27 k i) (bit-digits (f O) 27 k i) ∙ one-mine (p .cells (3 * r + k / 9) (k % 9)) ∙ sym (bit-nought k))) tt))
 
   -- if a due board is one of the nine
-  pub game-of-neat : T (neat-next (p .due)) → T (neat (game-of p h))
+  pub game-of-neat : T (neat-next (p .next-board)) → T (neat (game-of p h))
   unfolding all state-bits
   game-of-neat d = →neat (game-of p h) (record {
     next = d;
@@ -282,12 +282,12 @@ pub record Nine (p : Position) : Type 0 where
   pub cell-past : (b c : ℕ) → 9 ≤ c → p .cells b c ≡ Empty
   pub state-past : (b : ℕ) → 9 ≤ b → p .states b ≡ InPlay
 
-whole-cell : (s : CellState) → cell-from (mine X s) (mine O s) ≡ s
+whole-cell : (s : CellState) → cell-of-bits (mine X s) (mine O s) ≡ s
 whole-cell Empty = refl
 whole-cell (Played X) = refl
 whole-cell (Played O) = refl
 
-whole-state : (s : GameState) → state-from (won-by X s || drawn s) (won-by O s || drawn s) ≡ s
+whole-state : (s : GameState) → state-of-bits (won-by X s || drawn s) (won-by O s || drawn s) ≡ s
 whole-state InPlay = refl
 whole-state Drawn = refl
 whole-state (Won X) = refl
@@ -318,12 +318,12 @@ module _ (p : Position) (h : ℕ) (n : Nine p) where
   cell-again b c (yes i) (no q) = cell-past-cell boards b c (omega (arith, q)) ∙ sym (n .cell-past b c (omega (arith, q)))
   cell-again b c (yes i) (yes j) =
       cell-in boards b c i j ∙ ap (λ (r : Row). row-cell r (place b c)) (row-here (b / 3) (omega arith))
-      ∙ ap₂ cell-from (digit X b c i j) (digit O b c i j) ∙ whole-cell (p .cells b c)
+      ∙ ap₂ cell-of-bits (digit X b c i j) (digit O b c i j) ∙ whole-cell (p .cells b c)
 
   state-again : (b : ℕ) → Dec (b < 9) → state-at states b ≡ p .states b
   unfolding state-bits
   state-again b (no q) = Rattle.boards.proofs.Packed.state-past states b (omega (arith, q)) ∙ sym (n .state-past b (omega (arith, q)))
-  state-again b (yes i) = state-in states b i ∙ ap₂ state-from (bit-digits _ 9 b i) (bit-digits _ 9 b i) ∙ whole-state (p .states b)
+  state-again b (yes i) = state-in states b i ∙ ap₂ state-of-bits (bit-digits _ 9 b i) (bit-digits _ 9 b i) ∙ whole-state (p .states b)
 
   pub game-of-means : position-of (game-of p h) ≡ p
   game-of-means = same-position (position-of (game-of p h)) p refl refl

@@ -9,7 +9,7 @@ use Rattle.boards.specs.declared.moves.Move.{Move}
 use Rattle.boards.specs.With.{with-cell, with-state}
 use Rattle.boards.specs.Answers.{answer-number}
 use Rattle.game.specs.declared.Game.{Game}
-use Rattle.game.specs.declared.Made.{Made}
+use Rattle.game.specs.declared.MoveResult.{MoveResult}
 use Rattle.game.specs.Meaning.{position-of}
 
 -- the game after an accepted move in cell c of board b
@@ -18,7 +18,7 @@ after-move g b c =
     let q = after (position-of g) b c in
     record {
       «next_player» = q .turn;
-      «next_board» = q .due;
+      «next_board» = q .next-board;
       «local_boards» = with-cell (g .«local_boards») b c (g .«next_player»);
       «global_states» = with-state (g .«global_states») b (q .states b);
       «game_state» = q .state;
@@ -39,7 +39,7 @@ refusal (played q) = 0
 refusal (refused n) = n
 
 -- what `make_move` gives: the refusal's number, the struct, and the rules' position
-pub record Plays (g : Game) (m : Move) (r : Made) : Type 0 where
+pub record Plays (g : Game) (m : Move) (r : MoveResult) : Type 0 where
   pub number : answer-number (r .answer) ≡ refusal (play (position-of g) (m .bits))
   pub exact : r .game ≡ game-after g (m .bits)
   pub position : position-of (r .game) ≡ tried (position-of g) (m .bits)

@@ -6,7 +6,7 @@ use Rattle.game.specs.declared.Game.{Game}
 abbrev pub position-of : Game → Position
 position-of g = record {
   turn = g .«next_player»;
-  due = g .«next_board»;
+  next-board = g .«next_board»;
   cells = cell-at (g .«local_boards»);
   states = state-at (g .«global_states»);
   state = g .«game_state»;

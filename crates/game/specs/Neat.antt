@@ -45,7 +45,7 @@ row-for p r = record { x = row-bits p X r; o = row-bits p O r }
 abbrev pub game-of : Position → ℕ → Game
 game-of p h = record {
   «next_player» = p .turn;
-  «next_board» = p .due;
+  «next_board» = p .next-board;
   «local_boards» = record { rows = row-for p 0 ∷ row-for p 1 ∷ row-for p 2 ∷ [] };
   «global_states» = record { x = state-bits p X; o = state-bits p O };
   «game_state» = p .state;

@@ -8,7 +8,7 @@ ghost use lib.Dec.{T};
 ghost use lib.ListN.{length};
 ghost use Rattle.base.specs.Bits.{digits};
 ghost use Rattle.rules.specs.Board.{same-state};
-ghost use Rattle.rules.specs.Position.{going, open-board, free-cell};
+ghost use Rattle.rules.specs.Position.{unfinished, open-board, free-cell};
 ghost use Rattle.rules.specs.Play.{may, play};
 ghost use Rattle.rules.specs.Moves.{moves};
 ghost use Rattle.rules.specs.Compare.{bound-depth, open-boards, equivalent};
@@ -40,7 +40,7 @@ pub struct Game {
 }
 
 // What playing a move gives: refused, the game is the old one.
-pub struct Made {
+pub struct MoveResult {
     pub game: Game,
     pub answer: Answer,
 }
@@ -154,19 +154,19 @@ impl Game {
     }
 
     // Plays a move, or refuses it and returns the old game.
-    pub fn make_move(self, m: Move) -> Made
+    pub fn make_move(self, m: Move) -> MoveResult
         ensures { λ r. ⌜ Plays self m r ⌝ }
     {
         let answer = self.check_move(m);
         match answer {
             Answer::Accepted => {
                 let game = self.play(m.global(), m.local());
-                Made {
+                MoveResult {
                     game,
                     answer: Answer::Accepted,
                 }
             }
-            Answer::Refused(why) => Made {
+            Answer::Refused(why) => MoveResult {
                 game: self,
                 answer: Answer::Refused(why),
             },
@@ -237,7 +237,7 @@ impl Game {
 
     // The boards in which a move may be played: none of a finished game.
     fn playable(self) -> u32
-        ensures { λ r. ⌜ r ≡ digits (λ b. going (position-of self) && (open-board (position-of self) b && may (position-of self .due) b)) 9 ⌝ }
+        ensures { λ r. ⌜ r ≡ digits (λ b. unfinished (position-of self) && (open-board (position-of self) b && may (position-of self .next-board) b)) 9 ⌝ }
     {
         let state = self.game_state;
         if state.terminal() {
@@ -280,7 +280,7 @@ impl Game {
     }
 
     pub fn game_over(self) -> bool
-        ensures { λ r. ⌜ r ≡ not (going (position-of self)) ⌝ }
+        ensures { λ r. ⌜ r ≡ not (unfinished (position-of self)) ⌝ }
     {
         let state = self.game_state;
         state.terminal()

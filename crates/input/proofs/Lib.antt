@@ -1,2 +1,2 @@
-pub mod Taking
-pub mod Whole
+pub mod Lines
+pub mod LinesWhole

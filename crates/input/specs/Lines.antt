@@ -6,34 +6,34 @@ use Prim.Native.Nat.{ℕ, _+_}
 use lib.Dec.{eqb, leb, ltb}
 use lib.ListN.{length, set, take, drop}
 use Rattle.base.specs.Branch.{if_then_else_}
-use Rattle.input.specs.declared.Line.{Line}
+use Rattle.input.specs.declared.InputLine.{InputLine}
 use Rattle.input.specs.declared.Input.{Input}
 
-abbrev pub new-line : Line
+abbrev pub new-line : InputLine
 new-line = record { length = 0 }
 
 -- one more, but for the largest number
-unfoldable pub one-more : ℕ → ℕ
-one-more n = if ltb n 0xffffffffffffffff then (λ _. n + 1) else λ _. n
+unfoldable pub count-on : ℕ → ℕ
+count-on n = if ltb n 0xffffffffffffffff then (λ _. n + 1) else λ _. n
 
 -- a line with one byte more
-abbrev pub longer : Line → Line
-longer l = record { length = one-more (l .length) }
+abbrev pub with-byte : InputLine → InputLine
+with-byte l = record { length = count-on (l .length) }
 
 -- the line, or nothing if it is longer than what is kept
-unfoldable pub whole : Line → List ℕ → List ℕ
-whole l kept = if leb (l .length) (length kept) then (λ _. take (l .length) kept) else λ _. []
+unfoldable pub complete-line : InputLine → List ℕ → List ℕ
+complete-line l kept = if leb (l .length) (length kept) then (λ _. take (l .length) kept) else λ _. []
 
 -- what bytes make of a line and of what is kept of it, the bytes left after a line feed, and whether one was met
-pub record Taken : Type 0 where
-  pub line : Line
+pub record LineTaken : Type 0 where
+  pub line : InputLine
   pub kept : List ℕ
   pub left : List ℕ
   pub found : Bool
 
-unfoldable pub taken : Line → List ℕ → List ℕ → Taken
-taken l kept [] = record { line = l; kept = kept; left = []; found = false }
-taken l kept (b ∷ bs) = if eqb b 0x0a then (λ _. record { line = l; kept = kept; left = bs; found = true }) else λ _. taken (longer l) (set kept (l .length) b) bs
+unfoldable pub line-taken : InputLine → List ℕ → List ℕ → LineTaken
+line-taken l kept [] = record { line = l; kept = kept; left = []; found = false }
+line-taken l kept (b ∷ bs) = if eqb b 0x0a then (λ _. record { line = l; kept = kept; left = bs; found = true }) else λ _. line-taken (with-byte l) (set kept (l .length) b) bs
 
 -- the bytes that are not yet used
 abbrev pub unused : Input → List ℕ → List ℕ
@@ -43,18 +43,18 @@ abbrev pub ended : Input → Bool
 ended i = not (i .found) && eqb (i .line .length) 0
 
 -- the input after a line was taken from it, in an unchanged buffer
-pub record Takes (i : Input) (buffer kept : List ℕ) (r : Input) (after : List ℕ) : Type 0 where
+pub record TakesLine (i : Input) (buffer kept : List ℕ) (r : Input) (after : List ℕ) : Type 0 where
   pub end-is : r .end ≡ i .end
-  pub line-is : r .line ≡ taken (i .line) kept (unused i buffer) .line
-  pub found-is : r .found ≡ taken (i .line) kept (unused i buffer) .found
-  pub kept-is : after ≡ taken (i .line) kept (unused i buffer) .kept
-  pub left-is : unused r buffer ≡ taken (i .line) kept (unused i buffer) .left
-  pub at-is : r .at + length (taken (i .line) kept (unused i buffer) .left) ≡ i .at + length (unused i buffer)
+  pub line-is : r .line ≡ line-taken (i .line) kept (unused i buffer) .line
+  pub found-is : r .found ≡ line-taken (i .line) kept (unused i buffer) .found
+  pub kept-is : after ≡ line-taken (i .line) kept (unused i buffer) .kept
+  pub left-is : unused r buffer ≡ line-taken (i .line) kept (unused i buffer) .left
+  pub at-is : r .at + length (line-taken (i .line) kept (unused i buffer) .left) ≡ i .at + length (unused i buffer)
 
 -- the next line: the bytes that were not yet used, and then some that were read
-pub record Reads (i : Input) (buffer kept : List ℕ) (r : Input) (buffer-after after : List ℕ) : Type 0 where
+pub record ReadsLine (i : Input) (buffer kept : List ℕ) (r : Input) (buffer-after after : List ℕ) : Type 0 where
   pub came : List ℕ
-  pub line-is : r .line ≡ taken new-line kept (unused i buffer ++ came) .line
-  pub found-is : r .found ≡ taken new-line kept (unused i buffer ++ came) .found
-  pub kept-is : after ≡ taken new-line kept (unused i buffer ++ came) .kept
-  pub left-is : unused r buffer-after ≡ taken new-line kept (unused i buffer ++ came) .left
+  pub line-is : r .line ≡ line-taken new-line kept (unused i buffer ++ came) .line
+  pub found-is : r .found ≡ line-taken new-line kept (unused i buffer ++ came) .found
+  pub kept-is : after ≡ line-taken new-line kept (unused i buffer ++ came) .kept
+  pub left-is : unused r buffer-after ≡ line-taken new-line kept (unused i buffer ++ came) .left

@@ -4,13 +4,13 @@ ghost use mathlib.Core.Bool.{false};
 ghost use Prim.Native.Nat.{min};
 ghost use lib.ListN.{length, set};
 ghost use Rattle.io.specs.Counts.{Counts};
-ghost use Rattle.input.specs.Lines.{new-line, longer, one-more, whole, ended, Takes, Reads};
+ghost use Rattle.input.specs.Lines.{new-line, with-byte, count-on, complete-line, ended, TakesLine, ReadsLine};
 use libc::STDIN_FILENO;
 
 const LONGEST: usize = 18446744073709551615;
 
 // A line as far as it came: its length.
-pub struct Line {
+pub struct InputLine {
     pub length: usize,
 }
 
@@ -18,13 +18,13 @@ pub struct Line {
 pub struct Input {
     pub at: usize,
     pub end: usize,
-    pub line: Line,
+    pub line: InputLine,
     pub found: bool,
 }
 
 // One more, but for the largest number.
 pub fn one_more(n: usize) -> usize
-    ensures { λ r. ⌜ r ≡ one-more n ⌝ }
+    ensures { λ r. ⌜ r ≡ count-on n ⌝ }
 {
     if n < LONGEST { n + 1 } else { n }
 }
@@ -35,15 +35,15 @@ fn least(a: usize, b: usize) -> usize
     if a < b { a } else { b }
 }
 
-impl Line {
-    pub const NEW: Line = Line { length: 0 };
+impl InputLine {
+    pub const NEW: InputLine = InputLine { length: 0 };
 
     // One byte more. It is kept if there is room.
-    pub fn push(self, b: u8, kept: &mut [u8]) -> Line
-        ensures { λ r. ⌜ (r ≡ longer self) × (now (kept .exit) ≡ set (now (kept .entry)) (self .length) b) ⌝ }
+    pub fn push(self, b: u8, kept: &mut [u8]) -> InputLine
+        ensures { λ r. ⌜ (r ≡ with-byte self) × (now (kept .exit) ≡ set (now (kept .entry)) (self .length) b) ⌝ }
     {
         let at = self.length;
-        let longer = Line {
+        let longer = InputLine {
             length: one_more(at),
         };
         if at < kept.len() {
@@ -55,7 +55,7 @@ impl Line {
 
     // The line, or nothing if not all of it was kept.
     pub fn whole(self, kept: &[u8]) -> &[u8]
-        ensures { λ r. ⌜ now r ≡ whole self (now (kept .entry)) ⌝ }
+        ensures { λ r. ⌜ now r ≡ complete-line self (now (kept .entry)) ⌝ }
     {
         let n = self.length;
         if n <= kept.len() {
@@ -77,7 +77,7 @@ impl Input {
     pub const NEW: Input = Input {
         at: 0,
         end: 0,
-        line: Line::NEW,
+        line: InputLine::NEW,
         found: false,
     };
 
@@ -91,7 +91,7 @@ impl Input {
 
     // Takes the buffer's bytes up to the line's end, or all.
     pub fn take(self, buffer: &[u8], kept: &mut [u8]) -> Input
-        ensures { λ r. ⌜ Takes self (now (buffer .entry)) (now (kept .entry)) r (now (kept .exit)) ⌝ }
+        ensures { λ r. ⌜ TakesLine self (now (buffer .entry)) (now (kept .entry)) r (now (kept .exit)) ⌝ }
     {
         let end = self.end;
         let stop = least(end, buffer.len());
@@ -138,14 +138,14 @@ impl Input {
         Input {
             at: self.at,
             end: self.end,
-            line: Line::NEW,
+            line: InputLine::NEW,
             found: false,
         }
     }
 
     // The next line: reads until its end is met or the input ends.
     pub fn next_line(self, buffer: &mut [u8], kept: &mut [u8]) -> Input
-        ensures { λ r. ⌜ Reads self (now (buffer .entry)) (now (kept .entry)) r (now (buffer .exit)) (now (kept .exit)) ⌝ }
+        ensures { λ r. ⌜ ReadsLine self (now (buffer .entry)) (now (kept .entry)) r (now (buffer .exit)) (now (kept .exit)) ⌝ }
     {
         let mut input = self.begun();
         let mut turns = u64::MAX;

@@ -28,24 +28,24 @@ use Rattle.notation.specs.declared.ParseAnswer.the-variants.{Accepted, Refused}
 use Rattle.notation.specs.declared.Parsed.{Parsed}
 use Rattle.notation.specs.Parsed.{parse-number, reading-of, game-for, Parses}
 use Rattle.endgame.specs.declared.Analysis.{Analysis}
-use Rattle.endgame.specs.Means.{made-number, Analyses}
+use Rattle.endgame.specs.Means.{analysis-number, Analyses}
 use Rattle.minimax.specs.declared.Minimax.{Minimax}
 use Rattle.minimax.specs.declared.Report.{Report}
 use Rattle.minimax.specs.Structs.{structs}
 use Rattle.minimax.specs.State.{responses-of}
 use Rattle.minimax.specs.Report.{ending-number, report-of, reported-of}
-use Rattle.out.specs.declared.Out.{Out}
-use Rattle.line.specs.Answered.{answer-line, asked-text}
-use Rattle.held.specs.HeldLine.{new-held, pushed-all, held-asks}
-use Rattle.out.specs.OutBytes.{out-of}
+use Rattle.answer_text.specs.declared.AnswerText.{AnswerText}
+use Rattle.program_line.specs.Answered.{answer-line, asked-text}
+use Rattle.line_buffer.specs.Buffer.{new-buffer, pushed-all, buffer-asks}
+use Rattle.answer_text.specs.AnswerBytes.{text-of-bytes}
 use Rattle.text.proofs.Padded.{length-padded}
-use Rattle.line.proofs.Answered.{line-is-answered}
-use Rattle.held.specs.declared.Held.{Held}
+use Rattle.program_line.proofs.Answered.{line-is-answered}
+use Rattle.line_buffer.specs.declared.LineBuffer.{LineBuffer}
 use Rattle.interface.specs.Lent.{Puts}
 use Rattle.interface.specs.Position.{words-of, game-from, is-position}
-use Rattle.interface.specs.Calls.{Answers, Begins, read-number, read-place, Reads, Renders, answers-to, PlaysAll, draws-from, scoring-from, responses-from, responses-bytes, report-words, found, Analyzes}
-use Rattle.interface.proofs.Places.{left-written, left-kept, returned-bad, returned-well}
-use Rattle.interface.proofs.TriedMoves.{answers-length}
+use Rattle.interface.specs.Calls.{Answers, Starts, reading-number, read-place, ReadsPosition, Renders, answers-each, PlaysAll, draws-from, scoring-from, responses-from, responses-bytes, report-words, found, Analyzes}
+use Rattle.interface.proofs.LentPlaces.{left-written, left-kept, returned-bad, returned-well}
+use Rattle.interface.proofs.CallsPlay.{answers-length}
 
 -- ---- tests joined
 both : (a b : Bool) → a ≡ true → b ≡ true → (a && b) ≡ true
@@ -58,15 +58,15 @@ later-no : (a b : Bool) → a ≡ true → b ≡ false → (a && b) ≡ false
 later-no a b p q = ap (λ (x : Bool). x && b) p ∙ q
 
 -- ---- answer
-module _ (line : List ℕ) (o : Out) (h : Held) (held : h ≡ pushed-all new-held line) (o-is : o ≡ out-of (asked-text (held-asks h)))
+module _ (line : List ℕ) (o : AnswerText) (h : LineBuffer) (held : h ≡ pushed-all new-buffer line) (o-is : o ≡ text-of-bytes (asked-text (buffer-asks h)))
     (n : ℕ) (n-is : n ≡ min (o .len) 224) where
   answered : take n (o .bytes) ≡ answer-line line
   answered =
       ap (λ (k : ℕ). take k (o .bytes)) n-is
-      ∙ line-is-answered line o (o-is ∙ ap (λ (k : Held). out-of (asked-text (held-asks k))) held) .written-is
+      ∙ line-is-answered line o (o-is ∙ ap (λ (k : LineBuffer). text-of-bytes (asked-text (buffer-asks k))) held) .written-is
 
   pub room : n ≤ length (o .bytes)
-  room = omega (arith, ap (λ (k : Out). length (k .bytes)) o-is ∙ length-padded 224 (asked-text (held-asks h)))
+  room = omega (arith, ap (λ (k : AnswerText). length (k .bytes)) o-is ∙ length-padded 224 (asked-text (buffer-asks h)))
 
   pub taken-length : n ≡ length (take n (o .bytes))
   taken-length = let r : n ≤ length (o .bytes) = room in simp length-take (omega arith)
@@ -89,10 +89,10 @@ module _ (line : List ℕ) (o : Out) (h : Held) (held : h ≡ pushed-all new-hel
   }
 
 -- ---- new
-pub begins-short : (p : List ℕ) → length p < 12 → Begins p p 255
+pub begins-short : (p : List ℕ) → length p < 12 → Starts p p 255
 begins-short p h = record { returns = returned-bad 0 _ (lt-leb 12 (length p) h); position-is = left-kept (words-of new-game) p _ (lt-leb 12 (length p) h) }
 
-pub begins-well : (p m : List ℕ) (g : Game) → 12 ≤ length p → g ≡ new-game → Puts p (words-of g) 12 m → Begins p m 0
+pub begins-well : (p m : List ℕ) (g : Game) → 12 ≤ length p → g ≡ new-game → Puts p (words-of g) 12 m → Starts p m 0
 begins-well p m g h e q = record {
   returns = returned-well 0 0 _ (le-leb 12 (length p) h) refl;
   position-is = left-written (words-of new-game) p m _ (le-leb 12 (length p) h) h (q .stored ∙ ap (λ (k : Game). sets p 0 (words-of k)) e);
@@ -104,27 +104,27 @@ place-length (reads p) = refl
 place-length (refuses n offset size) = refl
 
 -- the number in the answer's code is the reading's
-answer-reads : (a : ParseAnswer) (g : Game) → parse-number a ≡ read-number (reading-of a g)
+answer-reads : (a : ParseAnswer) (g : Game) → parse-number a ≡ reading-number (reading-of a g)
 answer-reads Accepted g = refl
 answer-reads (Refused e) g = refl
 
 module _ (text p q : List ℕ) where
-  reads-wrongly : (leb 12 (length p) && leb 2 (length q)) ≡ false → Reads text p q p q 255
+  reads-wrongly : (leb 12 (length p) && leb 2 (length q)) ≡ false → ReadsPosition text p q p q 255
   reads-wrongly bad = record { returns = returned-bad _ _ bad; position-is = left-kept _ p _ bad; place-is = left-kept _ q _ bad }
 
-  pub reads-short : length p < 12 → Reads text p q p q 255
+  pub reads-short : length p < 12 → ReadsPosition text p q p q 255
   reads-short h = reads-wrongly (first-no _ _ (lt-leb 12 (length p) h))
 
-  pub reads-no-place : 12 ≤ length p → length q < 2 → Reads text p q p q 255
+  pub reads-no-place : 12 ≤ length p → length q < 2 → ReadsPosition text p q p q 255
   reads-no-place h k = reads-wrongly (later-no _ _ (le-leb 12 (length p) h) (lt-leb 2 (length q) k))
 
   pub reads-well : (r : Parsed) (p-after q-after : List ℕ) (n : ℕ) → Parses text r → 12 ≤ length p → 2 ≤ length q
       → Puts p (words-of (r .game)) 12 p-after → q-after ≡ sets q 0 (read-place (reading-of (r .answer) (r .game)))
-      → n ≡ parse-number (r .answer) → Reads text p q p-after q-after n
+      → n ≡ parse-number (r .answer) → ReadsPosition text p q p-after q-after n
   reads-well r p-after q-after n is h k e f g =
       let ok = both _ _ (le-leb 12 (length p) h) (le-leb 2 (length q) k) in
       record {
-        returns = returned-well n (read-number (read text)) _ ok (g ∙ answer-reads (r .answer) (r .game) ∙ ap read-number (is .says));
+        returns = returned-well n (reading-number (read text)) _ ok (g ∙ answer-reads (r .answer) (r .game) ∙ ap reading-number (is .says));
         position-is =
             left-written (words-of (game-for (read text))) p p-after _ ok
             (omega (arith, sym (ap (λ (x : Game). length (words-of x)) (is .game-is)) ∙ e .many)) (e .stored ∙ ap (λ (x : Game). sets p 0 (words-of x)) (is .game-is));
@@ -166,7 +166,7 @@ module _ (p ms answers : List ℕ) where
   plays-short e h = plays-wrongly (later-no _ _ e (lt-leb (length ms) (length answers) h))
 
   pub plays-well : (g after : Game) (p-after answers-after : List ℕ) → is-position p ≡ true → length ms ≤ length answers → 12 ≤ length p
-      → g ≡ game-from p → after ≡ games-after g ms → answers-after ≡ sets answers 0 (answers-to g ms) → Puts p (words-of after) 12 p-after
+      → g ≡ game-from p → after ≡ games-after g ms → answers-after ≡ sets answers 0 (answers-each g ms) → Puts p (words-of after) 12 p-after
       → PlaysAll p ms answers p-after answers-after 0
   plays-well g after p-after answers-after e h k q s w x =
       let ok = both _ _ e (le-leb (length ms) (length answers) h) in
@@ -177,8 +177,8 @@ module _ (p ms answers : List ℕ) where
             left-written (words-of (games-after (game-from p) ms)) p p-after _ ok
             (omega (arith, sym (ap (λ (y : Game). length (words-of y)) t) ∙ x .many)) (x .stored ∙ ap (λ (y : Game). sets p 0 (words-of y)) t);
         answers-is =
-            left-written (answers-to (game-from p) ms) answers answers-after _ ok
-            (omega (arith, answers-length (game-from p) ms)) (w ∙ ap (λ (y : Game). sets answers 0 (answers-to y ms)) q);
+            left-written (answers-each (game-from p) ms) answers answers-after _ ok
+            (omega (arith, answers-length (game-from p) ms)) (w ∙ ap (λ (y : Game). sets answers 0 (answers-each y ms)) q);
       }
 
 -- ---- analyze
@@ -242,7 +242,7 @@ module _ (p ms : List ℕ) (depth allowance draws : ℕ) (answers words report :
 
           module _ (s : Analysis) (s-is : Analyses g s) where
             abbrev number : ℕ
-            number = made-number (s .made)
+            number = analysis-number (s .answer)
 
             abbrev byte : ℕ
             byte = s .proven .bits

@@ -1,7 +1,7 @@
-pub mod Places
+pub mod LentPlaces
 pub mod PositionWords
-pub mod TriedMoves
-pub mod ReportWords
+pub mod CallsPlay
+pub mod CallsReport
 pub mod Calls
-pub mod AfterMoves
-pub mod AfterPlay
+pub mod CallsDemand3
+pub mod CallsAfterPlay

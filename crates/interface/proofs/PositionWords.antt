@@ -22,56 +22,56 @@ use Rattle.boards.specs.declared.local.Row.{Row}
 use Rattle.rules.specs.declared.NextBoard.{NextBoard}
 use Rattle.rules.specs.declared.NextBoard.the-variants.{Any, Only}
 use Rattle.game.specs.declared.Game.{Game}
-use Rattle.interface.specs.Position.{due-word, row-words, words-of, side-from, due-from, state-from, row-from, game-from, most, within, is-position}
+use Rattle.interface.specs.Position.{next-board-word, row-words, words-of, side-from, next-board-from, state-from, row-from, game-from, most, all-within, is-position}
 
-pub within-short : (bs ws : List ℕ) → length ws < length bs → false ≡ within bs ws
-unfolding within
+pub within-short : (bs ws : List ℕ) → length ws < length bs → false ≡ all-within bs ws
+unfolding all-within
 within-short [] ws h = absurd (omega arith)
 within-short (b ∷ bs) [] h = refl
-within-short (b ∷ bs) (w ∷ ws) h = rest (leb w b) (within bs ws) (within-short bs ws (omega arith))
+within-short (b ∷ bs) (w ∷ ws) h = rest (leb w b) (all-within bs ws) (within-short bs ws (omega arith))
   where
     rest : (a t : Bool) → false ≡ t → false ≡ (a && t)
     rest true t e = e
     rest false t e = refl
 
 -- one place on
-within-step : (bs ws : List ℕ) (i : ℕ) → i < length bs → i < length ws → within (drop i bs) (drop i ws) ≡ (leb (getD ws i 0) (getD bs i 0) && within (drop (suc i) bs) (drop (suc i) ws))
-unfolding within
-within-step bs ws i h k = ap (λ (l : List ℕ). within l (drop i ws)) (drop-cons bs i 0 h) ∙ ap (within (getD bs i 0 ∷ drop (suc i) bs)) (drop-cons ws i 0 k)
+within-step : (bs ws : List ℕ) (i : ℕ) → i < length bs → i < length ws → all-within (drop i bs) (drop i ws) ≡ (leb (getD ws i 0) (getD bs i 0) && all-within (drop (suc i) bs) (drop (suc i) ws))
+unfolding all-within
+within-step bs ws i h k = ap (λ (l : List ℕ). all-within l (drop i ws)) (drop-cons bs i 0 h) ∙ ap (all-within (getD bs i 0 ∷ drop (suc i) bs)) (drop-cons ws i 0 k)
 
-pub within-over : (bs ws : List ℕ) (i : ℕ) → i < length bs → i < length ws → getD bs i 0 < getD ws i 0 → within (drop i bs) (drop i ws) ≡ false
-within-over bs ws i h k o = within-step bs ws i h k ∙ ap (λ (t : Bool). t && within (drop (suc i) bs) (drop (suc i) ws)) (lt-leb (getD ws i 0) (getD bs i 0) o)
+pub within-over : (bs ws : List ℕ) (i : ℕ) → i < length bs → i < length ws → getD bs i 0 < getD ws i 0 → all-within (drop i bs) (drop i ws) ≡ false
+within-over bs ws i h k o = within-step bs ws i h k ∙ ap (λ (t : Bool). t && all-within (drop (suc i) bs) (drop (suc i) ws)) (lt-leb (getD ws i 0) (getD bs i 0) o)
 
-pub within-under : (bs ws : List ℕ) (i : ℕ) → i < length bs → i < length ws → getD ws i 0 ≤ getD bs i 0 → within (drop i bs) (drop i ws) ≡ within (drop (i + 1) bs) (drop (i + 1) ws)
+pub within-under : (bs ws : List ℕ) (i : ℕ) → i < length bs → i < length ws → getD ws i 0 ≤ getD bs i 0 → all-within (drop i bs) (drop i ws) ≡ all-within (drop (i + 1) bs) (drop (i + 1) ws)
 within-under bs ws i h k o =
-    within-step bs ws i h k ∙ ap (λ (t : Bool). t && within (drop (suc i) bs) (drop (suc i) ws)) (le-leb (getD ws i 0) (getD bs i 0) o)
-    ∙ sym (ap (λ (n : ℕ). within (drop n bs) (drop n ws)) (add-one i))
+    within-step bs ws i h k ∙ ap (λ (t : Bool). t && all-within (drop (suc i) bs) (drop (suc i) ws)) (le-leb (getD ws i 0) (getD bs i 0) o)
+    ∙ sym (ap (λ (n : ℕ). all-within (drop n bs) (drop n ws)) (add-one i))
 
-pub within-end : (bs ws : List ℕ) (i : ℕ) → length bs ≤ i → within (drop i bs) (drop i ws) ≡ true
-unfolding within
-within-end bs ws i h = ap (λ (l : List ℕ). within l (drop i ws)) (drop-of-length-le bs h)
+pub within-end : (bs ws : List ℕ) (i : ℕ) → length bs ≤ i → all-within (drop i bs) (drop i ws) ≡ true
+unfolding all-within
+within-end bs ws i h = ap (λ (l : List ℕ). all-within l (drop i ws)) (drop-of-length-le bs h)
 
 -- each word is within its bound
-pub within-at : (bs ws : List ℕ) → T (within bs ws) → (k : ℕ) → k < length bs → getD ws k 0 ≤ getD bs k 0
-unfolding within
+pub within-at : (bs ws : List ℕ) → T (all-within bs ws) → (k : ℕ) → k < length bs → getD ws k 0 ≤ getD bs k 0
+unfolding all-within
 within-at [] ws t k h = absurd (omega arith)
 within-at (b ∷ bs) [] t k h = absurd t
-within-at (b ∷ bs) (w ∷ ws) t zero h = leb→le w b (first (leb w b) (within bs ws) t)
+within-at (b ∷ bs) (w ∷ ws) t zero h = leb→le w b (first (leb w b) (all-within bs ws) t)
   where
     first : (x y : Bool) → T (x && y) → T x
     first true y s = tt
     first false y s = s
-within-at (b ∷ bs) (w ∷ ws) t (suc k) h = within-at bs ws (second (leb w b) (within bs ws) t) k (omega arith)
+within-at (b ∷ bs) (w ∷ ws) t (suc k) h = within-at bs ws (second (leb w b) (all-within bs ws) t) k (omega arith)
   where
     second : (x y : Bool) → T (x && y) → T y
     second true y s = s
     second false y s = absurd s
 
-pub within-long : (bs ws : List ℕ) → T (within bs ws) → length bs ≤ length ws
-unfolding within
+pub within-long : (bs ws : List ℕ) → T (all-within bs ws) → length bs ≤ length ws
+unfolding all-within
 within-long [] ws t = omega arith
 within-long (b ∷ bs) [] t = absurd t
-within-long (b ∷ bs) (w ∷ ws) t = let h : length bs ≤ length ws = within-long bs ws (and→ (leb w b) (within bs ws) t .1) in omega arith
+within-long (b ∷ bs) (w ∷ ws) t = let h : length bs ≤ length ws = within-long bs ws (and→ (leb w b) (all-within bs ws) t .1) in omega arith
 
 -- ---- the twelve words of a position
 module _ (ws : List ℕ) (t : T (is-position ws)) where
@@ -104,16 +104,16 @@ module _ (g : Game) where
 
   pub words-made : (a b c d e f who due state : ℕ) → length rs ≡ 3
       → a ≡ row-at rs 0 .x → b ≡ row-at rs 0 .o → c ≡ row-at rs 1 .x → d ≡ row-at rs 1 .o → e ≡ row-at rs 2 .x → f ≡ row-at rs 2 .o
-      → who ≡ side-number (g .«next_player») → due ≡ due-word (g .«next_board») → state ≡ state-number (g .«game_state»)
+      → who ≡ side-number (g .«next_player») → due ≡ next-board-word (g .«next_board») → state ≡ state-number (g .«game_state»)
       → a ∷ b ∷ c ∷ d ∷ e ∷ f ∷ last who due state ≡ words-of g
   words-made a b c d e f who due state n p q r s t u v w x =
       six-words rs (last who due state) a b c d e f n p q r s t u
       ∙ ap (λ (k : ℕ). row-words rs ++ last k due state) v
       ∙ ap (λ (k : ℕ). row-words rs ++ last (side-number (g .«next_player»)) k state) w
-      ∙ ap (λ (k : ℕ). row-words rs ++ last (side-number (g .«next_player»)) (due-word (g .«next_board»)) k) x
+      ∙ ap (λ (k : ℕ). row-words rs ++ last (side-number (g .«next_player»)) (next-board-word (g .«next_board»)) k) x
 
 pub game-made : (ws : List ℕ) (who : Player) (next : NextBoard) (a b c : Row) (state : GameState)
-    → who ≡ side-from (getD ws 8 0) → next ≡ due-from (getD ws 9 0) → state ≡ state-from (getD ws 10 0)
+    → who ≡ side-from (getD ws 8 0) → next ≡ next-board-from (getD ws 9 0) → state ≡ state-from (getD ws 10 0)
     → a ≡ row-from ws 0 → b ≡ row-from ws 2 → c ≡ row-from ws 4
     → _≡_ {A = Game} (record {
       «next_player» = who;
@@ -141,7 +141,7 @@ abbrev pub Byte : NextBoard → Type 0
 Byte Any = Unit {0}
 Byte (Only b) = b < 256
 
-due-back : (n : NextBoard) → Byte n → due-from (due-word n) ≡ n
+due-back : (n : NextBoard) → Byte n → next-board-from (next-board-word n) ≡ n
 due-back Any h = refl
 due-back (Only b) h = simp (ne-eqb b 256 (λ e. omega arith))
 
@@ -171,7 +171,7 @@ side-fits : (w : Player) → T (leb (side-number w) 1)
 side-fits X = tt
 side-fits O = tt
 
-due-fits : (n : NextBoard) → T (neat-next n) → T (leb (due-word n) 256)
+due-fits : (n : NextBoard) → T (neat-next n) → T (leb (next-board-word n) 256)
 due-fits Any t = tt
 due-fits (Only b) t = le→leb b 256 (let h = ltb→lt b 9 t in omega (arith, h))
 
@@ -184,7 +184,7 @@ state-fits (Won O) = tt
 fits : (who : Player) (next : NextBoard) (rs : List Row) (x o : ℕ) (state : GameState) (h : ℕ) (rest : List ℕ)
     → T (neat-next next) → length rs ≡ 3 → T (all neat-row rs) → x < 2 ^ 9 → o < 2 ^ 9 → h ≤ 0xffff_ffff_ffff_ffff
     → T (is-position (words-of (record { «next_player» = who; «next_board» = next; «local_boards» = record { rows = rs }; «global_states» = record { x = x; o = o }; «game_state» = state; hash = h }) ++ rest))
-unfolding within all
+unfolding all-within all
 fits who next [] x o state h rest d n t p q w = absurd (omega arith)
 fits who next (a ∷ []) x o state h rest d n t p q w = absurd (omega arith)
 fits who next (a ∷ b ∷ []) x o state h rest d n t p q w = absurd (omega arith)
@@ -199,7 +199,7 @@ fits who next (a ∷ b ∷ c ∷ []) x o state h rest d n t p q w =
     (→and (leb (b .x) 0xffff_ffff) _ (le→leb _ _ (j .0)) (→and (leb (b .o) 0xffff_ffff) _ (le→leb _ _ (j .1))
     (→and (leb (c .x) 0xffff_ffff) _ (le→leb _ _ (k .0)) (→and (leb (c .o) 0xffff_ffff) _ (le→leb _ _ (k .1))
     (→and (leb x 0xffff) _ (le→leb x 0xffff (omega arith)) (→and (leb o 0xffff) _ (le→leb o 0xffff (omega arith))
-    (→and (leb (side-number who) 1) _ (side-fits who) (→and (leb (due-word next) 256) _ (due-fits next d)
+    (→and (leb (side-number who) 1) _ (side-fits who) (→and (leb (next-board-word next) 256) _ (due-fits next d)
     (→and (leb (state-number state) 3) _ (state-fits state) (→and (leb h 0xffff_ffff_ffff_ffff) _ (le→leb _ _ w) tt)))))))))))
 fits who next (a ∷ b ∷ c ∷ e ∷ es) x o state h rest d n t p q w = absurd (omega arith)
 

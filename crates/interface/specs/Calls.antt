@@ -12,7 +12,7 @@ use Rattle.rules.specs.Play.{play}
 use Rattle.rules.specs.Status.{as-byte}
 use Rattle.rules.specs.Endgame.{analysis}
 use Rattle.rules.specs.Evaluation.{Scoring, scoring-with}
-use Rattle.theory.specs.Table.{word-of}
+use Rattle.theory.specs.Table.{to-word}
 use Rattle.theory.specs.Memory.{Responses}
 use Rattle.theory.specs.Deepening.{Stats}
 use Rattle.theory.specs.Reported.{Reported, reported}
@@ -24,7 +24,7 @@ use Rattle.game.specs.Built.{new-game}
 use Rattle.game.specs.After.{refusal, game-after, games-after}
 use Rattle.notation.specs.Parsed.{game-for}
 use Rattle.minimax.specs.Structs.{structs}
-use Rattle.line.specs.Answered.{answer-line}
+use Rattle.program_line.specs.Answered.{answer-line}
 use Rattle.interface.specs.Lent.{returned, left}
 use Rattle.interface.specs.Position.{words-of, game-from, is-position, side-from}
 
@@ -35,14 +35,14 @@ module _ (line out : List ℕ) where
     pub out-is : out-after ≡ left (leb (length (answer-line line)) (length out)) (answer-line line) out
 
 -- ---- ultimattt_new: the empty board
-pub record Begins (position position-after : List ℕ) (r : ℕ) : Type 0 where
+pub record Starts (position position-after : List ℕ) (r : ℕ) : Type 0 where
   pub returns : r ≡ returned (leb 12 (length position)) 0
   pub position-is : position-after ≡ left (leb 12 (length position)) (words-of new-game) position
 
 -- ---- ultimattt_read: a text, as a position
-abbrev pub read-number : Reading → ℕ
-read-number (reads p) = 0
-read-number (refuses n offset size) = n
+abbrev pub reading-number : Reading → ℕ
+reading-number (reads p) = 0
+reading-number (refuses n offset size) = n
 
 abbrev pub read-place : Reading → List ℕ
 read-place (reads p) = 0 ∷ 0 ∷ []
@@ -52,8 +52,8 @@ module _ (text position place : List ℕ) where
   abbrev pub read-ok : Bool
   read-ok = leb 12 (length position) && leb 2 (length place)
 
-  pub record Reads (position-after place-after : List ℕ) (r : ℕ) : Type 0 where
-    pub returns : r ≡ returned read-ok (read-number (read text))
+  pub record ReadsPosition (position-after place-after : List ℕ) (r : ℕ) : Type 0 where
+    pub returns : r ≡ returned read-ok (reading-number (read text))
     pub position-is : position-after ≡ left read-ok (words-of (game-for (read text))) position
     pub place-is : place-after ≡ left read-ok (read-place (read text)) place
 
@@ -68,9 +68,9 @@ module _ (position out : List ℕ) where
 
 -- ---- ultimattt_play: moves, tried one after the other
 -- what each is answered: 9 to 13, or 0 where it is played
-unfoldable pub answers-to : Game → List ℕ → List ℕ
-answers-to g [] = []
-answers-to g (m ∷ ms) = refusal (play (position-of g) m) ∷ answers-to (game-after g m) ms
+unfoldable pub answers-each : Game → List ℕ → List ℕ
+answers-each g [] = []
+answers-each g (m ∷ ms) = refusal (play (position-of g) m) ∷ answers-each (game-after g m) ms
 
 module _ (position moves answers : List ℕ) where
   abbrev pub play-ok : Bool
@@ -79,7 +79,7 @@ module _ (position moves answers : List ℕ) where
   pub record PlaysAll (position-after answers-after : List ℕ) (r : ℕ) : Type 0 where
     pub returns : r ≡ returned play-ok 0
     pub position-is : position-after ≡ left play-ok (words-of (games-after (game-from position) moves)) position
-    pub answers-is : answers-after ≡ left play-ok (answers-to (game-from position) moves) answers
+    pub answers-is : answers-after ≡ left play-ok (answers-each (game-from position) moves) answers
 
 -- ---- ultimattt_analyze: endgame analysis and search after tried moves
 -- 0 nobody, 1 X, 2 O
@@ -98,7 +98,7 @@ responses-bytes rs = rs .to-x ++ rs .to-o
 
 abbrev pub stats-words : Stats → List ℕ
 stats-words s =
-    s .depth ∷ word-of (s .score) ∷ s .tally .visited ∷ s .tally .terminal ∷ s .tally .cuts ∷ s .tally .tt-hit ∷ s .tally .tt-suffice ∷ []
+    s .depth ∷ to-word (s .score) ∷ s .tally .visited ∷ s .tally .terminal ∷ s .tally .cuts ∷ s .tally .tt-hit ∷ s .tally .tt-suffice ∷ []
 
 unfoldable pub all-stats : List Stats → List ℕ
 all-stats [] = []
@@ -106,11 +106,11 @@ all-stats (s ∷ ss) = stats-words s ++ all-stats ss
 
 -- of the search, and of the endgame analysis, by its number and its status byte
 abbrev pub head-words : Reported → ℕ → ℕ → List ℕ
-head-words x refusal status = x .number ∷ cond (x .is-stopped) 1 0 ∷ x .depth ∷ word-of (x .score) ∷ x .count ∷ refusal ∷ status ∷ []
+head-words x refusal status = x .number ∷ cond (x .is-stopped) 1 0 ∷ x .depth ∷ to-word (x .score) ∷ x .count ∷ refusal ∷ status ∷ []
 
 -- then the line's moves, and seven words for each depth
 abbrev pub report-words : Reported → ℕ → ℕ → List ℕ
-report-words x refusal status = head-words x refusal status ++ (x .line ++ all-stats (x .stats))
+report-words x refusal status = head-words x refusal status ++ (x .pv ++ all-stats (x .stats))
 
 module _ (position moves : List ℕ) (depth allowance draws : ℕ) (answers words report : List ℕ) where
   abbrev pub analyze-ok : Bool

@@ -15,9 +15,9 @@ use Rattle.rules.specs.declared.NextBoard.the-variants.{Any, Only}
 use Rattle.game.specs.declared.Game.{Game}
 
 -- 256, which is no byte, for free choice
-abbrev pub due-word : NextBoard → ℕ
-due-word Any = 256
-due-word (Only b) = b
+abbrev pub next-board-word : NextBoard → ℕ
+next-board-word Any = 256
+next-board-word (Only b) = b
 
 abbrev pub row-words : List Row → List ℕ
 row-words [] = []
@@ -28,14 +28,14 @@ abbrev pub words-of : Game → List ℕ
 words-of g =
     row-words (g .«local_boards» .rows) ++
     (g .«global_states» .x ∷ g .«global_states» .o ∷
-    side-number (g .«next_player») ∷ due-word (g .«next_board») ∷ state-number (g .«game_state») ∷ g .hash ∷ [])
+    side-number (g .«next_player») ∷ next-board-word (g .«next_board») ∷ state-number (g .«game_state») ∷ g .hash ∷ [])
 
 -- ---- back
 abbrev pub side-from : ℕ → Player
 side-from w = cond (eqb w 0) X O
 
-abbrev pub due-from : ℕ → NextBoard
-due-from w = cond (eqb w 256) Any (Only w)
+abbrev pub next-board-from : ℕ → NextBoard
+next-board-from w = cond (eqb w 256) Any (Only w)
 
 abbrev pub state-from : ℕ → GameState
 state-from w = cond (eqb w 0) InPlay (cond (eqb w 1) Drawn (Won (side-from (w - 2))))
@@ -46,7 +46,7 @@ row-from ws k = record { x = getD ws k 0; o = getD ws (k + 1) 0 }
 unfoldable pub game-from : List ℕ → Game
 game-from ws = record {
   «next_player» = side-from (getD ws 8 0);
-  «next_board» = due-from (getD ws 9 0);
+  «next_board» = next-board-from (getD ws 9 0);
   «local_boards» = record { rows = row-from ws 0 ∷ row-from ws 2 ∷ row-from ws 4 ∷ [] };
   «global_states» = record { x = getD ws 6 0; o = getD ws 7 0 };
   «game_state» = state-from (getD ws 10 0);
@@ -61,10 +61,10 @@ most =
     0xffff ∷ 0xffff ∷ 1 ∷ 256 ∷ 3 ∷ 0xffff_ffff_ffff_ffff ∷ []
 
 -- there is a word for each bound, and none is over it
-unfoldable pub within : List ℕ → List ℕ → Bool
-within [] ws = true
-within (b ∷ bs) [] = false
-within (b ∷ bs) (w ∷ ws) = leb w b && within bs ws
+unfoldable pub all-within : List ℕ → List ℕ → Bool
+all-within [] ws = true
+all-within (b ∷ bs) [] = false
+all-within (b ∷ bs) (w ∷ ws) = leb w b && all-within bs ws
 
 abbrev pub is-position : List ℕ → Bool
-is-position ws = within most ws
+is-position ws = all-within most ws

@@ -4,7 +4,7 @@ mod lent;
 mod position;
 mod report;
 
-ghost use Rattle.interface.specs.Calls.{Answers, Begins, Reads, Renders, PlaysAll, Analyzes};
+ghost use Rattle.interface.specs.Calls.{Answers, Starts, ReadsPosition, Renders, PlaysAll, Analyzes};
 use endgame::Analysis;
 use game::Game;
 use minimax::Config;
@@ -17,7 +17,7 @@ pub const BAD_ARGUMENT: u64 = 255;
 pub extern "C" fn ultimattt_answer(line: &[u8], out: &mut [u8]) -> usize
     ensures { λ r. ⌜ Answers (now (line .entry)) (now (out .entry)) (now (out .exit)) r ⌝ }
 {
-    let answer = line::answer(lent::held(line));
+    let answer = program_line::answer(lent::held(line));
     let n = answer.written();
     let bytes = answer.bytes;
     if n <= out.len() {
@@ -29,7 +29,7 @@ pub extern "C" fn ultimattt_answer(line: &[u8], out: &mut [u8]) -> usize
 // The empty board.
 #[no_mangle]
 pub extern "C" fn ultimattt_new(position: &mut [u64]) -> u64
-    ensures { λ r. ⌜ Begins (now (position .entry)) (now (position .exit)) r ⌝ }
+    ensures { λ r. ⌜ Starts (now (position .entry)) (now (position .exit)) r ⌝ }
 {
     if position.len() < 12 {
         return BAD_ARGUMENT;
@@ -41,7 +41,7 @@ pub extern "C" fn ultimattt_new(position: &mut [u64]) -> u64
 // A text, read as a position: 0, or refusal 1 to 6 with the empty board. In place, offset and length of the part that is refused.
 #[no_mangle]
 pub extern "C" fn ultimattt_read(text: &[u8], position: &mut [u64], place: &mut [u64]) -> u64
-    ensures { λ r. ⌜ Reads (now (text .entry)) (now (position .entry)) (now (place .entry)) (now (position .exit)) (now (place .exit)) r ⌝ }
+    ensures { λ r. ⌜ ReadsPosition (now (text .entry)) (now (position .entry)) (now (place .entry)) (now (position .exit)) (now (place .exit)) r ⌝ }
 {
     if position.len() < 12 {
         return BAD_ARGUMENT;

@@ -8,8 +8,8 @@ ghost use lib.Seq.{sets};
 ghost use Rattle.game.specs.After.{games-after};
 ghost use Rattle.notation.specs.Parsed.{reading-of};
 ghost use Rattle.interface.specs.Lent.{Puts};
-ghost use Rattle.interface.specs.Position.{due-word, words-of, side-from, due-from, state-from, game-from, is-position};
-ghost use Rattle.interface.specs.Calls.{read-place, answers-to};
+ghost use Rattle.interface.specs.Position.{next-board-word, words-of, side-from, next-board-from, state-from, game-from, is-position};
+ghost use Rattle.interface.specs.Calls.{read-place, answers-each};
 use crate::lent;
 use boards::GlobalStates;
 use boards::LocalBoards;
@@ -40,7 +40,7 @@ const MOST: [u64; 12] = [
 ];
 
 fn due_word(next: NextBoard) -> u64
-    ensures { λ r. ⌜ r ≡ due-word next ⌝ }
+    ensures { λ r. ⌜ r ≡ next-board-word next ⌝ }
 {
     match next {
         NextBoard::Any => 256,
@@ -109,7 +109,7 @@ pub(crate) fn side_from(w: u64) -> Player
 
 fn due_from(w: u64) -> NextBoard
     requires { ⌜ w ≤ 256 ⌝ }
-    ensures { λ r. ⌜ r ≡ due-from w ⌝ }
+    ensures { λ r. ⌜ r ≡ next-board-from w ⌝ }
 {
     if w == 256 {
         NextBoard::Any
@@ -184,7 +184,7 @@ pub(crate) fn place(parsed: Parsed) -> [u64; 2]
 pub(crate) fn play(game: Game, moves: &[u8], answers: &mut [u8]) -> Game
     requires { ⌜ length (now moves) ≤ length (now answers) ⌝ }
     ensures { λ r. ⌜ (r ≡ games-after game (now (moves .entry)))
-        × (now (answers .exit) ≡ sets (now (answers .entry)) 0 (answers-to game (now (moves .entry)))) ⌝ }
+        × (now (answers .exit) ≡ sets (now (answers .entry)) 0 (answers-each game (now (moves .entry)))) ⌝ }
 {
     let mut game = game;
     for i in 0..moves.len() {

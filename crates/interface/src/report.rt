@@ -6,7 +6,7 @@ ghost use Prim.Native.Nat.{_+_, _≤_};
 ghost use lib.ListN.{length, take, drop};
 ghost use lib.Seq.{sets};
 ghost use Rattle.theory.specs.Limits.{console};
-ghost use Rattle.endgame.specs.Means.{made-number};
+ghost use Rattle.endgame.specs.Means.{analysis-number};
 ghost use Rattle.minimax.specs.State.{bytes-of, responses-of};
 ghost use Rattle.minimax.specs.Report.{stats-of, is-spent, ending-stopped, report-of};
 ghost use Rattle.interface.specs.Lent.{Puts};
@@ -104,10 +104,10 @@ fn stopped(ending: Ending) -> u64
 
 // The words before the moves.
 fn head(found: Report, analysis: Analysis) -> [u64; 7]
-    ensures { λ r. ⌜ r ≡ head-words (report-of found []) (made-number (analysis .made)) (analysis .proven .bits) ⌝ }
+    ensures { λ r. ⌜ r ≡ head-words (report-of found []) (analysis-number (analysis .answer)) (analysis .proven .bits) ⌝ }
 {
     let ending = found.ending;
-    let made = analysis.made;
+    let answer = analysis.answer;
     let status = analysis.status();
     [
         ending.number(),
@@ -115,7 +115,7 @@ fn head(found: Report, analysis: Analysis) -> [u64; 7]
         found.depth,
         table::to_word(found.score),
         found.count,
-        made.number(),
+        answer.number(),
         status.bits as u64,
     ]
 }
@@ -165,9 +165,9 @@ fn put_stats(out: &mut [u64], at: usize, stats: [Stats; PLACES])
 pub(crate) fn put(out: &mut [u64], found: Report, analysis: Analysis)
     requires { ⌜ 655 ≤ length (now out) ⌝ }
     ensures { λ _. ⌜ Puts (now (out .entry))
-        (report-words (report-of found []) (made-number (analysis .made)) (analysis .proven .bits)) 655 (now (out .exit)) ⌝ }
+        (report-words (report-of found []) (analysis-number (analysis .answer)) (analysis .proven .bits)) 655 (now (out .exit)) ⌝ }
 {
-    let line = found.line;
+    let line = found.pv;
     let stats = found.stats;
     lent::put(out, 0, &head(found, analysis));
     put_line(out, 7, line);

@@ -1,2 +1,2 @@
-pub mod Past
-pub mod Range
+pub mod KeysPast
+pub mod KeysRange

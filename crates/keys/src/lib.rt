@@ -3,7 +3,7 @@
 // their ends.
 ghost use mathlib.Core.Path.{_≡_};
 ghost use lib.ListN.{getD};
-ghost use Rattle.rules.specs.Keys.{x-cell-keys, o-cell-keys, drawn-keys, x-board-keys, o-board-keys, due-keys};
+ghost use Rattle.rules.specs.Keys.{x-cell-keys, o-cell-keys, drawn-keys, x-board-keys, o-board-keys, next-board-keys};
 ghost use Rattle.rules.specs.Hash.{cell-keys, board-key, player-key};
 ghost use Rattle.keys.specs.Keys.{cell-key-in};
 use rules::CellState;
@@ -246,7 +246,7 @@ fn board_o(board: usize) -> u64
 
 // The key of the next board; none over 8.
 pub fn for_next(board: usize) -> u64
-    ensures { λ r. ⌜ r ≡ getD due-keys board 0 ⌝ }
+    ensures { λ r. ⌜ r ≡ getD next-board-keys board 0 ⌝ }
 {
     match board {
         0 => 16798470787979032810,

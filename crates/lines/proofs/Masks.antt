@@ -17,10 +17,10 @@ use Rattle.base.specs.Branch.{if_then_else_}
 use Rattle.base.specs.Bits.{bit, digits}
 use Rattle.base.specs.Lists.{any, all, In}
 use Rattle.base.proofs.Bool.{and→}
-use Rattle.base.proofs.Agree.{any-same}
-use Rattle.base.proofs.Every.{upTo-at, same-below}
+use Rattle.base.proofs.ListsAgree.{any-same}
+use Rattle.base.proofs.ListsEvery.{upTo-at, same-below}
 use Rattle.base.proofs.Lists.{all-each, from-in, default-unused}
-use Rattle.base.proofs.Numbers.{bit-masked, bit-digits, digits-lt}
+use Rattle.base.proofs.Bits.{bit-masked, bit-digits, digits-lt}
 use Rattle.rules.specs.Board.{nine, Line, lines, has-line, result}
 use Rattle.lines.specs.Masks.{line-at, masks, mask-of, indices, pattern-at}
 

@@ -10,7 +10,7 @@ use Rattle.rules.specs.Evaluation.{Scoring, scoring-with}
 use Rattle.theory.specs.Limits.{console}
 use Rattle.theory.specs.Memory.{Responses, fresh-memory, counts}
 use Rattle.theory.specs.OrderedSearch.{at-most}
-use Rattle.theory.specs.Deepening.{Stats as Meant, Whole, Answer, analyze}
+use Rattle.theory.specs.Deepening.{Stats as Meant, Completed, SearchAnswer, analyze}
 use Rattle.theory.specs.Reported.{Settings, Reported, no-stats, reported}
 use Rattle.boards.specs.declared.moves.Move.{Move}
 use Rattle.game.specs.declared.Game.{Game}
@@ -22,25 +22,25 @@ use Rattle.minimax.specs.declared.SearchError.the-variants.{Depth, Allow
 use Rattle.minimax.specs.declared.Ending.{Ending}
 use Rattle.minimax.specs.declared.Ending.the-variants.{Whole as EndsWhole, Stopped, Refused}
 use Rattle.minimax.specs.declared.Report.{Report}
-use Rattle.minimax.specs.declared.Entry.{Entry}
-use Rattle.minimax.specs.declared.Entry.the-variants.{Allowed, Refused as Turned}
-use Rattle.minimax.specs.declared.Depths.{Depths}
+use Rattle.minimax.specs.declared.EntryAnswer.{EntryAnswer}
+use Rattle.minimax.specs.declared.EntryAnswer.the-variants.{Allowed, Refused as Turned}
+use Rattle.minimax.specs.declared.CompletedDepths.{CompletedDepths}
 use Rattle.minimax.specs.Structs.{structs}
-use Rattle.minimax.specs.State.{bytes-of, responses-of, line-of}
+use Rattle.minimax.specs.State.{bytes-of, responses-of, pv-of}
 
 -- document 01's numbers
-abbrev pub error-number : SearchError → ℕ
-error-number Depth = 15
-error-number Allowance = 16
-error-number Words = 17
-error-number Spent = 18
+abbrev pub search-error-number : SearchError → ℕ
+search-error-number Depth = 15
+search-error-number Allowance = 16
+search-error-number Words = 17
+search-error-number Spent = 18
 
 abbrev pub ending-number : Ending → ℕ
 ending-number EndsWhole = 0
 ending-number Stopped = 0
-ending-number (Refused e) = error-number e
+ending-number (Refused e) = search-error-number e
 
--- the allowance stopped the search: with a whole depth, or, which is 18, without one
+-- the allowance stopped the search: with a completed depth, or, which is 18, without one
 abbrev pub is-spent : SearchError → Bool
 is-spent Depth = false
 is-spent Allowance = false
@@ -71,7 +71,7 @@ report-of r words = record {
   is-stopped = ending-stopped (r .ending);
   depth = r .depth;
   score = r .score;
-  line = bytes-of (r .line);
+  pv = bytes-of (r .pv);
   stats = map stats-of (r .stats);
   count = r .count;
   responses = responses-of (r .state .responses);
@@ -81,34 +81,34 @@ report-of r words = record {
 -- refused at the entry
 abbrev pub refused-with : SearchError → Responses → List ℕ → Reported
 refused-with e rs words = record {
-  number = error-number e;
+  number = search-error-number e;
   is-stopped = is-spent e;
   depth = 0;
   score = pos 0;
-  line = replicate (console .deepest) no-move;
+  pv = replicate (console .deepest) no-move;
   stats = replicate (console .deepest) no-stats;
   count = 0;
   responses = rs;
   table = words;
 }
 
-abbrev pub entry-number : Entry → ℕ
+abbrev pub entry-number : EntryAnswer → ℕ
 entry-number Allowed = 0
-entry-number (Turned e) = error-number e
+entry-number (Turned e) = search-error-number e
 
--- ---- the whole depths
-abbrev pub whole-of : Depths → Whole
-whole-of d = record {
+-- ---- the completed depths
+abbrev pub completed-of : CompletedDepths → Completed
+completed-of d = record {
   depth = d .depth;
   score = d .score;
-  line = line-of (d .line) (d .depth);
+  pv = pv-of (d .pv) (d .depth);
   stats = take (d .depth) (map stats-of (d .stats));
 }
 
--- the places after the last whole depth are empty
-pub record Empty-on (d : Depths) : Type 0 where
+-- the places after the last completed depth are empty
+pub record Empty-on (d : CompletedDepths) : Type 0 where
   pub most : d .depth ≤ console .deepest
-  pub line-empty : drop (d .depth) (d .line .moves) ≡ replicate (console .deepest - d .depth) (record { bits = no-move })
+  pub line-empty : drop (d .depth) (d .pv .moves) ≡ replicate (console .deepest - d .depth) (record { bits = no-move })
   pub stats-empty : drop (d .depth) (map stats-of (d .stats)) ≡ replicate (console .deepest - d .depth) no-stats
 
 -- no move has a response
@@ -116,7 +116,7 @@ abbrev pub empty-responses : Minimax
 empty-responses = let none : List Move = replicate 256 (record { bits = no-move }) in record { responses = record { x = none; o = none } }
 
 -- the definition's answer and report, of a game as a struct
-abbrev pub answer-of : Minimax → Game → Config → List ℕ → Answer
+abbrev pub answer-of : Minimax → Game → Config → List ℕ → SearchAnswer
 answer-of m g c words =
     analyze (structs (scoring-of c)) (at-most (c .allowance)) (c .«max_depth») g (fresh-memory (responses-of (m .responses)) words)
 

@@ -13,18 +13,18 @@ use Rattle.theory.specs.Limits.{console}
 use Rattle.theory.specs.Game.{Game as Searched}
 use Rattle.theory.specs.PlainMinimax.{lowest, highest}
 use Rattle.theory.specs.Memory.{Responses, Memory, some-move, Tally, counts}
-use Rattle.theory.specs.OrderedSearch.{at-most, Outcome, stopped, found, unless-stopped, told, candidates, over-moves, search}
+use Rattle.theory.specs.OrderedSearch.{at-most, Outcome, stopped, found, unless-stopped, with-stored, candidates, over-moves, search}
 use Rattle.boards.specs.declared.moves.Move.{Move}
 use Rattle.game.specs.Meaning.{position-of}
 use Rattle.evaluation.specs.declared.Values.{Values}
 use Rattle.evaluation.specs.Values.{board-value, values-of}
-use Rattle.order.specs.declared.Child.{Child}
+use Rattle.order.specs.declared.NextMove.{NextMove}
 use Rattle.minimax.specs.declared.ResponseTables.{ResponseTables}
-use Rattle.minimax.specs.declared.search.Search.{Search}
-use Rattle.minimax.specs.declared.search.Line.{Line}
-use Rattle.minimax.specs.declared.search.Ask.{Ask}
+use Rattle.minimax.specs.declared.search.SearchState.{SearchState}
+use Rattle.minimax.specs.declared.search.Pv.{Pv}
+use Rattle.minimax.specs.declared.search.Node.{Node}
 use Rattle.minimax.specs.declared.search.Best.{Best}
-use Rattle.minimax.specs.declared.search.Found.{Found}
+use Rattle.minimax.specs.declared.search.NodeResult.{NodeResult}
 use Rattle.minimax.specs.Structs.{structs}
 
 -- ---- the state
@@ -37,14 +37,14 @@ bytes-of ms = map byte-of ms
 abbrev pub responses-of : ResponseTables → Responses
 responses-of t = record { to-x = bytes-of (t .x); to-o = bytes-of (t .o) }
 
-abbrev pub tally-of : Search → Tally
+abbrev pub tally-of : SearchState → Tally
 tally-of s = counts (s .visited) (s .terminal) (s .cuts) (s .«tt_hit») (s .«tt_suffice»)
 
 -- the search's state has the two tables side by side: an array within a struct within it could not be written in place
-abbrev pub tables-of : Search → ResponseTables
+abbrev pub tables-of : SearchState → ResponseTables
 tables-of s = record { x = s .«responses_x»; o = s .«responses_o» }
 
-abbrev pub memory-of : Search → List ℕ → Memory
+abbrev pub memory-of : SearchState → List ℕ → Memory
 memory-of s words = record {
   count = s .count;
   tally = tally-of s;
@@ -52,52 +52,52 @@ memory-of s words = record {
   table = words;
 }
 
--- the first d places of a line
-abbrev pub line-of : Line → ℕ → List ℕ
-line-of l d = take d (bytes-of (l .moves))
+-- the first d places of a variation
+abbrev pub pv-of : Pv → ℕ → List ℕ
+pv-of l d = take d (bytes-of (l .moves))
 
-abbrev pub empty-line : Line
-empty-line = record { moves = replicate (console .deepest) (record { bits = no-move }) }
+abbrev pub empty-pv : Pv
+empty-pv = record { moves = replicate (console .deepest) (record { bits = no-move }) }
 
--- ---- what is asked and found
-abbrev pub asked-scoring : Ask → Scoring
-asked-scoring a = scoring-with (a .«draw_winner»)
+-- ---- nodes and their results
+abbrev pub node-scoring : Node → Scoring
+node-scoring a = scoring-with (a .«draw_winner»)
 
-abbrev pub asked-game : Ask → Searched
-asked-game a = structs (asked-scoring a)
+abbrev pub node-game : Node → Searched
+node-game a = structs (node-scoring a)
 
-unfoldable pub outcome-of : Ask → Found → List ℕ → Outcome
+unfoldable pub outcome-of : Node → NodeResult → List ℕ → Outcome
 outcome-of a r words =
     if r .stopped then (λ _. stopped (memory-of (r .state) words)) else
-    λ _. found (r .score) (line-of (r .line) (a .depth)) (memory-of (r .state) words)
+    λ _. found (r .score) (pv-of (r .pv) (a .depth)) (memory-of (r .state) words)
 
 -- the values after a move: its own board's anew
-abbrev pub values-below : Ask → Child → Values
+abbrev pub values-below : Node → NextMove → Values
 values-below a child = let b = board-of (child .m .bits) in
     record { boards = set (a .values .boards) b (board-value (position-of (child .game)) b) }
 
 -- the definition's outcome
-unfoldable pub searched : Ask → Search → Line → List ℕ → Outcome
-searched a s l words =
-    search (asked-game a) (at-most (a .allowance)) (a .depth) (a .game) (a .alpha) (a .beta) (line-of l (a .depth)) (a .prev .bits)
+unfoldable pub node-outcome : Node → SearchState → Pv → List ℕ → Outcome
+node-outcome a s l words =
+    search (node-game a) (at-most (a .allowance)) (a .depth) (a .game) (a .alpha) (a .beta) (pv-of l (a .depth)) (a .prev .bits)
     (memory-of s words)
 
 -- over the moves left
-unfoldable pub over-left : Ask → List ℕ → Best → Line → Search → List ℕ → Outcome
+unfoldable pub over-left : Node → List ℕ → Best → Pv → SearchState → List ℕ → Outcome
 over-left a ms best local s words =
-    over-moves (asked-game a) (search (asked-game a) (at-most (a .allowance)) (a .depth - 1)) (a .game) (a .beta) (a .prev .bits) ms
-    (best .score) (line-of (best .line) (a .depth)) (line-of local (a .depth - 1)) (memory-of s words)
+    over-moves (node-game a) (search (node-game a) (at-most (a .allowance)) (a .depth - 1)) (a .game) (a .beta) (a .prev .bits) ms
+    (best .score) (pv-of (best .pv) (a .depth)) (pv-of local (a .depth - 1)) (memory-of s words)
 
 -- over all moves, the table's move first
-unfoldable pub over-all : Ask → Move → Search → Line → List ℕ → Outcome
+unfoldable pub over-all : Node → Move → SearchState → Pv → List ℕ → Outcome
 over-all a first s l words =
-    over-left a (candidates (asked-game a) (some-move (first .bits)) (memory-of s words) (a .game) (a .prev .bits) (line-of l (a .depth)))
-    (record { line = l; score = a .alpha }) empty-line s words
+    over-left a (candidates (node-game a) (some-move (first .bits)) (memory-of s words) (a .game) (a .prev .bits) (pv-of l (a .depth)))
+    (record { pv = l; score = a .alpha }) empty-pv s words
 
--- and the table told of it
-unfoldable pub then-told : Ask → Outcome → Outcome
-then-told a o = unless-stopped o
-    (λ r line s. found r line (told s (asked-game a .key (a .game)) (a .depth) (a .alpha) (a .beta) r line))
+-- and the result stored
+unfoldable pub then-stored : Node → Outcome → Outcome
+then-stored a o = unless-stopped o
+    (λ r pv s. found r pv (with-stored s (node-game a .key (a .game)) (a .depth) (a .alpha) (a .beta) r pv))
 
 -- ---- conditions
 -- a score within the root's window
@@ -106,11 +106,11 @@ pub record Within (z : ℤ) : Type 0 where
   pub high : z ≤ℤ highest
 
 -- the values are those of the game's boards
-abbrev pub Valued : Ask → Type 0
+abbrev pub Valued : Node → Type 0
 Valued a = a .values .boards ≡ values-of (position-of (a .game))
 
 -- a depth of at most the deepest, a window within the root's, and an allowance that a count of 64 bits holds with room
-pub record Asked (a : Ask) : Type 0 where
+pub record NodeFits (a : Node) : Type 0 where
   pub valued : Valued a
   pub deep : a .depth ≤ console .deepest
   pub alpha-within : Within (a .alpha)
@@ -118,7 +118,7 @@ pub record Asked (a : Ask) : Type 0 where
   pub allowed : a .allowance ≤ console .positions
 
 -- no count is beyond the positions entered, so none wraps
-pub record Counted (a : Ask) (s : Search) : Type 0 where
+pub record Counted (a : Node) (s : SearchState) : Type 0 where
   pub within : s .count ≤ a .allowance
   pub visited-within : s .visited ≤ s .count
   pub terminal-within : s .terminal ≤ s .count
@@ -127,13 +127,13 @@ pub record Counted (a : Ask) (s : Search) : Type 0 where
   pub suffice-within : s .«tt_suffice» ≤ s .count
 
 -- a position that is entered and not answered
-pub record Ready (a : Ask) (s : Search) : Type 0 where
+pub record Ready (a : Node) (s : SearchState) : Type 0 where
   pub deep : 0 < a .depth
   pub counted : Counted a s
   pub room : s .cuts < s .count
 
 -- ---- promises
--- the definition's outcome; unless stopped, the line's places from the depth on are as they were
-pub record Gives (a : Ask) (l : Line) (r : Found) (words : List ℕ) (o : Outcome) : Type 0 where
+-- the definition's outcome; unless stopped, the variation's places from the depth on are as they were
+pub record NodeGives (a : Node) (l : Pv) (r : NodeResult) (words : List ℕ) (o : Outcome) : Type 0 where
   pub same : outcome-of a r words ≡ o
-  pub places : r .stopped ≡ false → drop (a .depth) (r .line .moves) ≡ drop (a .depth) (l .moves)
+  pub places : r .stopped ≡ false → drop (a .depth) (r .pv .moves) ≡ drop (a .depth) (l .moves)

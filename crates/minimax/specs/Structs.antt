@@ -1,6 +1,6 @@
 -- The engine's games as a game for the search: the struct after a move, and the key made of the hash that it carries.
 use mathlib.Core.Bool.{not}
-use Rattle.rules.specs.Position.{going}
+use Rattle.rules.specs.Position.{unfinished}
 use Rattle.rules.specs.Play.{accepts}
 use Rattle.rules.specs.Moves.{moves}
 use Rattle.rules.specs.Hash.{with-turn}
@@ -14,7 +14,7 @@ abbrev pub structs : Scoring → Searched
 structs sc = record {
   Pos = Game;
   turn = λ g. g .«next_player»;
-  over = λ g. not (going (position-of g));
+  over = λ g. not (unfinished (position-of g));
   moves = λ g. moves (position-of g);
   accepts = λ g m. accepts (position-of g) m;
   play = game-after;

@@ -17,8 +17,8 @@ ghost use Rattle.theory.specs.PlainMinimax.{lowest, highest};
 ghost use Rattle.theory.specs.Memory.{fresh-memory};
 ghost use Rattle.theory.specs.Deepening.{nothing-yet, one-deeper, decided};
 ghost use Rattle.theory.specs.Reported.{entry-refusal, report};
-ghost use Rattle.minimax.specs.State.{memory-of, line-of, responses-of, tally-of};
-ghost use Rattle.minimax.specs.Report.{error-number, ending-number, ending-stopped, entry-number, stats-of, settings-of, scoring-of, whole-of, Empty-on, empty-responses, report-of, refused-with, answer-of, reported-of};
+ghost use Rattle.minimax.specs.State.{memory-of, pv-of, responses-of, tally-of};
+ghost use Rattle.minimax.specs.Report.{search-error-number, ending-number, ending-stopped, entry-number, stats-of, settings-of, scoring-of, completed-of, Empty-on, empty-responses, report-of, refused-with, answer-of, reported-of};
 ghost use Rattle.minimax.specs.Structs.{structs};
 use boards::Move;
 use boards::PLACES;
@@ -27,17 +27,17 @@ use evaluation::EVAL_WON;
 use evaluation::Values;
 use game::Game;
 use rules::DrawWinner;
-use search::Ask;
-use search::Found;
-use search::Line;
-use search::Search;
+use search::Node;
+use search::NodeResult;
+use search::Pv;
+use search::SearchState;
 use table::DEEPEST;
 
 pub const MOST_POSITIONS: u64 = 1000000000;
 
 pub const MOST_WORDS: usize = 196608;
 
-// Of one whole depth.
+// Of one completed depth.
 pub struct Stats {
     pub depth: u64,
     pub score: i64,
@@ -74,7 +74,7 @@ pub enum SearchError {
 
 impl SearchError {
     pub fn number(self) -> u64
-        ensures { λ r. ⌜ r ≡ error-number self ⌝ }
+        ensures { λ r. ⌜ r ≡ search-error-number self ⌝ }
     {
         match self {
             SearchError::Depth => 15,
@@ -104,26 +104,26 @@ impl Ending {
     }
 }
 
-// The last whole depth with its score and line, the positions entered, and the stats of each whole depth.
+// The last completed depth with its score and variation, the positions entered, and the stats of each completed depth.
 pub struct Report {
     pub state: Minimax,
     pub ending: Ending,
     pub depth: u64,
     pub score: i64,
     pub count: u64,
-    pub line: [Move; PLACES],
+    pub pv: [Move; PLACES],
     pub stats: [Stats; PLACES],
 }
 
 // Whether a search may begin.
-enum Entry {
+enum EntryAnswer {
     Allowed,
     Refused(SearchError),
 }
 
-// What the whole depths have come to: the last one, its score and line, and the stats of each.
-struct Depths {
-    pub line: Line,
+// What the completed depths have come to: the last one, its score and variation, and the stats of each.
+struct CompletedDepths {
+    pub pv: Pv,
     pub stats: [Stats; PLACES],
     pub depth: u8,
     pub score: i64,
@@ -140,7 +140,7 @@ impl Stats {
         tt_suffice: 0,
     };
 
-    fn of(depth: u8, r: Found) -> Stats
+    fn of(depth: u8, r: NodeResult) -> Stats
         ensures { λ x. ⌜ stats-of x ≡ record { depth = depth; score = r .score; tally = tally-of (r .state) } ⌝ }
     {
         let state = r.state;
@@ -158,36 +158,36 @@ impl Stats {
 
 impl Config {
     // Refusals 15 to 17.
-    fn check(self, words: usize) -> Entry
+    fn check(self, words: usize) -> EntryAnswer
         ensures { λ r. ⌜ entry-number r ≡ entry-refusal (settings-of self) words ⌝ }
     {
         if self.max_depth == 0 {
-            return Entry::Refused(SearchError::Depth);
+            return EntryAnswer::Refused(SearchError::Depth);
         }
         if self.max_depth > DEEPEST {
-            return Entry::Refused(SearchError::Depth);
+            return EntryAnswer::Refused(SearchError::Depth);
         }
         if self.allowance == 0 {
-            return Entry::Refused(SearchError::Allowance);
+            return EntryAnswer::Refused(SearchError::Allowance);
         }
         if self.allowance > MOST_POSITIONS {
-            return Entry::Refused(SearchError::Allowance);
+            return EntryAnswer::Refused(SearchError::Allowance);
         }
         if words % 3 != 0 {
-            return Entry::Refused(SearchError::Words);
+            return EntryAnswer::Refused(SearchError::Words);
         }
         if words > MOST_WORDS {
-            return Entry::Refused(SearchError::Words);
+            return EntryAnswer::Refused(SearchError::Words);
         }
-        Entry::Allowed
+        EntryAnswer::Allowed
     }
 
-    // What is asked of the root, one depth after the last whole one.
-    fn ask(self, game: Game, values: Values, whole: Depths) -> Ask
-        requires { ⌜ whole .depth < console .deepest ⌝ }
+    // The node of the root, one depth after the last completed one.
+    fn root(self, game: Game, values: Values, completed: CompletedDepths) -> Node
+        requires { ⌜ completed .depth < console .deepest ⌝ }
         ensures { λ r. ⌜ r ≡ record {
           game = game;
-          depth = whole .depth + 1;
+          depth = completed .depth + 1;
           alpha = lowest;
           beta = highest;
           prev = record { bits = no-move };
@@ -197,9 +197,9 @@ impl Config {
         } ⌝ }
     {
         let draw_winner = self.draw_winner;
-        Ask {
+        Node {
             game,
-            depth: whole.depth + 1,
+            depth: completed.depth + 1,
             alpha: EVAL_LOST - 1,
             beta: EVAL_WON + 1,
             prev: Move::NONE,
@@ -210,12 +210,12 @@ impl Config {
     }
 }
 
-impl Depths {
-    fn none() -> Depths
-        ensures { λ r. ⌜ (whole-of r ≡ nothing-yet) × Empty-on r ⌝ }
+impl CompletedDepths {
+    fn none() -> CompletedDepths
+        ensures { λ r. ⌜ (completed-of r ≡ nothing-yet) × Empty-on r ⌝ }
     {
-        Depths {
-            line: Line::empty(),
+        CompletedDepths {
+            pv: Pv::empty(),
             stats: [Stats::NONE; PLACES],
             depth: 0,
             score: 0,
@@ -223,19 +223,19 @@ impl Depths {
     }
 
     // One depth more.
-    fn deeper(self, r: Found) -> Depths
+    fn deeper(self, r: NodeResult) -> CompletedDepths
         requires { ⌜ (self .depth < console .deepest) × Empty-on self
-            × (drop (self .depth + 1) (r .line .moves) ≡ drop (self .depth + 1) (self .line .moves)) ⌝ }
-        ensures { λ x. ⌜ (whole-of x ≡ one-deeper (whole-of self) (r .score) (line-of (r .line) (self .depth + 1)) (tally-of (r .state)))
-            × Empty-on x × (x .line ≡ r .line) ⌝ }
+            × (drop (self .depth + 1) (r .pv .moves) ≡ drop (self .depth + 1) (self .pv .moves)) ⌝ }
+        ensures { λ x. ⌜ (completed-of x ≡ one-deeper (completed-of self) (r .score) (pv-of (r .pv) (self .depth + 1)) (tally-of (r .state)))
+            × Empty-on x × (x .pv ≡ r .pv) ⌝ }
     {
         let mut stats = self.stats;
         let at = self.depth as usize;
         let depth = self.depth + 1;
         stats[at] = Stats::of(depth, r);
-        let line = r.line;
-        Depths {
-            line,
+        let pv = r.pv;
+        CompletedDepths {
+            pv,
             stats,
             depth,
             score: r.score,
@@ -265,15 +265,15 @@ impl Depths {
         Ending::Stopped
     }
 
-    fn report(self, state: Search, stopped: bool) -> Report
+    fn report(self, state: SearchState, stopped: bool) -> Report
         requires { ⌜ Empty-on self ⌝ }
         ensures { λ r. ⌜ ((sc : Scoring) (game : Game) (words : List ℕ) → report-of r words
-            ≡ report (structs sc) game (record { is-stopped = stopped; whole = whole-of self; memory = memory-of state words })) ⌝ }
+            ≡ report (structs sc) game (record { is-stopped = stopped; completed = completed-of self; memory = memory-of state words })) ⌝ }
     {
         let x = state.responses_x;
         let o = state.responses_o;
-        let moves = self.line;
-        let line = moves.moves;
+        let moves = self.pv;
+        let pv = moves.moves;
         let stats = self.stats;
         let ending = self.ending(stopped);
         Report {
@@ -284,7 +284,7 @@ impl Depths {
             depth: self.depth as u64,
             score: self.score,
             count: state.count,
-            line,
+            pv,
             stats,
         }
     }
@@ -311,19 +311,19 @@ impl Minimax {
             depth: 0,
             score: 0,
             count: 0,
-            line: [Move::NONE; PLACES],
+            pv: [Move::NONE; PLACES],
             stats: [Stats::NONE; PLACES],
         }
     }
 
     // The search's state before its first depth.
-    fn begin(self) -> Search
+    fn begin(self) -> SearchState
         ensures { λ r. ⌜ ((words : List ℕ) → memory-of r words ≡ fresh-memory (responses-of (self .responses)) words) ⌝ }
     {
         let responses = self.responses;
         let x = responses.x;
         let o = responses.o;
-        Search {
+        SearchState {
             responses_x: x,
             responses_o: o,
             count: 0,
@@ -341,25 +341,25 @@ impl Minimax {
             ≡ report (structs (scoring-of config)) game (answer-of self game config (now (words .entry))) ⌝ }
     {
         let values = Values::new(game);
-        let mut whole = Depths::none();
+        let mut completed = CompletedDepths::none();
         let mut s = self.begin();
-        while (whole.depth as u64) < config.max_depth {
+        while (completed.depth as u64) < config.max_depth {
             let r = search::minimax(
-                config.ask(game, values, whole),
+                config.root(game, values, completed),
                 s.begin(),
-                whole.line,
+                completed.pv,
                 words,
             );
             if r.stopped {
-                return whole.report(r.state, true);
+                return completed.report(r.state, true);
             }
-            whole = whole.deeper(r);
+            completed = completed.deeper(r);
             s = r.state;
-            if whole.is_decided() {
-                return whole.report(s, false);
+            if completed.is_decided() {
+                return completed.report(s, false);
             }
         }
-        whole.report(s, false)
+        completed.report(s, false)
     }
 
     // Depth 1, 2, .. to the limit, ending sooner at a won or lost score, or when the allowance is spent.
@@ -367,8 +367,8 @@ impl Minimax {
         ensures { λ r. ⌜ report-of r (now (words .exit)) ≡ reported-of self game config (now (words .entry)) ⌝ }
     {
         match config.check(words.len()) {
-            Entry::Refused(why) => self.refused(why),
-            Entry::Allowed => self.deepen(game, config, words),
+            EntryAnswer::Refused(why) => self.refused(why),
+            EntryAnswer::Allowed => self.deepen(game, config, words),
         }
     }
 }

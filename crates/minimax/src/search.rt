@@ -1,7 +1,7 @@
 // The ordered search: of a position, and over its remaining moves. Its state goes in and comes back by value; only the table's words
 // are lent.
 // Ported from src/lib/minimax.rs of nelhage/ultimattt at commit 87ef0d9c7c (Apache-2.0, see NOTICE), changed: `minimax` is two functions that
-// call each other, lines have a place for each depth, and an allowance counts the positions entered.
+// call each other, variations have a place for each depth, and an allowance counts the positions entered.
 ghost use mathlib.Core.Path.{_≡_};
 ghost use mathlib.Core.Bool.{true, false, not, _||_};
 ghost use mathlib.Core.List.{List, _∷_};
@@ -12,7 +12,7 @@ ghost use lib.ListN.{getD, drop, set};
 ghost use lib.Signed.{leZ, ltZ};
 ghost use Rattle.base.specs.Branch.{if_then_else_};
 ghost use Rattle.rules.specs.Board.{other};
-ghost use Rattle.rules.specs.Position.{going};
+ghost use Rattle.rules.specs.Position.{unfinished};
 ghost use Rattle.rules.specs.Play.{no-move};
 ghost use Rattle.rules.specs.Evaluation.{evaluate};
 ghost use Rattle.theory.specs.Limits.{console};
@@ -21,22 +21,22 @@ ghost use Rattle.theory.specs.Table.{suffices, bound-of};
 ghost use Rattle.theory.specs.OrderedSearch.{candidates};
 ghost use Rattle.table.specs.Entries.{bound-number, entry-means};
 ghost use Rattle.game.specs.Meaning.{position-of};
-ghost use Rattle.order.specs.Order.{walk-left};
-ghost use Rattle.minimax.specs.State.{memory-of, line-of, empty-line, asked-scoring, asked-game, outcome-of, searched, over-all, then-told, values-below, Valued, Within, Asked, Counted, Ready, Gives};
+ghost use Rattle.order.specs.Order.{order-left};
+ghost use Rattle.minimax.specs.State.{memory-of, pv-of, empty-pv, node-scoring, node-game, outcome-of, node-outcome, over-all, then-stored, values-below, Valued, Within, NodeFits, Counted, Ready, NodeGives};
 use boards::Move;
 use boards::PLACES;
 use evaluation::Values;
 use game::Game;
-use order::Child;
-use order::Walk;
+use order::MoveOrder;
+use order::NextMove;
 use rules::DrawWinner;
 use rules::Player;
 use table::Bound;
 use table::Entry;
-use table::Held;
+use table::LookupResult;
 
 // The search's state: the two response tables, the positions entered over all depths, and the counts of `Stats`.
-pub(crate) struct Search {
+pub(crate) struct SearchState {
     pub responses_x: [Move; 256],
     pub responses_o: [Move; 256],
     pub count: u64,
@@ -47,12 +47,12 @@ pub(crate) struct Search {
     pub tt_suffice: u64,
 }
 
-pub(crate) struct Line {
+pub(crate) struct Pv {
     pub moves: [Move; PLACES],
 }
 
-// What the search of a position is asked; the values are those of its nine boards.
-pub(crate) struct Ask {
+// A position to be searched, and how; the values are those of its nine boards.
+pub(crate) struct Node {
     pub game: Game,
     pub depth: u8,
     pub alpha: i64,
@@ -63,62 +63,62 @@ pub(crate) struct Ask {
     pub values: Values,
 }
 
-// What a search found; the line and score of a stopped one say nothing.
-pub(crate) struct Found {
-    pub state: Search,
-    pub line: Line,
+// What a search found; the variation and score of a stopped one say nothing.
+pub(crate) struct NodeResult {
+    pub state: SearchState,
+    pub pv: Pv,
     pub score: i64,
     pub stopped: bool,
 }
 
-// Where the search over a position's moves stands: the lower edge by now, and its line.
+// Where the search over a position's moves stands: the lower edge by now, and its variation.
 pub(crate) struct Best {
-    pub line: Line,
+    pub pv: Pv,
     pub score: i64,
 }
 
-impl Line {
-    pub(crate) fn empty() -> Line
-        ensures { λ r. ⌜ r ≡ empty-line ⌝ }
+impl Pv {
+    pub(crate) fn empty() -> Pv
+        ensures { λ r. ⌜ r ≡ empty-pv ⌝ }
     {
-        Line {
+        Pv {
             moves: [Move::NONE; PLACES],
         }
     }
 
     fn first(self) -> Move
-        ensures { λ r. ⌜ ((d : ℕ) → 0 < d → r .bits ≡ getD (line-of self d) 0 no-move) ⌝ }
+        ensures { λ r. ⌜ ((d : ℕ) → 0 < d → r .bits ≡ getD (pv-of self d) 0 no-move) ⌝ }
     {
         self.moves[0]
     }
 
     // A table's answer sets the first place alone.
-    fn with_first(self, m: Move) -> Line
+    fn with_first(self, m: Move) -> Pv
         ensures { λ r. ⌜ r ≡ record { moves = set (self .moves) 0 m } ⌝ }
     {
-        let mut line = self;
-        line.moves[0] = m;
-        line
+        let mut pv = self;
+        pv.moves[0] = m;
+        pv
     }
 
-    // A move and the line below it, in so many places; the others stay.
-    fn with_line(self, m: Move, below: Line, depth: u8) -> Line
+    // A move and the variation below it, in so many places; the others stay.
+    fn with_pv(self, m: Move, below: Pv, depth: u8) -> Pv
         requires { ⌜ (0 < depth) × (depth ≤ console .deepest) ⌝ }
-        ensures { λ r. ⌜ (line-of r depth ≡ m .bits ∷ line-of below (depth - 1)) × (drop depth (r .moves) ≡ drop depth (self .moves)) ⌝ }
+        ensures { λ r. ⌜ (pv-of r depth ≡ m .bits ∷ pv-of below (depth - 1)) × (drop depth (r .moves) ≡ drop depth (self .moves)) ⌝ }
     {
-        let mut line = self;
-        line.moves[0] = m;
+        let mut pv = self;
+        pv.moves[0] = m;
         let n = (depth as usize) - 1;
         for i in 0..n {
-            line.moves[i + 1] = below.moves[i];
+            pv.moves[i + 1] = below.moves[i];
         }
-        line
+        pv
     }
 }
 
-impl Search {
+impl SearchState {
     // A depth begins.
-    pub(crate) fn begin(self) -> Search
+    pub(crate) fn begin(self) -> SearchState
         ensures { λ r. ⌜ ((words : List ℕ) → memory-of r words ≡ begin (memory-of self words)) ⌝ }
     {
         let mut s = self;
@@ -131,7 +131,7 @@ impl Search {
     }
 
     // A position is entered.
-    fn enter(self) -> Search
+    fn enter(self) -> SearchState
         requires { ⌜ (self .count < console .positions) × (self .visited < console .positions) ⌝ }
         ensures { λ r. ⌜ ((words : List ℕ) → memory-of r words ≡ enter (memory-of self words)) ⌝ }
     {
@@ -142,7 +142,7 @@ impl Search {
     }
 
     // It is not searched further.
-    fn leaf(self) -> Search
+    fn leaf(self) -> SearchState
         requires { ⌜ self .terminal < console .positions ⌝ }
         ensures { λ r. ⌜ ((words : List ℕ) → memory-of r words ≡ leaf (memory-of self words)) ⌝ }
     {
@@ -152,7 +152,7 @@ impl Search {
     }
 
     // The table has an entry for it.
-    fn hit(self) -> Search
+    fn hit(self) -> SearchState
         requires { ⌜ self .«tt_hit» < console .positions ⌝ }
         ensures { λ r. ⌜ ((words : List ℕ) → memory-of r words ≡ hit (memory-of self words)) ⌝ }
     {
@@ -162,7 +162,7 @@ impl Search {
     }
 
     // Which suffices.
-    fn suffice(self) -> Search
+    fn suffice(self) -> SearchState
         requires { ⌜ self .«tt_suffice» < console .positions ⌝ }
         ensures { λ r. ⌜ ((words : List ℕ) → memory-of r words ≡ answered (memory-of self words)) ⌝ }
     {
@@ -183,7 +183,7 @@ impl Search {
     }
 
     // A cut by a move, which becomes the response to the previous one.
-    fn cut(self, turn: Player, prev: Move, m: Move) -> Search
+    fn cut(self, turn: Player, prev: Move, m: Move) -> SearchState
         requires { ⌜ self .cuts < console .positions ⌝ }
         ensures { λ r. ⌜ ((words : List ℕ) → memory-of r words ≡ cut turn (memory-of self words) (prev .bits) (m .bits)) ⌝ }
     {
@@ -202,55 +202,55 @@ impl Search {
     }
 }
 
-impl Found {
-    fn stop(state: Search, line: Line) -> Found
-        ensures { λ r. ⌜ r ≡ record { state = state; line = line; score = pos 0; stopped = true } ⌝ }
+impl NodeResult {
+    fn stop(state: SearchState, pv: Pv) -> NodeResult
+        ensures { λ r. ⌜ r ≡ record { state = state; pv = pv; score = pos 0; stopped = true } ⌝ }
     {
-        Found {
+        NodeResult {
             state,
-            line,
+            pv,
             score: 0,
             stopped: true,
         }
     }
 
     // What the table knows.
-    fn known(state: Search, line: Line, e: Entry) -> Found
+    fn known(state: SearchState, pv: Pv, e: Entry) -> NodeResult
         ensures { λ r. ⌜ r ≡ record {
           state = state;
-          line = record { moves = set (line .moves) 0 (e .pv) };
+          pv = record { moves = set (pv .moves) 0 (e .pv) };
           score = e .value;
           stopped = false;
         } ⌝ }
     {
-        let pv = e.pv;
-        let line = line.with_first(pv);
-        Found {
+        let first = e.pv;
+        let pv = pv.with_first(first);
+        NodeResult {
             state,
-            line,
+            pv,
             score: e.value,
             stopped: false,
         }
     }
 
-    fn of(state: Search, best: Best) -> Found
-        ensures { λ r. ⌜ r ≡ record { state = state; line = best .line; score = best .score; stopped = false } ⌝ }
+    fn of(state: SearchState, best: Best) -> NodeResult
+        ensures { λ r. ⌜ r ≡ record { state = state; pv = best .pv; score = best .score; stopped = false } ⌝ }
     {
-        let line = best.line;
-        Found {
+        let pv = best.pv;
+        NodeResult {
             state,
-            line,
+            pv,
             score: best.score,
             stopped: false,
         }
     }
 }
 
-// The response, or lacking one the line's move.
-fn hint(answer: Move, line: Move) -> Move
-    ensures { λ r. ⌜ r ≡ (if eqb (answer .bits) no-move then (λ _. line) else λ _. answer) ⌝ }
+// The response, or lacking one the variation's move.
+fn hint(answer: Move, pv: Move) -> Move
+    ensures { λ r. ⌜ r ≡ (if eqb (answer .bits) no-move then (λ _. pv) else λ _. answer) ⌝ }
 {
-    if answer.is_none() { line } else { answer }
+    if answer.is_none() { pv } else { answer }
 }
 
 impl Best {
@@ -262,25 +262,22 @@ impl Best {
         -score > self.score
     }
 
-    // It becomes that edge, and the line is its move and the line below.
-    fn raise(self, m: Move, score: i64, below: Line, depth: u8) -> Best
+    // It becomes that edge, and the variation is its move and the variation below.
+    fn raise(self, m: Move, score: i64, below: Pv, depth: u8) -> Best
         requires { ⌜ Within score × (0 < depth) × (depth ≤ console .deepest) ⌝ }
-        ensures { λ b. ⌜ (b .score ≡ negℤ score) × (line-of (b .line) depth ≡ m .bits ∷ line-of below (depth - 1))
-            × (drop depth (b .line .moves) ≡ drop depth (self .line .moves)) ⌝ }
+        ensures { λ b. ⌜ (b .score ≡ negℤ score) × (pv-of (b .pv) depth ≡ m .bits ∷ pv-of below (depth - 1))
+            × (drop depth (b .pv .moves) ≡ drop depth (self .pv .moves)) ⌝ }
     {
-        let old = self.line;
-        let line = old.with_line(m, below, depth);
-        Best {
-            line,
-            score: -score,
-        }
+        let old = self.pv;
+        let pv = old.with_pv(m, below, depth);
+        Best { pv, score: -score }
     }
 }
 
 // ---- the steps of a search, none of which calls another search
-impl Ask {
+impl Node {
     fn is_leaf(self) -> bool
-        ensures { λ r. ⌜ r ≡ (eqb (self .depth) 0 || not (going (position-of (self .game)))) ⌝ }
+        ensures { λ r. ⌜ r ≡ (eqb (self .depth) 0 || not (unfinished (position-of (self .game)))) ⌝ }
     {
         if self.depth == 0 {
             return true;
@@ -292,7 +289,7 @@ impl Ask {
     // The evaluation, at a position that is not searched further.
     fn evaluate(self) -> i64
         requires { ⌜ Valued self ⌝ }
-        ensures { λ r. ⌜ r ≡ evaluate (asked-scoring self) (position-of (self .game)) ⌝ }
+        ensures { λ r. ⌜ r ≡ evaluate (node-scoring self) (position-of (self .game)) ⌝ }
     {
         let game = self.game;
         let values = self.values;
@@ -300,18 +297,18 @@ impl Ask {
         values.evaluate(game, draw_winner)
     }
 
-    fn evaluated(self, state: Search, line: Line) -> Found
+    fn evaluated(self, state: SearchState, pv: Pv) -> NodeResult
         requires { ⌜ Valued self ⌝ }
         ensures { λ r. ⌜ r ≡ record {
           state = state;
-          line = line;
-          score = evaluate (asked-scoring self) (position-of (self .game));
+          pv = pv;
+          score = evaluate (node-scoring self) (position-of (self .game));
           stopped = false;
         } ⌝ }
     {
-        Found {
+        NodeResult {
             state,
-            line,
+            pv,
             score: self.evaluate(),
             stopped: false,
         }
@@ -333,7 +330,7 @@ impl Ask {
     }
 
     // What a score is for the window.
-    fn bound_of(self, r: Found) -> Bound
+    fn bound_of(self, r: NodeResult) -> Bound
         ensures { λ b. ⌜ bound-number b ≡ bound-of (self .alpha) (self .beta) (r .score) ⌝ }
     {
         if r.score <= self.alpha {
@@ -346,17 +343,17 @@ impl Ask {
     }
 
     // Stores what the search over the moves found, unless it was stopped.
-    fn leave(self, found: Found, words: &mut [u64])
+    fn store(self, found: NodeResult, words: &mut [u64])
         requires { ⌜ (0 < self .depth) × (self .depth ≤ console .deepest) ⌝ }
-        ensures { λ _. ⌜ outcome-of self found (now (words .exit)) ≡ then-told self (outcome-of self found (now (words .entry))) ⌝ }
+        ensures { λ _. ⌜ outcome-of self found (now (words .exit)) ≡ then-stored self (outcome-of self found (now (words .entry))) ⌝ }
     {
         if found.stopped {
             return;
         }
         let game = self.game;
-        let line = found.line;
+        let found_pv = found.pv;
         let bound = self.bound_of(found);
-        let pv = line.first();
+        let pv = found_pv.first();
         let entry = Entry {
             value: found.score,
             depth: self.depth,
@@ -366,30 +363,30 @@ impl Ask {
         table::store(words, game.zobrist(), entry);
     }
 
-    // The cursor over the moves: the table's move; the remembered answer, or lacking one the line's move; then the list.
-    fn walk(self, first: Move, state: Search, line: Line) -> Walk
+    // The cursor over the moves: the table's move; the response, or lacking one the variation's move; then the list.
+    fn order(self, first: Move, state: SearchState, pv: Pv) -> MoveOrder
         requires { ⌜ (0 < self .depth) × (self .depth ≤ console .deepest) ⌝ }
-        ensures { λ r. ⌜ ((words : List ℕ) → walk-left (self .game) r
-            ≡ candidates (asked-game self) (some-move (first .bits)) (memory-of state words) (self .game) (self .prev .bits) (line-of line (self .depth))) ⌝ }
+        ensures { λ r. ⌜ ((words : List ℕ) → order-left (self .game) r
+            ≡ candidates (node-game self) (some-move (first .bits)) (memory-of state words) (self .game) (self .prev .bits) (pv-of pv (self .depth))) ⌝ }
     {
         let game = self.game;
         let turn = game.next_player;
         let prev = self.prev;
-        let second = hint(state.response_to(turn, prev), line.first());
-        Walk::new(game, first, second)
+        let second = hint(state.response_to(turn, prev), pv.first());
+        MoveOrder::new(game, first, second)
     }
 
-    fn best(self, line: Line) -> Best
-        ensures { λ r. ⌜ r ≡ record { line = line; score = self .alpha } ⌝ }
+    fn best(self, pv: Pv) -> Best
+        ensures { λ r. ⌜ r ≡ record { pv = pv; score = self .alpha } ⌝ }
     {
         Best {
-            line,
+            pv,
             score: self.alpha,
         }
     }
 
-    // What is asked of the position after a move.
-    fn below(self, child: Child, best: Best) -> Ask
+    // The node of the position after a move.
+    fn below(self, child: NextMove, best: Best) -> Node
         requires { ⌜ (0 < self .depth) × Within (self .beta) × Within (best .score) ⌝ }
         ensures { λ r. ⌜ r ≡ record {
           game = child .game;
@@ -407,7 +404,7 @@ impl Ask {
         let old = self.values;
         let values = old.after(game, prev.global());
         let draw_winner = self.draw_winner;
-        Ask {
+        Node {
             game,
             depth: self.depth - 1,
             alpha: -self.beta,
@@ -426,7 +423,7 @@ impl Ask {
         best.score >= self.beta
     }
 
-    fn cut(self, state: Search, m: Move) -> Search
+    fn cut(self, state: SearchState, m: Move) -> SearchState
         requires { ⌜ state .cuts < console .positions ⌝ }
         ensures { λ r. ⌜ ((words : List ℕ) → memory-of r words
             ≡ cut (self .game .«next_player») (memory-of state words) (self .prev .bits) (m .bits)) ⌝ }
@@ -439,56 +436,56 @@ impl Ask {
 }
 
 // ---- the search of a position, and over its remaining moves
-pub(crate) fn minimax(a: Ask, state: Search, line: Line, words: &mut [u64]) -> Found
-    requires { ⌜ Asked a × Counted a state ⌝ }
-    ensures { λ r. ⌜ Gives a line r (now (words .exit)) (searched a state line (now (words .entry))) ⌝ }
+pub(crate) fn minimax(a: Node, state: SearchState, pv: Pv, words: &mut [u64]) -> NodeResult
+    requires { ⌜ NodeFits a × Counted a state ⌝ }
+    ensures { λ r. ⌜ NodeGives a pv r (now (words .exit)) (node-outcome a state pv (now (words .entry))) ⌝ }
 {
     if state.count >= a.allowance {
-        return Found::stop(state, line);
+        return NodeResult::stop(state, pv);
     }
     let mut s = state.enter();
     if a.is_leaf() {
-        return a.evaluated(s.leaf(), line);
+        return a.evaluated(s.leaf(), pv);
     }
     let game = a.game;
     let mut first = Move::none();
     let held = table::lookup(words, game.zobrist());
     match held {
-        Held::Absent => {}
-        Held::Entry(e) => {
+        LookupResult::Absent => {}
+        LookupResult::Entry(e) => {
             s = s.hit();
             if a.suffices(e) {
-                return Found::known(s.suffice(), line, e);
+                return NodeResult::known(s.suffice(), pv, e);
             }
             first = e.pv;
         }
     }
-    let f = moves(a, first, s, line, words);
-    a.leave(f, words);
+    let f = moves(a, first, s, pv, words);
+    a.store(f, words);
     f
 }
 
-fn moves(a: Ask, first: Move, state: Search, line: Line, words: &mut [u64]) -> Found
-    requires { ⌜ Asked a × Ready a state ⌝ }
-    ensures { λ r. ⌜ Gives a line r (now (words .exit)) (over-all a first state line (now (words .entry))) ⌝ }
+fn moves(a: Node, first: Move, state: SearchState, pv: Pv, words: &mut [u64]) -> NodeResult
+    requires { ⌜ NodeFits a × Ready a state ⌝ }
+    ensures { λ r. ⌜ NodeGives a pv r (now (words .exit)) (over-all a first state pv (now (words .entry))) ⌝ }
 {
     let game = a.game;
-    let mut walk = a.walk(first, state, line);
+    let mut order = a.order(first, state, pv);
     let mut s = state;
-    let mut best = a.best(line);
-    let mut local = Line::empty();
+    let mut best = a.best(pv);
+    let mut local = Pv::empty();
     loop {
-        let child = walk.next(game);
+        let child = order.next(game);
         let m = child.m;
         if m.is_none() {
-            return Found::of(s, best);
+            return NodeResult::of(s, best);
         }
-        walk = child.walk;
+        order = child.order;
         let below = a.below(child, best);
         let mut score: i64 = 0;
         if below.is_leaf() {
             if s.count >= a.allowance {
-                return Found::stop(s, local);
+                return NodeResult::stop(s, local);
             }
             s = s.enter().leaf();
             score = below.evaluate();
@@ -498,13 +495,13 @@ fn moves(a: Ask, first: Move, state: Search, line: Line, words: &mut [u64]) -> F
                 return r;
             }
             s = r.state;
-            local = r.line;
+            local = r.pv;
             score = r.score;
         }
         if best.is_below(score) {
             best = best.raise(m, score, local, a.depth);
             if a.is_cut(best) {
-                return Found::of(a.cut(s, m), best);
+                return NodeResult::of(a.cut(s, m), best);
             }
         }
     }

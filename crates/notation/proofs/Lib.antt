@@ -1,9 +1,9 @@
 pub mod Finding
-pub mod Marks
-pub mod Overall
-pub mod Cells
-pub mod Answers
-pub mod Bytes
-pub mod RoundTrip
-pub mod Moves
-pub mod ReadGames
+pub mod PartsMarks
+pub mod PartsOverall
+pub mod PartsCells
+pub mod ParsedAnswers
+pub mod PartsBytes
+pub mod ParsedRoundTrip
+pub mod ParsedMoves
+pub mod ParsedGames

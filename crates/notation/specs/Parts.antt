@@ -43,7 +43,7 @@ abbrev pub refused : ErrorKind → ℕ → ℕ → Parsed
 refused why o l = record { game = new-game; answer = Refused (record { why = why; offset = o; length = l }) }
 
 -- the answer says what was read, and the game is the one for it
-pub record Gives (x : Reading) (r : Parsed) : Type 0 where
+pub record AnswersReading (x : Reading) (r : Parsed) : Type 0 where
   pub says : reading-of (r .answer) (r .game) ≡ x
   pub game-is : r .game ≡ game-for x
 
@@ -66,13 +66,13 @@ mark-said (State g) = some g
 mark-said BadMark = none
 
 -- what mark i, the byte c, makes due
-unfoldable pub due-by : ℕ → ℕ → NextBoard
-due-by c i = if eqb c at-mark then (λ _. Only i) else λ _. Any
+unfoldable pub next-board-by : ℕ → ℕ → NextBoard
+next-board-by c i = if eqb c at-mark then (λ _. Only i) else λ _. Any
 
 -- the first of two that is a board
-abbrev pub due-or : NextBoard → NextBoard → NextBoard
-due-or Any d = d
-due-or (Only b) d = Only b
+abbrev pub next-board-or : NextBoard → NextBoard → NextBoard
+next-board-or Any d = d
+next-board-or (Only b) d = Only b
 
 -- the boards' states, with no bit beyond the nine, and the next board
 pub record Marks-say (os : List ℕ) (s : GlobalStates) (n : NextBoard) : Type 0 where
@@ -92,10 +92,10 @@ cell-said (Cell s) = some s
 cell-said BadCell = none
 
 -- the boards with what a mark says of cell c of board b
-abbrev pub with-mark : LocalBoards → ℕ → ℕ → Option CellState → LocalBoards
-with-mark l b c none = l
-with-mark l b c (some Empty) = l
-with-mark l b c (some (Played w)) = with-cell l b c w
+abbrev pub with-cell-mark : LocalBoards → ℕ → ℕ → Option CellState → LocalBoards
+with-cell-mark l b c none = l
+with-cell-mark l b c (some Empty) = l
+with-cell-mark l b c (some (Played w)) = with-cell l b c w
 
 abbrev pub fault-number : CellsAnswer → ℕ
 fault-number Right = 0

@@ -4,14 +4,14 @@
 ghost use mathlib.Core.Path.{_≡_};
 ghost use Prim.Native.Nat.{_≤_, _<_};
 ghost use lib.ListN.{length};
-ghost use Rattle.rules.specs.Position.{same-due};
+ghost use Rattle.rules.specs.Position.{same-next-board};
 ghost use Rattle.text.specs.Bytes.{letter};
 ghost use Rattle.text.specs.Reading.{side-of, overall-mark, cell-mark, fault-at, lone-side, read-side};
 ghost use Rattle.text.specs.Writing.{state-byte, cell-byte, text-of, byte-at};
 ghost use Rattle.text.specs.MoveText.{coordinate, move-text};
 ghost use Rattle.game.specs.Meaning.{position-of};
 ghost use Rattle.notation.specs.Parsed.{kind-number, parse-number, move-number, Parses, Parses-move};
-ghost use Rattle.notation.specs.Parts.{refused, Gives, Finds, side-said, mark-said, due-by, due-or, Reads-overall, cell-said, with-mark, fault-number, Reads-cells};
+ghost use Rattle.notation.specs.Parts.{refused, AnswersReading, Finds, side-said, mark-said, next-board-by, next-board-or, Reads-overall, cell-said, with-cell-mark, fault-number, Reads-cells};
 use boards::GlobalStates;
 use boards::LocalBoards;
 use boards::Move;
@@ -129,7 +129,7 @@ pub fn parse(text: &[u8]) -> Parsed
 
 // With one byte for the side and nine overall marks, the sections start at 0, 2 and 12.
 fn parse_sections(side: &[u8], overall: &[u8], cells: &[u8]) -> Parsed
-    ensures { λ r. ⌜ Gives (read-side (lone-side (now (side .entry))) (now (side .entry)) (now (overall .entry)) (now (cells .entry))) r ⌝ }
+    ensures { λ r. ⌜ AnswersReading (read-side (lone-side (now (side .entry))) (now (side .entry)) (now (overall .entry)) (now (cells .entry))) r ⌝ }
 {
     let Side::Of(who) = parse_player(side) else {
         return refuse(ErrorKind::BadPlayer, 0, side.len());
@@ -198,7 +198,7 @@ fn mark_of(byte: u8) -> Mark
 // What a board's mark makes due.
 fn next_of(byte: u8, board: usize) -> NextBoard
     requires { ⌜ board < 9 ⌝ }
-    ensures { λ r. ⌜ r ≡ due-by byte board ⌝ }
+    ensures { λ r. ⌜ r ≡ next-board-by byte board ⌝ }
 {
     if byte == b'@' {
         NextBoard::Only(board as u8)
@@ -209,7 +209,7 @@ fn next_of(byte: u8, board: usize) -> NextBoard
 
 // The first of two that is a board.
 fn either(next: NextBoard, other: NextBoard) -> NextBoard
-    ensures { λ r. ⌜ r ≡ due-or next other ⌝ }
+    ensures { λ r. ⌜ r ≡ next-board-or next other ⌝ }
 {
     match next {
         NextBoard::Any => other,
@@ -259,7 +259,7 @@ fn cell_mark_of(byte: u8) -> CellMark
 
 // The boards with what a byte says of a cell.
 fn with_mark(boards: LocalBoards, board: usize, cell: usize, byte: u8) -> LocalBoards
-    ensures { λ r. ⌜ r ≡ with-mark boards board cell (cell-mark byte) ⌝ }
+    ensures { λ r. ⌜ r ≡ with-cell-mark boards board cell (cell-mark byte) ⌝ }
 {
     let CellMark::Cell(state) = cell_mark_of(byte) else {
         return boards;
@@ -353,7 +353,7 @@ fn cell_byte(cell: CellState) -> u8
 }
 
 fn is_next(next: NextBoard, board: usize) -> bool
-    ensures { λ r. ⌜ r ≡ same-due next (NextBoard.Only board) ⌝ }
+    ensures { λ r. ⌜ r ≡ same-next-board next (NextBoard.Only board) ⌝ }
 {
     match next {
         NextBoard::Any => false,

@@ -1,4 +1,4 @@
-pub mod Marks
-pub mod Cursors
-pub mod Orders
-pub mod Walks
+pub mod OrderMarks
+pub mod OrderCursor
+pub mod OrderCandidates
+pub mod OrderSteps

@@ -1,4 +1,4 @@
--- The order in which a position's moves are searched: what a walk means, and one step of it.
+-- The order in which a position's moves are searched: what it means, and one step of it.
 use mathlib.Core.Path.{_≡_}
 use mathlib.Core.Bool.{Bool, _||_}
 use mathlib.Core.List.{List, [], _∷_, _++_}
@@ -14,25 +14,25 @@ use Rattle.game.specs.declared.Game.{Game}
 use Rattle.game.specs.Meaning.{position-of}
 use Rattle.game.specs.After.{game-after}
 use Rattle.order.specs.declared.Seen.{Seen}
-use Rattle.order.specs.declared.Order.{Order}
-use Rattle.order.specs.declared.Ordered.{Ordered}
-use Rattle.order.specs.declared.Ordered.the-variants.{Next, End}
-use Rattle.order.specs.declared.Walk.{Walk}
-use Rattle.order.specs.declared.Child.{Child}
+use Rattle.order.specs.declared.Candidates.{Candidates}
+use Rattle.order.specs.declared.NextCandidate.{NextCandidate}
+use Rattle.order.specs.declared.NextCandidate.the-variants.{Next, End}
+use Rattle.order.specs.declared.MoveOrder.{MoveOrder}
+use Rattle.order.specs.declared.NextMove.{NextMove}
 
--- ---- a walk means its marks, one for each of the 256 moves, and the moves still to be met
+-- ---- a move order means its marks, one for each of the 256 moves, and the moves still to be met
 unfoldable pub marked : Seen → ℕ → Bool
 marked s m = bit (getD (s .marks) (m / 64) 0) (m % 64)
 
-unfoldable pub order-left : Order → List ℕ
-order-left o = some-move (o .first .bits) ++ (some-move (o .second .bits) ++ moves-left (o .list))
+unfoldable pub candidates-left : Candidates → List ℕ
+candidates-left o = some-move (o .first .bits) ++ (some-move (o .second .bits) ++ moves-left (o .list))
 
 -- the next move in that order
-abbrev pub OrderedIs : List ℕ → Ordered → Type 0
-OrderedIs [] (Next m o) = ⊥
-OrderedIs [] End = Unit {0}
-OrderedIs (m ∷ ms) (Next k o) = (k .bits ≡ m) × (order-left o ≡ ms)
-OrderedIs (m ∷ ms) End = ⊥
+abbrev pub NextCandidateIs : List ℕ → NextCandidate → Type 0
+NextCandidateIs [] (Next m o) = ⊥
+NextCandidateIs [] End = Unit {0}
+NextCandidateIs (m ∷ ms) (Next k o) = (k .bits ≡ m) × (candidates-left o ≡ ms)
+NextCandidateIs (m ∷ ms) End = ⊥
 
 -- ---- a step: the move found, or the empty one; the marks by then; the moves left
 pub record Step : Type 0 where
@@ -52,15 +52,15 @@ step ok seen (m ∷ ms) =
     λ _. if ok m then (λ _. record { found = m; marks = with-mark seen m; left = ms }) else λ _. step ok (with-mark seen m) ms
 
 -- over the moves that a game accepts
-abbrev pub step-of : Game → Walk → Step
-step-of g w = step (accepts (position-of g)) (marked (w .seen)) (order-left (w .left))
+abbrev pub step-of : Game → MoveOrder → Step
+step-of g w = step (accepts (position-of g)) (marked (w .seen)) (candidates-left (w .left))
 
 -- the move found and the game after it, with the rest; where none is found the empty move and the game itself, as no game accepts that move
-pub record NextOf (g : Game) (w : Walk) (r : Child) : Type 0 where
+pub record NextOf (g : Game) (w : MoveOrder) (r : NextMove) : Type 0 where
   pub move-is : r .m .bits ≡ step-of g w .found
   pub game-is : r .game ≡ game-after g (step-of g w .found)
-  pub marks-are : (k : ℕ) → marked (r .walk .seen) k ≡ step-of g w .marks k
-  pub left-are : order-left (r .walk .left) ≡ step-of g w .left
+  pub marks-are : (k : ℕ) → marked (r .order .seen) k ≡ step-of g w .marks k
+  pub left-are : candidates-left (r .order .left) ≡ step-of g w .left
 
 -- ---- all the steps: those that are accepted, each once; those that are marked are passed over
 unfoldable pub unmarked : (ok : ℕ → Bool) → (seen : ℕ → Bool) → List ℕ → List ℕ
@@ -69,5 +69,5 @@ unmarked ok seen (m ∷ ms) =
     if seen m then (λ _. unmarked ok seen ms) else
     λ _. if ok m then (λ _. m ∷ unmarked ok (with-mark seen m) ms) else λ _. unmarked ok (with-mark seen m) ms
 
-abbrev pub walk-left : Game → Walk → List ℕ
-walk-left g w = unmarked (accepts (position-of g)) (marked (w .seen)) (order-left (w .left))
+abbrev pub order-left : Game → MoveOrder → List ℕ
+order-left g w = unmarked (accepts (position-of g)) (marked (w .seen)) (candidates-left (w .left))

@@ -10,7 +10,7 @@ ghost use mathlib.Core.List.{_++_};
 ghost use Rattle.rules.specs.Moves.{moves};
 ghost use Rattle.theory.specs.Memory.{some-move};
 ghost use Rattle.game.specs.Meaning.{position-of};
-ghost use Rattle.order.specs.Order.{marked, order-left, OrderedIs, NextOf};
+ghost use Rattle.order.specs.Order.{marked, candidates-left, NextCandidateIs, NextOf};
 use boards::Answer;
 use boards::Listed;
 use boards::Move;
@@ -79,21 +79,21 @@ impl Seen {
     }
 }
 
-// The moves still to be met: the table's move; the response, or lacking one the line's move; then the list. An empty move is none.
-pub struct Order {
+// The moves still to be met: the table's move; the response, or lacking one the variation's move; then the list. An empty move is none.
+pub struct Candidates {
     pub first: Move,
     pub second: Move,
     pub list: MoveIterator,
 }
 
-pub enum Ordered {
-    Next(Move, Order),
+pub enum NextCandidate {
+    Next(Move, Candidates),
     End,
 }
 
-impl Order {
-    fn next(self) -> Ordered
-        ensures { λ r. ⌜ OrderedIs (order-left self) r ⌝ }
+impl Candidates {
+    fn next(self) -> NextCandidate
+        ensures { λ r. ⌜ NextCandidateIs (candidates-left self) r ⌝ }
     {
         let none = Move::none();
         let first = self.first;
@@ -101,57 +101,57 @@ impl Order {
         let mut left = self;
         if first.is_some() {
             left.first = none;
-            return Ordered::Next(first, left);
+            return NextCandidate::Next(first, left);
         }
         if second.is_some() {
             left.second = none;
-            return Ordered::Next(second, left);
+            return NextCandidate::Next(second, left);
         }
         let list = self.list;
         match list.next() {
             Listed::Next(m, rest) => {
                 left.list = rest;
-                Ordered::Next(m, left)
+                NextCandidate::Next(m, left)
             }
-            Listed::End => Ordered::End,
+            Listed::End => NextCandidate::End,
         }
     }
 }
 
 // The cursor over a position's moves: those left, and those met.
-pub struct Walk {
-    pub left: Order,
+pub struct MoveOrder {
+    pub left: Candidates,
     pub seen: Seen,
 }
 
 // The next move that is no repeat and is accepted, the game after it, and the rest. The empty move says that there is none.
-pub struct Child {
+pub struct NextMove {
     pub game: Game,
-    pub walk: Walk,
+    pub order: MoveOrder,
     pub m: Move,
 }
 
-impl Walk {
-    pub fn new(game: Game, first: Move, second: Move) -> Walk
-        ensures { λ r. ⌜ (order-left (r .left) ≡ some-move (first .bits) ++ (some-move (second .bits) ++ moves (position-of game))) × ((k : ℕ) → marked (r .seen) k ≡ false) ⌝ }
+impl MoveOrder {
+    pub fn new(game: Game, first: Move, second: Move) -> MoveOrder
+        ensures { λ r. ⌜ (candidates-left (r .left) ≡ some-move (first .bits) ++ (some-move (second .bits) ++ moves (position-of game))) × ((k : ℕ) → marked (r .seen) k ≡ false) ⌝ }
     {
         let list = game.all_moves();
-        let left = Order {
+        let left = Candidates {
             first,
             second,
             list,
         };
         let seen = Seen::new();
-        Walk { left, seen }
+        MoveOrder { left, seen }
     }
 
-    pub fn next(self, game: Game) -> Child
+    pub fn next(self, game: Game) -> NextMove
         ensures { λ r. ⌜ NextOf game self r ⌝ }
     {
         let mut left = self.left;
         let mut seen = self.seen;
         loop {
-            let Ordered::Next(m, rest) = left.next() else {
+            let NextCandidate::Next(m, rest) = left.next() else {
                 break;
             };
             left = rest;
@@ -163,19 +163,19 @@ impl Walk {
             let answer = made.answer;
             if let Answer::Accepted = answer {
                 let after = made.game;
-                let walk = Walk { left, seen };
-                return Child {
+                let order = MoveOrder { left, seen };
+                return NextMove {
                     m,
                     game: after,
-                    walk,
+                    order,
                 };
             }
         }
-        let walk = Walk { left, seen };
-        Child {
+        let order = MoveOrder { left, seen };
+        NextMove {
             m: Move::none(),
             game,
-            walk,
+            order,
         }
     }
 }

@@ -3,13 +3,13 @@
 ghost use Prim.Native.Nat.{_<_};
 use boards::Move;
 use endgame::Analysis;
-use endgame::Stats;
+use endgame::EndgameStats;
 use game::Game;
 
 // The numbers before the moves.
 const HEAD: usize = 8;
 
-fn same_counts(numbers: &[u64], stats: Stats) -> bool {
+fn same_counts(numbers: &[u64], stats: EndgameStats) -> bool {
     if stats.attacker_critical as u64 != decimals::at(numbers, 2) {
         return false;
     }
@@ -30,8 +30,8 @@ fn same_counts(numbers: &[u64], stats: Stats) -> bool {
 
 fn same_analysis(numbers: &[u64], game: Game) -> bool {
     let analysis = Analysis::new(game);
-    let made = analysis.made;
-    if made.number() != decimals::at(numbers, 0) {
+    let answer = analysis.answer;
+    if answer.number() != decimals::at(numbers, 0) {
         return false;
     }
     let status = analysis.status();

@@ -6,79 +6,79 @@ use decimals::Count;
 use input::Input;
 use libc::STDOUT_FILENO;
 use notation::ParseAnswer;
-use records::Outcome;
-use records::Totals;
+use replay::Comparison;
+use replay::Totals;
 
 // The most numbers of a record.
 const MOST: usize = 256;
 
 // What is found of a record. `Unsound` and `Finished` agree, with document 01's refusal in place of the Rust's answer.
-pub enum Found {
+pub enum Expectation {
     Same,
     Unsound,
     Finished,
     Differs,
 }
 
-fn outcome(found: Found) -> Outcome {
+fn outcome(found: Expectation) -> Comparison {
     match found {
-        Found::Same => Outcome::Agrees,
-        Found::Unsound => Outcome::Apart,
-        Found::Finished => Outcome::Apart,
-        Found::Differs => Outcome::Differs,
+        Expectation::Same => Comparison::Agrees,
+        Expectation::Unsound => Comparison::Apart,
+        Expectation::Finished => Comparison::Apart,
+        Expectation::Differs => Comparison::Differs,
     }
 }
 
 // How many are unsound, with this one.
-fn more_unsound(before: usize, found: Found) -> usize {
+fn more_unsound(before: usize, found: Expectation) -> usize {
     match found {
-        Found::Unsound => input::one_more(before),
+        Expectation::Unsound => input::one_more(before),
         _ => before,
     }
 }
 
 // By the refusals that are expected, of the position or of its first listed move.
-fn kind(numbers: &[u64]) -> Found {
+fn kind(numbers: &[u64]) -> Expectation {
     if decimals::at(numbers, 0) == 14 {
-        return Found::Unsound;
+        return Expectation::Unsound;
     }
     if decimals::at(numbers, 9) == 10 {
-        return Found::Finished;
+        return Expectation::Finished;
     }
-    Found::Same
+    Expectation::Same
 }
 
 // The numbers are those of a whole record: eight, and three of each listed move.
-fn held(position: &[u8], numbers: &[u64], count: usize) -> Found {
+fn held(position: &[u8], numbers: &[u64], count: usize) -> Expectation {
     if count > MOST {
-        return Found::Differs;
+        return Expectation::Differs;
     }
     if count % 3 != 2 {
-        return Found::Differs;
+        return Expectation::Differs;
     }
     if count < 8 {
-        return Found::Differs;
+        return Expectation::Differs;
     }
     let parsed = notation::parse(position);
     let answer = parsed.answer;
     let ParseAnswer::Accepted = answer else {
-        return Found::Differs;
+        return Expectation::Differs;
     };
     if !expected::is_met(numbers, (count - 8) / 3, parsed.game) {
-        return Found::Differs;
+        return Expectation::Differs;
     }
     kind(numbers)
 }
 
 // What is found of a line. One that can't be read differs.
-fn compared(line: &[u8]) -> Found {
-    if records::tabs(line) != 1 {
-        return Found::Differs;
+fn compared(line: &[u8]) -> Expectation {
+    if replay::tabs(line) != 1 {
+        return Expectation::Differs;
     }
     let mut numbers = [0u64; MOST];
-    match decimals::numbers(records::field(line, 1), &mut numbers) {
-        Count::Of(count) => held(records::field(line, 0), &numbers, count),
-        Count::Bad => Found::Differs,
+    match decimals::numbers(replay::field(line, 1), &mut numbers) {
+        Count::Of(count) => held(replay::field(line, 0), &numbers, count),
+        Count::Bad => Expectation::Differs,
     }
 }
 

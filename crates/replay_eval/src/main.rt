@@ -3,9 +3,9 @@
 use decimals::Signed;
 use input::Input;
 use notation::ParseAnswer;
-use records::Draw;
-use records::Outcome;
-use records::Totals;
+use replay::Comparison;
+use replay::Draw;
+use replay::Totals;
 
 fn is_score(text: &[u8], score: i64) -> bool {
     match decimals::read_signed(text) {
@@ -20,25 +20,25 @@ fn agrees(position: &[u8], draw: &[u8], score: &[u8]) -> bool {
     let ParseAnswer::Accepted = answer else {
         return false;
     };
-    let Draw::To(winner) = records::draw_of(draw) else {
+    let Draw::To(winner) = replay::draw_of(draw) else {
         return false;
     };
     is_score(score, evaluation::evaluate(parsed.game, winner))
 }
 
 // What is found of a line. One that can't be read differs.
-fn outcome(line: &[u8]) -> Outcome {
-    if records::tabs(line) != 2 {
-        return Outcome::Differs;
+fn outcome(line: &[u8]) -> Comparison {
+    if replay::tabs(line) != 2 {
+        return Comparison::Differs;
     }
     if agrees(
-        records::field(line, 0),
-        records::field(line, 1),
-        records::field(line, 2),
+        replay::field(line, 0),
+        replay::field(line, 1),
+        replay::field(line, 2),
     ) {
-        Outcome::Agrees
+        Comparison::Agrees
     } else {
-        Outcome::Differs
+        Comparison::Differs
     }
 }
 

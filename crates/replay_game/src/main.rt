@@ -10,8 +10,8 @@ use boards::Row;
 use decimals::Count;
 use game::Game;
 use input::Input;
-use records::Outcome;
-use records::Totals;
+use replay::Comparison;
+use replay::Totals;
 use rules::GameState;
 use rules::NextBoard;
 use rules::Player;
@@ -275,24 +275,24 @@ fn is_apart(words: &[u64]) -> bool {
     }
 }
 
-fn judged(words: &[u64]) -> Outcome {
+fn judged(words: &[u64]) -> Comparison {
     if !agrees(words) {
-        return Outcome::Differs;
+        return Comparison::Differs;
     }
     if is_apart(words) {
-        Outcome::Apart
+        Comparison::Apart
     } else {
-        Outcome::Agrees
+        Comparison::Agrees
     }
 }
 
 // What is found of a line. One that is no list of numbers differs.
-fn outcome(line: &[u8], words: &mut [u64]) -> Outcome {
+fn outcome(line: &[u8], words: &mut [u64]) -> Comparison {
     let Count::Of(n) = decimals::numbers(line, words) else {
-        return Outcome::Differs;
+        return Comparison::Differs;
     };
     if n > words.len() {
-        return Outcome::Differs;
+        return Comparison::Differs;
     }
     judged(&words[0..n])
 }

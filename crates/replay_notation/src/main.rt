@@ -8,8 +8,8 @@ use game::Game;
 use input::Input;
 use notation::MoveTextAnswer;
 use notation::ParseAnswer;
-use records::Outcome;
-use records::Totals;
+use replay::Comparison;
+use replay::Totals;
 use status::Read;
 use status::Status;
 
@@ -226,24 +226,24 @@ fn is_apart(words: &[u64]) -> bool {
     }
 }
 
-fn judged(words: &[u64]) -> Outcome {
+fn judged(words: &[u64]) -> Comparison {
     if !agrees(words) {
-        return Outcome::Differs;
+        return Comparison::Differs;
     }
     if is_apart(words) {
-        Outcome::Apart
+        Comparison::Apart
     } else {
-        Outcome::Agrees
+        Comparison::Agrees
     }
 }
 
 // What is found of a line. One that is no list of numbers differs.
-fn outcome(line: &[u8], words: &mut [u64]) -> Outcome {
+fn outcome(line: &[u8], words: &mut [u64]) -> Comparison {
     let Count::Of(n) = decimals::numbers(line, words) else {
-        return Outcome::Differs;
+        return Comparison::Differs;
     };
     if n > words.len() {
-        return Outcome::Differs;
+        return Comparison::Differs;
     }
     judged(&words[0..n])
 }

@@ -8,16 +8,16 @@ use minimax::Config;
 use minimax::Minimax;
 use minimax::ResponseTables;
 use notation::ParseAnswer;
-use records::Draw;
-use records::Outcome;
+use replay::Comparison;
+use replay::Draw;
 use rules::DrawWinner;
 
 // The most numbers of a field.
 const MOST: usize = 1024;
 
 // What is found of a search, and the response tables after it.
-pub struct Step {
-    pub outcome: Outcome,
+pub struct ChainStep {
+    pub outcome: Comparison,
     pub state: Minimax,
 }
 
@@ -27,9 +27,9 @@ pub struct Begun {
     pub state: Minimax,
 }
 
-fn differs(state: Minimax) -> Step {
-    Step {
-        outcome: Outcome::Differs,
+fn differs(state: Minimax) -> ChainStep {
+    ChainStep {
+        outcome: Comparison::Differs,
         state,
     }
 }
@@ -96,7 +96,7 @@ fn searched(
     expected: &[u8],
     state: Minimax,
     table: &mut [u64],
-) -> Step {
+) -> ChainStep {
     let parsed = notation::parse(position);
     let answer = parsed.answer;
     let ParseAnswer::Accepted = answer else {
@@ -115,19 +115,25 @@ fn searched(
     }
     let after = report.state;
     if expected::is_refusal(&numbers) {
-        return Step {
-            outcome: Outcome::Apart,
+        return ChainStep {
+            outcome: Comparison::Apart,
             state: after,
         };
     }
-    Step {
-        outcome: Outcome::Agrees,
+    ChainStep {
+        outcome: Comparison::Agrees,
         state: after,
     }
 }
 
 // The searches of a line, of which there are `count`, each with the memory that the one before left.
-fn replayed(line: &[u8], count: usize, config: Config, begun: Minimax, table: &mut [u64]) -> Outcome
+fn replayed(
+    line: &[u8],
+    count: usize,
+    config: Config,
+    begun: Minimax,
+    table: &mut [u64],
+) -> Comparison
     requires { ⌜ count < 100000 ⌝ }
 {
     let draw_winner = config.draw_winner;
@@ -135,37 +141,37 @@ fn replayed(line: &[u8], count: usize, config: Config, begun: Minimax, table: &m
     let mut apart = false;
     let mut k: usize = 0;
     while k < count {
-        let Number::Is(max_depth) = decimals::read_number(records::field(line, 3 * k + 5)) else {
-            return Outcome::Differs;
+        let Number::Is(max_depth) = decimals::read_number(replay::field(line, 3 * k + 5)) else {
+            return Comparison::Differs;
         };
         let step = searched(
-            records::field(line, 3 * k + 4),
+            replay::field(line, 3 * k + 4),
             Config {
                 max_depth,
                 allowance: config.allowance,
                 draw_winner,
             },
-            records::field(line, 3 * k + 6),
+            replay::field(line, 3 * k + 6),
             state,
             table,
         );
         let outcome = step.outcome;
         match outcome {
-            Outcome::Agrees => {}
-            Outcome::Apart => {
+            Comparison::Agrees => {}
+            Comparison::Apart => {
                 apart = true;
             }
-            Outcome::Differs => {
-                return Outcome::Differs;
+            Comparison::Differs => {
+                return Comparison::Differs;
             }
         }
         state = step.state;
         k += 1;
     }
     if apart {
-        Outcome::Apart
+        Comparison::Apart
     } else {
-        Outcome::Agrees
+        Comparison::Agrees
     }
 }
 
@@ -177,15 +183,15 @@ fn clear(words: &mut [u64]) {
     }
 }
 
-fn run(line: &[u8], count: usize, draw_winner: DrawWinner, table: &mut [u64]) -> Outcome
+fn run(line: &[u8], count: usize, draw_winner: DrawWinner, table: &mut [u64]) -> Comparison
     requires { ⌜ count < 100000 ⌝ }
 {
-    let Number::Is(allowance) = decimals::read_number(records::field(line, 2)) else {
-        return Outcome::Differs;
+    let Number::Is(allowance) = decimals::read_number(replay::field(line, 2)) else {
+        return Comparison::Differs;
     };
-    let begun = begin(records::field(line, 3));
+    let begun = begin(replay::field(line, 3));
     if !begun.good {
-        return Outcome::Differs;
+        return Comparison::Differs;
     }
     clear(table);
     let config = Config {
@@ -197,30 +203,30 @@ fn run(line: &[u8], count: usize, draw_winner: DrawWinner, table: &mut [u64]) ->
 }
 
 // What is found of a line. One that can't be read differs.
-pub fn outcome(line: &[u8], words: &mut [u64]) -> Outcome {
-    let tabs = records::tabs(line);
+pub fn outcome(line: &[u8], words: &mut [u64]) -> Comparison {
+    let tabs = replay::tabs(line);
     if tabs % 3 != 0 {
-        return Outcome::Differs;
+        return Comparison::Differs;
     }
     let thirds = tabs / 3;
     if thirds < 2 {
-        return Outcome::Differs;
+        return Comparison::Differs;
     }
     if thirds > 1000 {
-        return Outcome::Differs;
+        return Comparison::Differs;
     }
-    let Number::Is(entries) = decimals::read_number(records::field(line, 0)) else {
-        return Outcome::Differs;
+    let Number::Is(entries) = decimals::read_number(replay::field(line, 0)) else {
+        return Comparison::Differs;
     };
     if entries > 65537 {
-        return Outcome::Differs;
+        return Comparison::Differs;
     }
-    let Draw::To(draw_winner) = records::draw_of(records::field(line, 1)) else {
-        return Outcome::Differs;
+    let Draw::To(draw_winner) = replay::draw_of(replay::field(line, 1)) else {
+        return Comparison::Differs;
     };
     let n = (entries as usize) * 3;
     if n > words.len() {
-        return Outcome::Differs;
+        return Comparison::Differs;
     }
     run(line, thirds - 1, draw_winner, &mut words[..n])
 }

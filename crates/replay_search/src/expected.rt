@@ -129,7 +129,7 @@ fn same_walk(numbers: &[u64], r: Report) -> bool {
     if numbers.len() != HEAD + 9 * depth {
         return false;
     }
-    let line = r.line;
+    let line = r.pv;
     if !same_line(numbers, depth, line) {
         return false;
     }

@@ -5,7 +5,7 @@ mod digest;
 mod expected;
 
 use input::Input;
-use records::Totals;
+use replay::Totals;
 
 // A table's words, enough for one entry more than a search takes.
 const ROOM: usize = 196611;

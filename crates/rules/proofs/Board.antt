@@ -10,12 +10,12 @@ use Rattle.base.specs.Lists.{any, In}
 use Rattle.base.proofs.Bool.{and→, →and, is}
 use Rattle.base.proofs.Branch.{if-ind}
 use Rattle.base.proofs.Lists.{any-mono, in-from, from-in}
-use Rattle.base.proofs.Every.{upTo-at}
+use Rattle.base.proofs.ListsEvery.{upTo-at}
 use Rattle.rules.specs.declared.Player.{Player}
 use Rattle.rules.specs.declared.Player.the-variants.{X, O}
 use Rattle.rules.specs.declared.GameState.{GameState}
 use Rattle.rules.specs.declared.GameState.the-variants.{InPlay, Drawn, Won}
-use Rattle.rules.specs.Board.{other, same, sides, in-play, won-by, drawn, nine, lines, whole, has-line, result}
+use Rattle.rules.specs.Board.{other, same, sides, in-play, won-by, drawn, nine, lines, all-three, has-line, result}
 
 -- ---- sides
 pub same-self : (w : Player) → T (same w w)
@@ -78,7 +78,7 @@ won-by-is w g e = subst (λ (x : GameState). T (won-by w x)) (sym e) (same-self 
 -- more places have every line that fewer have
 pub line-mono : (f g : ℕ → Bool) → ((i : ℕ) → T (f i) → T (g i)) → T (has-line f) → T (has-line g)
 unfolding has-line
-line-mono f g h = any-mono (whole f) (whole g) lines (λ l t.
+line-mono f g h = any-mono (all-three f) (all-three g) lines (λ l t.
     let a = and→ (f (l .i)) _ t in let b = and→ (f (l .j)) _ (a .1) in
     →and (g (l .i)) _ (h _ (a .0)) (→and (g (l .j)) _ (h _ (b .0)) (h _ (b .1))))
 

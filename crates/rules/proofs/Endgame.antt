@@ -10,13 +10,13 @@ use lib.Dec.{T, eqb, eqb→eq, eqb-refl, T-not, not-T}
 use lib.Ieee.Bits.{is-true, is-false}
 use Rattle.base.specs.Branch.{if_then_else_}
 use Rattle.base.specs.Lists.{any, all}
-use Rattle.base.specs.Change.{put}
+use Rattle.base.specs.Update.{update}
 use Rattle.base.specs.Checks.{all-pass, first-failed}
 use Rattle.base.proofs.Bool.{and→, →and, or→, →or-l, →or-r, is, always, _⇒_, ⇒→, →⇒}
 use Rattle.base.proofs.Branch.{if-ind}
 use Rattle.base.proofs.Lists.{any-some, some-any, all-each, each-all}
 use Rattle.base.proofs.Checks.{all-pass-0}
-use Rattle.base.proofs.Change.{put-ind, put-off, put-ind₂}
+use Rattle.base.proofs.Update.{update-ind, update-off, update-ind₂}
 use Rattle.rules.specs.declared.Player.{Player}
 use Rattle.rules.specs.declared.Player.the-variants.{X, O}
 use Rattle.rules.specs.declared.CellState.{CellState}
@@ -26,11 +26,11 @@ use Rattle.rules.specs.declared.GameState.the-variants.{Won}
 use Rattle.rules.specs.declared.NextBoard.{NextBoard}
 use Rattle.rules.specs.declared.NextBoard.the-variants.{Any, Only}
 use Rattle.rules.specs.Board.{other, same, sides, blank, mine, in-play, won-by, nine, has-line}
-use Rattle.rules.specs.Position.{Position, going, open-board, won-boards, free-cell}
+use Rattle.rules.specs.Position.{Position, unfinished, open-board, won-boards, free-cell}
 use Rattle.rules.specs.Play.{board-of, cell-of, may, checks, accepts, after, Tried, played, refused, play}
 use Rattle.rules.specs.Sound.{sound}
 use Rattle.rules.specs.Status.{Status, unproven, for-player, allows, alone, from-byte, merge}
-use Rattle.rules.specs.Endgame.{completes, winning, critical, has-critical, suits, all-suit, lure, attack, prove-attacker, forced, forced-loss, winnable, proven, narrow, combine, merged, no-stats, stats, Analysis, or-unproven, analysis, Judged, judge, evaluate-move}
+use Rattle.rules.specs.Endgame.{completes, winning, critical, has-critical, suits, all-suit, lure, attack, prove-attacker, forced, forced-loss, winnable, proven, narrow, combine, merged, no-endgame-stats, endgame-stats, Analysis, or-unproven, analysis, Judged, judge, evaluate-move}
 use Rattle.rules.proofs.Board.{same-self, same→eq, side, in-sides, in-nine, open-not-won, won-by-is, line-mono, no-line-mono, result-line, result-left, result-other, result-won}
 use Rattle.rules.proofs.Play.{Legal, accepts→, play-accepted, play-refused, refusal-is-first}
 use Rattle.rules.proofs.Sound.{Fair, row, made, states-other}
@@ -38,17 +38,17 @@ use Rattle.rules.proofs.Sound.{Fair, row, made, states-other}
 -- ---- one place more
 pub completes-mono : (f g : ℕ → Bool) (i : ℕ) → ((j : ℕ) → T (f j) → T (g j)) → T (completes f i) → T (completes g i)
 unfolding completes
-completes-mono f g i h = line-mono (put f i true) (put g i true) (λ j. put-ind₂ (λ (x y : Bool). T x → T y) f g i true true j (λ _ t. t) (h j))
+completes-mono f g i h = line-mono (update f i true) (update g i true) (λ j. update-ind₂ (λ (x y : Bool). T x → T y) f g i true true j (λ _ t. t) (h j))
 
 -- a changed at place i has a line only if i completes one, and if it passes the test it has
 module _ {A : Type 0} (test : A → Bool) (f : ℕ → A) (i : ℕ) (a : A) where
-  pub line-completes : T (has-line (λ j. test (put f i a j))) → T (completes (λ j. test (f j)) i)
+  pub line-completes : T (has-line (λ j. test (update f i a j))) → T (completes (λ j. test (f j)) i)
   unfolding completes
-  line-completes = line-mono _ (put (λ j. test (f j)) i true) (λ j. put-ind₂ (λ (x : A) (y : Bool). T (test x) → T y) f (λ j. test (f j)) i a true j (λ _ _. tt) (λ u. u))
+  line-completes = line-mono _ (update (λ j. test (f j)) i true) (λ j. update-ind₂ (λ (x : A) (y : Bool). T (test x) → T y) f (λ j. test (f j)) i a true j (λ _ _. tt) (λ u. u))
 
-  pub completes-line : T (test a) → T (completes (λ j. test (f j)) i) → T (has-line (λ j. test (put f i a j)))
+  pub completes-line : T (test a) → T (completes (λ j. test (f j)) i) → T (has-line (λ j. test (update f i a j)))
   unfolding completes
-  completes-line t = line-mono (put (λ j. test (f j)) i true) _ (λ j. put-ind₂ (λ (y : Bool) (x : A). T y → T (test x)) (λ j. test (f j)) f i true a j (λ _ _. t) (λ u. u))
+  completes-line t = line-mono (update (λ j. test (f j)) i true) _ (λ j. update-ind₂ (λ (y : Bool) (x : A). T y → T (test x)) (λ j. test (f j)) f i true a j (λ _ _. t) (λ u. u))
 
 -- ---- the tests, taken apart
 pub record Crit (p : Position) (w : Player) (b : ℕ) : Type 0 where
@@ -117,23 +117,23 @@ module _ (p : Position) (b c : ℕ) (l : Legal p b c) where
   -- a closed board stays closed
   pub open-before : (i : ℕ) → T (open-board (after p b c) i) → T (open-board p i)
   unfolding after
-  open-before i = put-ind (λ (s : GameState). T (in-play s) → T (open-board p i)) (p .states) b (made p b c) i (λ e _. opened-at i e) (λ t. t)
+  open-before i = update-ind (λ (s : GameState). T (in-play s) → T (open-board p i)) (p .states) b (made p b c) i (λ e _. opened-at i e) (λ t. t)
 
   -- an open board stays open, unless it is played in
   pub open-still : (i : ℕ) → (b ≡ i → ⊥) → T (open-board p i) → T (open-board (after p b c) i)
   unfolding after
-  open-still i n t = put-off (λ (s : GameState). T (in-play s)) (p .states) b (made p b c) i n t
+  open-still i n t = update-off (λ (s : GameState). T (in-play s)) (p .states) b (made p b c) i n t
 
   -- a won board stays won
   pub won-still : (w : Player) (i : ℕ) → T (won-boards p w i) → T (won-boards (after p b c) w i)
   unfolding after
-  won-still w i t = put-ind (λ (s : GameState). T (won-by w s)) (p .states) b (made p b c) i
+  won-still w i t = update-ind (λ (s : GameState). T (won-by w s)) (p .states) b (made p b c) i
       (λ e. absurd (T-not (won-boards p w i) (open-not-won w (p .states i) (opened-at i e)) t)) t
 
   -- the cells of the other boards stay
   pub cells-still {κ} : (P : (ℕ → CellState) → Type κ) (i : ℕ) → (b ≡ i → ⊥) → P (p .cells i) → P (after p b c .cells i)
   unfolding after
-  cells-still P i n = put-off P (p .cells) b (row p b c) i n
+  cells-still P i n = update-off P (p .cells) b (row p b c) i n
 
   pub free-before : (i j : ℕ) → (b ≡ i → ⊥) → T (free-cell (after p b c) i j) → T (free-cell p i j)
   free-before i j n = cells-still (λ r. T (blank (r j)) → T (free-cell p i j)) i n (λ t. t)
@@ -170,8 +170,8 @@ module _ (p : Position) (b c : ℕ) (l : Legal p b c) where
             (unfold winning in (→and (free-cell p b c) _ (l .empty) (line-completes (mine (p .turn)) (p .cells b) c (Played (p .turn)) (result-won (p .turn) _ _ u))));
       })
 
-      old : T (not (won-by (p .turn) (made p b c))) → (i : ℕ) → T (won-by (p .turn) (put (p .states) b (made p b c) i)) → T (won-boards p (p .turn) i)
-      old u i = put-ind (λ (s : GameState). T (won-by (p .turn) s) → T (won-boards p (p .turn) i)) (p .states) b (made p b c) i (λ _ v. absurd (T-not (won-by (p .turn) (made p b c)) u v)) (λ v. v)
+      old : T (not (won-by (p .turn) (made p b c))) → (i : ℕ) → T (won-by (p .turn) (update (p .states) b (made p b c) i)) → T (won-boards p (p .turn) i)
+      old u i = update-ind (λ (s : GameState). T (won-by (p .turn) s) → T (won-boards p (p .turn) i)) (p .states) b (made p b c) i (λ _ v. absurd (T-not (won-by (p .turn) (made p b c)) u v)) (λ v. v)
 
   -- a winning cell of a critical board wins the game
   pub critical-wins : T (critical p (p .turn) b) → T (winning (p .turn) (p .cells b) c) → after p b c .state ≡ Won (p .turn)
@@ -182,14 +182,14 @@ module _ (p : Position) (b c : ℕ) (l : Legal p b c) where
       board = won-by-is (p .turn) (made p b c) (result-line (p .turn) _ _ (completes-line (mine (p .turn)) (p .cells b) c (Played (p .turn)) (same-self (p .turn)) (and→ (free-cell p b c) _ u .1)))
 
   -- with a board left, and no line, the game goes on
-  pub goes-on : (k : ℕ) → k < 9 → T (open-board (after p b c) k) → T (not (has-line (won-boards (after p b c) (p .turn)))) → T (going (after p b c))
+  pub goes-on : (k : ℕ) → k < 9 → T (open-board (after p b c) k) → T (not (has-line (won-boards (after p b c) (p .turn)))) → T (unfinished (after p b c))
   unfolding after
   goes-on k h o n = subst (λ (g : GameState). T (in-play g))
       (sym (result-left (p .turn) (won-boards (after p b c) (p .turn)) (open-board (after p b c)) n (some-any (open-board (after p b c)) k nine (in-nine k h) o))) tt
 
   -- w, who has a critical board elsewhere, is sent to one
   pub lands : (w : Player) (k : ℕ) → k < 9 → T (critical p w k) → (b ≡ k → ⊥) → (T (open-board p c) → T (critical p w c) × (b ≡ c → ⊥)) →
-      (j : ℕ) × (j < 9) × T (critical (after p b c) w j) × T (may (after p b c .due) j)
+      (j : ℕ) × (j < 9) × T (critical (after p b c) w j) × T (may (after p b c .next-board) j)
   unfolding after
   lands w k h t n s = if-ind (λ (d : NextBoard). (j : ℕ) × (j < 9) × T (critical (after p b c) w j) × T (may d j))
       (open-board (after p b c) c) _ _
@@ -200,7 +200,7 @@ module _ (p : Position) (b c : ℕ) (l : Legal p b c) where
   pub unwinnable-still : (w : Player) → T (not (winnable p w)) → T (not (winnable (after p b c) w))
   unfolding winnable after
   unwinnable-still w = no-line-mono (λ i. won-boards (after p b c) w i || open-board (after p b c) i) (λ i. won-boards p w i || open-board p i) (λ i.
-      put-ind (λ (s : GameState). T (won-by w s || in-play s) → T (won-boards p w i || open-board p i)) (p .states) b (made p b c) i (λ e _. →or-r (won-boards p w i) _ (opened-at i e)) (λ t. t))
+      update-ind (λ (s : GameState). T (won-by w s || in-play s) → T (won-boards p w i || open-board p i)) (p .states) b (made p b c) i (λ e _. →or-r (won-boards p w i) _ (opened-at i e)) (λ t. t))
 
   -- and has not won the game by this move
   pub unwinnable-not-won : (w : Player) → T (not (winnable (after p b c) w)) → T (not (won-by w (after p b c .state)))
@@ -215,7 +215,7 @@ pub critical-is-winnable : (p : Position) (w : Player) → T (has-critical p w) 
 unfolding has-critical winnable completes
 critical-is-winnable p w t =
     let k = any-some (critical p w) nine t in let r = crit→ p w (k .0) (k .2) in
-    line-mono (put (won-boards p w) (k .0) true) _ (λ i. put-ind (λ (x : Bool). T x → T (won-boards p w i || open-board p i)) (won-boards p w) (k .0) true i
+    line-mono (update (won-boards p w) (k .0) true) _ (λ i. update-ind (λ (x : Bool). T x → T (won-boards p w i || open-board p i)) (won-boards p w) (k .0) true i
     (λ e _. →or-r (won-boards p w i) _ (subst (λ (x : ℕ). T (open-board p x)) e (r .opened))) (λ u. →or-l (won-boards p w i) _ u)) (r .boards)
 
 -- ---- the status
@@ -351,45 +351,45 @@ module _ (p : Position) where
 -- ---- the analysis
 -- the full set and no counts, refused with n or, for 0, not refused
 abbrev pub nothing-said : ℕ → Analysis
-nothing-said n = record { refusal = n; status = unproven; stats = no-stats }
+nothing-said n = record { refusal = n; status = unproven; stats = no-endgame-stats }
 
 -- its three cases
-pub analysis-cases {κ} : (p : Position) (P : Analysis → Type κ) → (T (not (going p)) → P (nothing-said 0)) →
-    (T (going p) → T (sound p) → P (record { refusal = 0; status = or-unproven (merged p); stats = stats p })) →
-    (T (going p) → T (not (sound p)) → P (nothing-said 14)) → P (analysis p)
+pub analysis-cases {κ} : (p : Position) (P : Analysis → Type κ) → (T (not (unfinished p)) → P (nothing-said 0)) →
+    (T (unfinished p) → T (sound p) → P (record { refusal = 0; status = or-unproven (merged p); stats = endgame-stats p })) →
+    (T (unfinished p) → T (not (sound p)) → P (nothing-said 14)) → P (analysis p)
 unfolding analysis first-failed if_then_else_
-analysis-cases p P a b c = by (going p) (sound p) a b c
+analysis-cases p P a b c = by (unfinished p) (sound p) a b c
   where
     by : (g s : Bool) → (T (not g) → P (nothing-said 0)) →
-        (T g → T s → P (record { refusal = 0; status = or-unproven (merged p); stats = stats p })) → (T g → T (not s) → P (nothing-said 14)) →
-        P (if g && s then (λ _. record { refusal = 0; status = or-unproven (merged p); stats = stats p }) else
+        (T g → T s → P (record { refusal = 0; status = or-unproven (merged p); stats = endgame-stats p })) → (T g → T (not s) → P (nothing-said 14)) →
+        P (if g && s then (λ _. record { refusal = 0; status = or-unproven (merged p); stats = endgame-stats p }) else
         λ _. nothing-said (first-failed ((not (g && not s), 14) ∷ [])))
     by false s a b c = a tt
     by true true a b c = b tt tt
     by true false a b c = c tt tt
 
 -- a finished game gives the full set and no counts
-pub analysis-finished : (p : Position) → T (not (going p)) → analysis p ≡ nothing-said 0
-analysis-finished p t = analysis-cases p (λ a. a ≡ nothing-said 0) (λ _. refl) (λ u _. absurd (T-not (going p) t u)) (λ u _. absurd (T-not (going p) t u))
+pub analysis-finished : (p : Position) → T (not (unfinished p)) → analysis p ≡ nothing-said 0
+analysis-finished p t = analysis-cases p (λ a. a ≡ nothing-said 0) (λ _. refl) (λ u _. absurd (T-not (unfinished p) t u)) (λ u _. absurd (T-not (unfinished p) t u))
 
 -- an unfinished sound position is not refused, and its status says what was proved
-pub analysis-sound : (p : Position) → T (going p) → T (sound p) → (s : Status) × StatusSays p s × (analysis p ≡ record { refusal = 0; status = s; stats = stats p })
+pub analysis-sound : (p : Position) → T (unfinished p) → T (sound p) → (s : Status) × StatusSays p s × (analysis p ≡ record { refusal = 0; status = s; stats = endgame-stats p })
 unfolding or-unproven
 analysis-sound p t u = let r = status-says p in (
   r .0,
   r .1,
-  analysis-cases p (λ a. a ≡ record { refusal = 0; status = r .0; stats = stats p }) (λ v. absurd (T-not (going p) v t))
-      (λ _ _. ap (λ (o : Option Status). record { refusal = 0; status = or-unproven o; stats = stats p }) (r .1 .is-merged)) (λ _ v. absurd (T-not (sound p) v u)),
+  analysis-cases p (λ a. a ≡ record { refusal = 0; status = r .0; stats = endgame-stats p }) (λ v. absurd (T-not (unfinished p) v t))
+      (λ _ _. ap (λ (o : Option Status). record { refusal = 0; status = or-unproven o; stats = endgame-stats p }) (r .1 .is-merged)) (λ _ v. absurd (T-not (sound p) v u)),
 )
 
 -- an unfinished unsound position is refused with 14
-pub analysis-unsound : (p : Position) → T (going p) → T (not (sound p)) → analysis p ≡ nothing-said 14
-analysis-unsound p t u = analysis-cases p (λ a. a ≡ nothing-said 14) (λ v. absurd (T-not (going p) v t)) (λ _ v. absurd (T-not (sound p) u v)) (λ _ _. refl)
+pub analysis-unsound : (p : Position) → T (unfinished p) → T (not (sound p)) → analysis p ≡ nothing-said 14
+analysis-unsound p t u = analysis-cases p (λ a. a ≡ nothing-said 14) (λ v. absurd (T-not (unfinished p) v t)) (λ _ v. absurd (T-not (sound p) u v)) (λ _ _. refl)
 
 -- and no other is
-pub analysis-refuses : (p : Position) → (analysis p .refusal ≡ 14) ↔ (T (going p) × T (not (sound p)))
+pub analysis-refuses : (p : Position) → (analysis p .refusal ≡ 14) ↔ (T (unfinished p) × T (not (sound p)))
 analysis-refuses p = (
-  analysis-cases p (λ a. a .refusal ≡ 14 → T (going p) × T (not (sound p))) (λ _ e. absurd (omega arith)) (λ _ _ e. absurd (omega arith)) (λ t u _. (t, u)),
+  analysis-cases p (λ a. a .refusal ≡ 14 → T (unfinished p) × T (not (sound p))) (λ _ e. absurd (omega arith)) (λ _ _ e. absurd (omega arith)) (λ t u _. (t, u)),
   λ h. ap (λ (a : Analysis). a .refusal) (analysis-unsound p (h .0) (h .1)),
 )
 
@@ -415,17 +415,17 @@ module _ (p : Position) (m : ℕ) where
   lost-test = has-critical p v && (not (critical p v (board-of m)) && suits p v (cell-of m))
 
   -- refused as unsound, refused by play, or judged
-  pub evaluate-unsound : T (going p && not (sound p)) → evaluate-move p m ≡ record { refusal = 14; status = unproven }
+  pub evaluate-unsound : T (unfinished p && not (sound p)) → evaluate-move p m ≡ record { refusal = 14; status = unproven }
   unfolding evaluate-move all-pass all first-failed if_then_else_
-  evaluate-unsound t = rw (is-true (going p && not (sound p)) t)
+  evaluate-unsound t = rw (is-true (unfinished p && not (sound p)) t)
 
-  module _ (fine : T (not (going p && not (sound p)))) where
+  module _ (fine : T (not (unfinished p && not (sound p)))) where
     abbrev cs : List (Bool × ℕ)
     cs = checks p (board-of m) (cell-of m)
 
     by-play : evaluate-move p m ≡ record { refusal = first-failed cs; status = if all-pass cs then (λ _. judge p m) else λ _. unproven }
     unfolding evaluate-move all-pass all first-failed if_then_else_
-    by-play = rw (is-false (going p && not (sound p)) fine)
+    by-play = rw (is-false (unfinished p && not (sound p)) fine)
 
     pub evaluate-refused : T (not (accepts p m)) → evaluate-move p m ≡ record { refusal = first-failed cs; status = unproven }
     unfolding accepts
@@ -441,13 +441,13 @@ module _ (p : Position) (m : ℕ) where
 
   -- the four cases
   evaluate-cases {κ} : (P : Judged → Type κ) →
-      (T (going p) → T (not (sound p)) → P (record { refusal = 14; status = unproven })) →
-      ((n : ℕ) → play p m ≡ refused n → (T (going p) → T (sound p)) → P (record { refusal = n; status = unproven })) →
+      (T (unfinished p) → T (not (sound p)) → P (record { refusal = 14; status = unproven })) →
+      ((n : ℕ) → play p m ≡ refused n → (T (unfinished p) → T (sound p)) → P (record { refusal = n; status = unproven })) →
       (CalledLost p m v → P (record { refusal = 0; status = for-player v })) →
       (T (accepts p m) → T (sound p) → (CalledLost p m v → ⊥) → P (record { refusal = 0; status = unproven })) → P (evaluate-move p m)
   unfolding judge suits lost-test
-  evaluate-cases P a b c d = elim (is (going p && not (sound p))) [
-    | inl t ↦ (let r = and→ (going p) _ t in subst P (sym (evaluate-unsound t)) (a (r .0) (r .1)))
+  evaluate-cases P a b c d = elim (is (unfinished p && not (sound p))) [
+    | inl t ↦ (let r = and→ (unfinished p) _ t in subst P (sym (evaluate-unsound t)) (a (r .0) (r .1)))
     | inr f ↦ elim (is (accepts p m)) [
       | inr n ↦ subst P (sym (evaluate-refused f n)) (b _ (play-refused p m n) (fine f))
       | inl t ↦ subst P (sym (evaluate-judged f t)) (if-ind (λ s. P (record { refusal = 0; status = s })) lost-test _ _
@@ -463,20 +463,20 @@ module _ (p : Position) (m : ℕ) where
     ]
   ]
     where
-      fine : T (not (going p && not (sound p))) → T (going p) → T (sound p)
-      fine t g = elim (is (sound p)) [ inl s ↦ s | inr n ↦ absurd (T-not (going p && not (sound p)) t (→and (going p) _ g n)) ]
+      fine : T (not (unfinished p && not (sound p))) → T (unfinished p) → T (sound p)
+      fine t g = elim (is (sound p)) [ inl s ↦ s | inr n ↦ absurd (T-not (unfinished p && not (sound p)) t (→and (unfinished p) _ g n)) ]
 
   -- its number is 14 exactly for an unfinished unsound position
-  pub evaluate-move-14 : (evaluate-move p m .refusal ≡ 14) ↔ (T (going p) × T (not (sound p)))
+  pub evaluate-move-14 : (evaluate-move p m .refusal ≡ 14) ↔ (T (unfinished p) × T (not (sound p)))
   evaluate-move-14 = (
-    evaluate-cases (λ j. j .refusal ≡ 14 → T (going p) × T (not (sound p))) (λ t u _. (t, u)) (λ n e _ h. absurd (omega (arith, refusal-is-first p m n e .highest)))
+    evaluate-cases (λ j. j .refusal ≡ 14 → T (unfinished p) × T (not (sound p))) (λ t u _. (t, u)) (λ n e _ h. absurd (omega (arith, refusal-is-first p m n e .highest)))
         (λ _ h. absurd (omega arith)) (λ _ _ _ h. absurd (omega arith)),
     λ h. evaluate-cases (λ j. j .refusal ≡ 14) (λ _ _. refl) (λ _ _ f. absurd (T-not (sound p) (h .1) (f (h .0))))
         (λ l. absurd (T-not (sound p) (h .1) (l .sound-before))) (λ _ s _. absurd (T-not (sound p) (h .1) s)),
   )
 
   -- else it is play's
-  pub evaluate-move-number : (T (going p) → T (sound p)) → evaluate-move p m .refusal ≡ number-of (play p m)
+  pub evaluate-move-number : (T (unfinished p) → T (sound p)) → evaluate-move p m .refusal ≡ number-of (play p m)
   evaluate-move-number f = evaluate-cases (λ j. j .refusal ≡ number-of (play p m)) (λ t u. absurd (T-not (sound p) u (f t))) (λ n e _. sym (ap number-of e))
       (λ l. sym (ap number-of (play-accepted p m (l .accepted)))) (λ t _ _. sym (ap number-of (play-accepted p m t)))
 

@@ -7,7 +7,7 @@ use Prim.Native.Char.{code}
 use Prim.Native.String.{String}
 use lib.Dec.{eqb}
 use Rattle.base.specs.Branch.{if_then_else_}
-use Rattle.base.specs.Lists.{how-many, each, total}
+use Rattle.base.specs.Lists.{count, concat-map, total}
 use Rattle.rules.specs.declared.Player.{Player}
 use Rattle.rules.specs.declared.Player.the-variants.{X, O}
 use Rattle.rules.specs.declared.CellState.{CellState}
@@ -49,7 +49,7 @@ shown s =
     let states : ℕ → GameState = λ b. state-shown (nth s (2 + b)) in
     record {
       turn = w;
-      due = due-shown s nine;
+      next-board = due-shown s nine;
       cells = λ b c. cell-shown (nth s (12 + 10 * b + c));
       states = states;
       state = result (other w) (λ b. won-by (other w) (states b)) (λ b. in-play (states b));
@@ -63,7 +63,7 @@ told a = let s = a .stats in
 
 -- each move, and the byte of what is said of it as a last digit
 abbrev pub judged : Position → List ℕ
-judged p = each (λ m. (m * 16 + as-byte (evaluate-move p m .status)) ∷ []) (moves p)
+judged p = concat-map (λ m. (m * 16 + as-byte (evaluate-move p m .status)) ∷ []) (moves p)
 
 showing : Unit {0}
 unfolding shown nth side-shown cell-shown state-shown due-shown playing
@@ -74,7 +74,7 @@ unfolding evaluate-move judge showing listing analysing
 judging = tt
 
 comparing : Unit {0}
-unfolding equivalent bound-depth open-boards how-many total showing
+unfolding equivalent bound-depth open-boards count total showing
 comparing = tt
 
 -- ---- endgames

@@ -6,8 +6,8 @@ use Prim.Native.Nat.{ℕ, suc, _+_, _*_}
 use lib.ListN.{length, getD}
 use lib.IntN.{pos, negsuc}
 use Rattle.base.specs.Branch.{if_then_else_}
-use Rattle.base.specs.Lists.{any, all, keep, each}
-use Rattle.base.specs.Change.{put}
+use Rattle.base.specs.Lists.{any, all, filter, concat-map}
+use Rattle.base.specs.Update.{update}
 use Rattle.base.specs.Integers.{sum}
 use Rattle.rules.specs.declared.Player.{Player}
 use Rattle.rules.specs.declared.Player.the-variants.{X, O}
@@ -24,36 +24,36 @@ use Rattle.base.specs.Checks.{all-pass, first-failed}
 use Rattle.rules.specs.Play.{accepts, after, refused, play, left-by, tried, reached}
 use Rattle.rules.specs.Moves.{places, moves}
 use Rattle.rules.specs.Sound.{sound, proper}
-use Rattle.rules.specs.Keys.{x-cell-keys, o-cell-keys, drawn-keys, x-board-keys, o-board-keys, due-keys}
-use Rattle.rules.specs.Hash.{cell-key, board-key, due-key, xors, cells-hash, board-hash, hash, with-turn, zobrist, hash-after}
-use Rattle.rules.specs.Evaluation.{scoring-with, no-draw-winner, won, lost, count, unless-both, board-line, board-score, overall-line, score, evaluate}
+use Rattle.rules.specs.Keys.{x-cell-keys, o-cell-keys, drawn-keys, x-board-keys, o-board-keys, next-board-keys}
+use Rattle.rules.specs.Hash.{cell-key, board-key, next-board-key, xors, cells-hash, board-hash, hash, with-turn, zobrist, hash-after}
+use Rattle.rules.specs.Evaluation.{scoring-with, no-draw-winner, won, lost, places-in, unless-both, board-line, board-score, overall-line, score, evaluate}
 use Rattle.rules.specs.Status.{unproven, for-player, as-byte, from-byte, merge}
-use Rattle.rules.specs.Endgame.{completes, winning, critical, has-critical, suits, all-suit, lure, attack, prove-attacker, forced, forced-loss, winnable, proven, narrow, combine, merged, stats, or-unproven, analysis, judge, evaluate-move}
+use Rattle.rules.specs.Endgame.{completes, winning, critical, has-critical, suits, all-suit, lure, attack, prove-attacker, forced, forced-loss, winnable, proven, narrow, combine, merged, endgame-stats, or-unproven, analysis, judge, evaluate-move}
 
 -- ---- what the facts compute with
 unfoldable pub playing : Unit {0}
-unfolding reached tried left-by play accepts all-pass all any first-failed after put result has-line if_then_else_
+unfolding reached tried left-by play accepts all-pass all any first-failed after update result has-line if_then_else_
 playing = tt
 
 unfoldable pub listing : Unit {0}
-unfolding moves keep places each playing
+unfolding moves filter places concat-map playing
 listing = tt
 
 hashing : Unit {0}
-unfolding zobrist with-turn hash xors board-hash cells-hash cell-key board-key due-key if_then_else_
+unfolding zobrist with-turn hash xors board-hash cells-hash cell-key board-key next-board-key if_then_else_
 hashing = tt
 
 valuing : Unit {0}
-unfolding evaluate score board-score sum count unless-both board-line overall-line if_then_else_
+unfolding evaluate score board-score sum places-in unless-both board-line overall-line if_then_else_
 valuing = tt
 
 unfoldable pub analysing : Unit {0}
-unfolding analysis or-unproven stats merged combine narrow proven merge from-byte prove-attacker attack forced-loss forced has-critical critical completes winning lure suits all-suit winnable sound playing
+unfolding analysis or-unproven endgame-stats merged combine narrow proven merge from-byte prove-attacker attack forced-loss forced has-critical critical completes winning lure suits all-suit winnable sound playing
 analysing = tt
 
 -- ---- positions from lists: boards in play and empty cells where a list ends
 unfoldable pub position : Player → NextBoard → List GameState → List (List CellState) → Position
-position w d states cells = record { turn = w; due = d; cells = λ b c. getD (getD cells b []) c Empty; states = λ b. getD states b InPlay; state = InPlay }
+position w d states cells = record { turn = w; next-board = d; cells = λ b c. getD (getD cells b []) c Empty; states = λ b. getD states b InPlay; state = InPlay }
 
 abbrev x : CellState
 x = Played X
@@ -139,7 +139,7 @@ unfoldable pub last-cell : Position
 last-cell = position X (Only 8) [] ([] ∷ [] ∷ [] ∷ [] ∷ [] ∷ [] ∷ [] ∷ [] ∷ (x ∷ o ∷ x ∷ x ∷ o ∷ o ∷ o ∷ x ∷ e ∷ []) ∷ [])
 
 pub drawn-board : let q = tried last-cell 0x88 in
-    (q .states 8 ≡ Drawn) × (won-boards q X 8 ≡ false) × (won-boards q O 8 ≡ false) × (q .due ≡ Any) × (q .state ≡ InPlay)
+    (q .states 8 ≡ Drawn) × (won-boards q X 8 ≡ false) × (won-boards q O 8 ≡ false) × (q .next-board ≡ Any) × (q .state ≡ InPlay)
 unfolding last-cell position playing
 drawn-board = (refl, refl, refl, refl, refl)
 
@@ -183,7 +183,7 @@ weighed i [] = 0
 weighed i (k ∷ ks) = i * k + weighed (suc i) ks
 
 pub keys-are : (weighed 1 x-cell-keys ≡ 32058457650697761632088) × (weighed 1 o-cell-keys ≡ 31175264090485458965237) × (weighed 1 drawn-keys ≡ 489363686111434220960) ×
-    (weighed 1 x-board-keys ≡ 435448663095389928648) × (weighed 1 o-board-keys ≡ 327614487108354100565) × (weighed 1 due-keys ≡ 375033712546283715090)
+    (weighed 1 x-board-keys ≡ 435448663095389928648) × (weighed 1 o-board-keys ≡ 327614487108354100565) × (weighed 1 next-board-keys ≡ 375033712546283715090)
 unfolding weighed
 keys-are = (refl, refl, refl, refl, refl, refl)
 

@@ -3,11 +3,11 @@ pub mod Play
 pub mod Moves
 pub mod Sound
 pub mod Compare
-pub mod Xor
+pub mod HashXor
 pub mod Hash
 pub mod Evaluation
-pub mod Critical
+pub mod EndgameCritical
 pub mod Endgame
-pub mod StatusFacts
+pub mod Status
 pub mod Examples
 pub mod EndgameExamples

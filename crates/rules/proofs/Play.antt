@@ -10,14 +10,14 @@ use Rattle.base.specs.Lists.{all}
 use Rattle.base.proofs.Bool.{and→, →and, is}
 use Rattle.base.proofs.Branch.{if-ind}
 use Rattle.base.proofs.Checks.{failed-number, rising, InOrder, first-in-order}
-use Rattle.rules.specs.Position.{Position, going, open-board, free-cell}
+use Rattle.rules.specs.Position.{Position, unfinished, open-board, free-cell}
 use Rattle.base.specs.Checks.{all-pass, first-failed}
 use Rattle.rules.specs.Play.{move-of, board-of, cell-of, may, checks, accepts, after, played, refused, play, left-by, tried}
 
 -- ---- two positions that agree place by place are one
-pub same-position : (p q : Position) → p .turn ≡ q .turn → p .due ≡ q .due →
+pub same-position : (p q : Position) → p .turn ≡ q .turn → p .next-board ≡ q .next-board →
     ((b c : ℕ) → p .cells b c ≡ q .cells b c) → ((b : ℕ) → p .states b ≡ q .states b) → p .state ≡ q .state → p ≡ q
-same-position p q t d c s g = λ i. record { turn = t i; due = d i; cells = λ x y. c x y i; states = λ x. s x i; state = g i }
+same-position p q t d c s g = λ i. record { turn = t i; next-board = d i; cells = λ x y. c x y i; states = λ x. s x i; state = g i }
 
 -- ---- the byte of a move
 pub board-of-move : (b c : ℕ) → c < 16 → board-of (move-of b c) ≡ b
@@ -33,9 +33,9 @@ move-of-parts m = omega arith
 pub record Legal (p : Position) (b c : ℕ) : Type 0 where
   pub board : b < 9
   pub cell : c < 9
-  pub unfinished : T (going p)
+  pub unfinished : T (unfinished p)
   pub opened : T (open-board p b)
-  pub allowed : T (may (p .due) b)
+  pub allowed : T (may (p .next-board) b)
   pub empty : T (free-cell p b c)
 
 -- an accepted move is legal, and a legal one is accepted
@@ -44,9 +44,9 @@ unfolding accepts all-pass all
 accepts→ p m t =
     let r1 = and→ (ltb (board-of m) 9 && ltb (cell-of m) 9) _ t in
     let r0 = and→ (ltb (board-of m) 9) (ltb (cell-of m) 9) (r1 .0) in
-    let r2 = and→ (going p) _ (r1 .1) in
+    let r2 = and→ (unfinished p) _ (r1 .1) in
     let r3 = and→ (open-board p (board-of m)) _ (r2 .1) in
-    let r4 = and→ (may (p .due) (board-of m)) _ (r3 .1) in
+    let r4 = and→ (may (p .next-board) (board-of m)) _ (r3 .1) in
     let r5 = and→ (free-cell p (board-of m) (cell-of m)) _ (r4 .1) in
     record { board = ltb→lt _ _ (r0 .0); cell = ltb→lt _ _ (r0 .1); unfinished = r2 .0; opened = r3 .0; allowed = r4 .0; empty = r5 .0 }
 
@@ -54,9 +54,9 @@ pub →accepts : (p : Position) (m : ℕ) → Legal p (board-of m) (cell-of m) �
 unfolding accepts all-pass all
 →accepts p m l =
     →and (ltb (board-of m) 9 && ltb (cell-of m) 9) _ (→and (ltb (board-of m) 9) _ (lt→ltb _ _ (l .board)) (lt→ltb _ _ (l .cell)))
-    (→and (going p) _ (l .unfinished)
+    (→and (unfinished p) _ (l .unfinished)
     (→and (open-board p (board-of m)) _ (l .opened)
-    (→and (may (p .due) (board-of m)) _ (l .allowed)
+    (→and (may (p .next-board) (board-of m)) _ (l .allowed)
     (→and (free-cell p (board-of m) (cell-of m)) _ (l .empty) tt))))
 
 pub →accepts-at : (p : Position) (b c : ℕ) → Legal p b c → T (accepts p (move-of b c))

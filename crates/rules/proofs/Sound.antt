@@ -6,11 +6,11 @@ use mathlib.Core.Logic.{inl, inr}
 use Prim.Native.Nat.{ℕ, _<_}
 use lib.Dec.{T, ltb, eqb-refl, ltb→lt, lt→ltb, T-not}
 use Rattle.base.specs.Lists.{any, all, In}
-use Rattle.base.specs.Change.{put}
+use Rattle.base.specs.Update.{update}
 use Rattle.base.proofs.Bool.{and→, →and, is, ⇒→, →⇒}
 use Rattle.base.proofs.Branch.{if-ind}
 use Rattle.base.proofs.Lists.{any-some, all-each, each-all}
-use Rattle.base.proofs.Change.{put-ind, put-ind₂}
+use Rattle.base.proofs.Update.{update-ind, update-ind₂}
 use Rattle.rules.specs.declared.Player.{Player}
 use Rattle.rules.specs.declared.CellState.{CellState}
 use Rattle.rules.specs.declared.CellState.the-variants.{Played}
@@ -18,10 +18,10 @@ use Rattle.rules.specs.declared.GameState.{GameState}
 use Rattle.rules.specs.declared.NextBoard.{NextBoard}
 use Rattle.rules.specs.declared.NextBoard.the-variants.{Any, Only}
 use Rattle.rules.specs.Board.{other, sides, blank, mine, in-play, won-by, nine, has-line, result}
-use Rattle.rules.specs.Position.{Position, start, going, open-board, won-boards, free-cell, has}
+use Rattle.rules.specs.Position.{Position, start, unfinished, open-board, won-boards, free-cell, has}
 use Rattle.rules.specs.Play.{move-of, board-of, cell-of, may, accepts, after, tried, reached}
 use Rattle.rules.specs.Moves.{moves}
-use Rattle.rules.specs.Sound.{sound, due-open, proper}
+use Rattle.rules.specs.Sound.{sound, next-board-open, proper}
 use Rattle.rules.proofs.Board.{other-differs, side, in-sides, in-nine, nine-in, no-line-mono, result-open, result-other}
 use Rattle.rules.proofs.Play.{Legal, accepts→, tried-accepted, tried-refused}
 use Rattle.rules.proofs.Moves.{legal-is-listed}
@@ -58,19 +58,19 @@ unfolding sound fair-board
 
 -- proper, and sound while unfinished
 pub record Good (p : Position) : Type 0 where
-  pub due-is : T (due-open p (p .due))
-  pub some-open : T (going p) → T (any (open-board p) nine)
-  pub fair : T (going p) → Fair p
+  pub due-is : T (next-board-open p (p .next-board))
+  pub some-open : T (unfinished p) → T (any (open-board p) nine)
+  pub fair : T (unfinished p) → Fair p
 
-pub →proper : (p : Position) → T (due-open p (p .due)) → (T (going p) → T (any (open-board p) nine)) → T (proper p)
+pub →proper : (p : Position) → T (next-board-open p (p .next-board)) → (T (unfinished p) → T (any (open-board p) nine)) → T (proper p)
 unfolding proper
-→proper p d o = →and (due-open p (p .due)) _ d (→⇒ (going p) _ o)
+→proper p d o = →and (next-board-open p (p .next-board)) _ d (→⇒ (unfinished p) _ o)
 
-pub good : (p : Position) → T (proper p) → (T (going p) → T (sound p)) → Good p
+pub good : (p : Position) → T (proper p) → (T (unfinished p) → T (sound p)) → Good p
 unfolding proper
-good p t s = let r = and→ (due-open p (p .due)) _ t in record { due-is = r .0; some-open = ⇒→ (going p) _ (r .1); fair = λ o. sound→ p (s o) }
+good p t s = let r = and→ (next-board-open p (p .next-board)) _ t in record { due-is = r .0; some-open = ⇒→ (unfinished p) _ (r .1); fair = λ o. sound→ p (s o) }
 
-pub good-is-sound : (p : Position) → Good p → T (going p) → T (sound p)
+pub good-is-sound : (p : Position) → Good p → T (unfinished p) → T (sound p)
 good-is-sound p g t = →sound p (g .fair t)
 
 -- ---- after a move
@@ -80,7 +80,7 @@ FairBoard g r = T (in-play g) → T (any (λ j. blank (r j)) nine) × ((w : Play
 
 -- the cells of the board that is played in, and what becomes of it
 abbrev pub row : Position → ℕ → ℕ → ℕ → CellState
-row p b c = put (p .cells b) c (Played (p .turn))
+row p b c = update (p .cells b) c (Played (p .turn))
 
 abbrev pub made : Position → ℕ → ℕ → GameState
 made p b c = result (p .turn) (λ i. mine (p .turn) (row p b c i)) (λ i. blank (row p b c i))
@@ -88,22 +88,22 @@ made p b c = result (p .turn) (λ i. mine (p .turn) (row p b c i)) (λ i. blank 
 module _ (p : Position) (b c : ℕ) (l : Legal p b c) where
   -- the other side has nothing new in the board
   pub row-other : (i : ℕ) → T (mine (other (p .turn)) (row p b c i)) → T (has p (other (p .turn)) b i)
-  row-other i = put-ind (λ (s : CellState). T (mine (other (p .turn)) s) → T (has p (other (p .turn)) b i)) (p .cells b) c (Played (p .turn)) i
+  row-other i = update-ind (λ (s : CellState). T (mine (other (p .turn)) s) → T (has p (other (p .turn)) b i)) (p .cells b) c (Played (p .turn)) i
       (λ _ t. absurd (T-not (mine (other (p .turn)) (Played (p .turn))) (other-differs (p .turn)) t)) (λ t. t)
 
   -- and no new board
-  pub states-other : (i : ℕ) → T (won-by (other (p .turn)) (put (p .states) b (made p b c) i)) → T (won-boards p (other (p .turn)) i)
-  states-other i = put-ind (λ (s : GameState). T (won-by (other (p .turn)) s) → T (won-boards p (other (p .turn)) i)) (p .states) b (made p b c) i
+  pub states-other : (i : ℕ) → T (won-by (other (p .turn)) (update (p .states) b (made p b c) i)) → T (won-boards p (other (p .turn)) i)
+  states-other i = update-ind (λ (s : GameState). T (won-by (other (p .turn)) s) → T (won-boards p (other (p .turn)) i)) (p .states) b (made p b c) i
       (λ _ t. absurd (T-not (won-by (other (p .turn)) (made p b c)) (result-other (p .turn) _ _) t)) (λ t. t)
 
   -- the next board is open, whatever the position
-  due-after : T (due-open (after p b c) (after p b c .due))
+  due-after : T (next-board-open (after p b c) (after p b c .next-board))
   unfolding after
-  due-after = if-ind (λ (d : NextBoard). T (due-open (after p b c) d)) (in-play (put (p .states) b (made p b c) c)) _ _
+  due-after = if-ind (λ (d : NextBoard). T (next-board-open (after p b c) d)) (in-play (update (p .states) b (made p b c) c)) _ _
       (λ t. →and (ltb c 9) _ (lt→ltb c 9 (l .cell)) t) (λ _. tt)
 
   -- in an unfinished game the mover has no line of boards, and a board is open
-  open-after : T (going (after p b c)) → T (not (has-line (won-boards (after p b c) (p .turn)))) × T (any (open-board (after p b c)) nine)
+  open-after : T (unfinished (after p b c)) → T (not (has-line (won-boards (after p b c) (p .turn)))) × T (any (open-board (after p b c)) nine)
   unfolding after
   open-after o = result-open (p .turn) (won-boards (after p b c) (p .turn)) (open-board (after p b c)) o
 
@@ -117,8 +117,8 @@ module _ (p : Position) (b c : ℕ) (l : Legal p b c) where
       f : Fair p
       f = g .fair (l .unfinished)
 
-      boards : (i : ℕ) → i < 9 → FairBoard (put (p .states) b (made p b c) i) (put (p .cells) b (row p b c) i)
-      boards i h = put-ind₂ FairBoard (p .states) (p .cells) b (made p b c) (row p b c) i
+      boards : (i : ℕ) → i < 9 → FairBoard (update (p .states) b (made p b c) i) (update (p .cells) b (row p b c) i)
+      boards i h = update-ind₂ FairBoard (p .states) (p .cells) b (made p b c) (row p b c) i
           (λ _ o. let r = result-open (p .turn) (λ j. mine (p .turn) (row p b c j)) (λ j. blank (row p b c j)) o in (
             r .1,
             side (λ w. T (not (has-line (λ j. mine w (row p b c j))))) (p .turn) (r .0)
@@ -126,7 +126,7 @@ module _ (p : Position) (b c : ℕ) (l : Legal p b c) where
           ))
           (λ o. (f .room i h o, f .no-board i h o))
 
-      fair : T (going (after p b c)) → Fair (after p b c)
+      fair : T (unfinished (after p b c)) → Fair (after p b c)
       fair o = record {
         no-line = side (λ w. T (not (has-line (won-boards (after p b c) w)))) (p .turn) (open-after o .0)
             (no-line-mono _ (won-boards p (other (p .turn))) states-other (f .no-line (other (p .turn))));
@@ -150,7 +150,7 @@ pub play-stays-proper : (p : Position) → T (proper p) → (m : ℕ) → T (pro
 play-stays-proper p t m = tried-keeps (λ q. T (proper q)) p m (λ l. after-is-proper p (board-of m) (cell-of m) l) t
 
 -- while unfinished, play stays sound
-pub play-stays-sound : (p : Position) → T (sound p) → T (proper p) → (m : ℕ) → T (going (tried p m)) → T (sound (tried p m)) × T (proper (tried p m))
+pub play-stays-sound : (p : Position) → T (sound p) → T (proper p) → (m : ℕ) → T (unfinished (tried p m)) → T (sound (tried p m)) × T (proper (tried p m))
 play-stays-sound p s t m o = (good-is-sound (tried p m) (play-stays-good p (good p t (λ _. s)) m) o, play-stays-proper p t m)
 
 -- ---- all play from the empty board
@@ -172,20 +172,20 @@ reached-good p g [] = g
 reached-good p g (m ∷ ms) = reached-good (tried p m) (play-stays-good p g m) ms
 
 -- every game from the empty board is sound while unfinished
-pub reached-is-sound : (ms : List ℕ) → T (going (reached start ms)) → T (sound (reached start ms))
+pub reached-is-sound : (ms : List ℕ) → T (unfinished (reached start ms)) → T (sound (reached start ms))
 reached-is-sound ms = good-is-sound (reached start ms) (reached-good start start-is-good ms)
 
 -- ---- a move is left
 -- the board that is due, or with a free choice some board in play
-playable-board : (p : Position) → Good p → T (going p) → (b : ℕ) × (b < 9) × T (open-board p b) × T (may (p .due) b)
-playable-board p g t = go (p .due) (g .due-is)
+playable-board : (p : Position) → Good p → T (unfinished p) → (b : ℕ) × (b < 9) × T (open-board p b) × T (may (p .next-board) b)
+playable-board p g t = go (p .next-board) (g .due-is)
   where
-    go : (d : NextBoard) → T (due-open p d) → (b : ℕ) × (b < 9) × T (open-board p b) × T (may d b)
+    go : (d : NextBoard) → T (next-board-open p d) → (b : ℕ) × (b < 9) × T (open-board p b) × T (may d b)
     go Any u = let r = any-some (open-board p) nine (g .some-open t) in (r .0, nine-in (r .0) (r .1), r .2, tt)
     go (Only b) u = let r = and→ (ltb b 9) _ u in (b, ltb→lt b 9 (r .0), r .1, eqb-refl b)
 
 -- an unfinished sound proper position has a move
-pub some-move : (p : Position) → Good p → T (going p) → (m : ℕ) × In m (moves p)
+pub some-move : (p : Position) → Good p → T (unfinished p) → (m : ℕ) × In m (moves p)
 some-move p g t =
     let d = playable-board p g t in
     let c = any-some (free-cell p (d .0)) nine (g .fair t .room (d .0) (d .1) (d .2)) in

@@ -89,11 +89,11 @@ abbrev pub lines : List Line
 lines = line 0 1 2 ∷ line 3 4 5 ∷ line 6 7 8 ∷ line 0 3 6 ∷ line 1 4 7 ∷ line 2 5 8 ∷ line 0 4 8 ∷ line 6 4 2 ∷ []
 
 -- all three places of a line pass a test
-abbrev pub whole : (ℕ → Bool) → Line → Bool
-whole own l = own (l .i) && (own (l .j) && own (l .k))
+abbrev pub all-three : (ℕ → Bool) → Line → Bool
+all-three own l = own (l .i) && (own (l .j) && own (l .k))
 
 unfoldable pub has-line : (ℕ → Bool) → Bool
-has-line own = any (whole own) lines
+has-line own = any (all-three own) lines
 
 -- what w's move makes of a board, or of the game: won if w has a line, drawn if nothing is left, else in play; only w's lines are looked at
 unfoldable pub result : Player → (ℕ → Bool) → (ℕ → Bool) → GameState

@@ -12,9 +12,9 @@ use Rattle.rules.specs.declared.NextBoard.the-variants.{Any, Only}
 use Rattle.base.specs.Branch.{if_then_else_}
 use Rattle.base.specs.Lists.{any, all}
 use Rattle.base.specs.Checks.{all-pass, first-failed}
-use Rattle.base.specs.Change.{put}
+use Rattle.base.specs.Update.{update}
 use Rattle.rules.specs.Board.{other, blank, mine, nine, has-line}
-use Rattle.rules.specs.Position.{Position, going, open-board, won-boards, free-cell}
+use Rattle.rules.specs.Position.{Position, unfinished, open-board, won-boards, free-cell}
 use Rattle.rules.specs.Play.{board-of, cell-of, checks}
 use Rattle.rules.specs.Sound.{sound}
 use Rattle.rules.specs.Status.{Status, unproven, for-player, draw-or-other, merge}
@@ -22,7 +22,7 @@ use Rattle.rules.specs.Status.{Status, unproven, for-player, draw-or-oth
 -- ---- critical boards
 -- with place i besides, own has a line
 unfoldable pub completes : (ℕ → Bool) → ℕ → Bool
-completes own i = has-line (put own i true)
+completes own i = has-line (update own i true)
 
 -- w wins the board by cell c
 unfoldable pub winning : Player → (ℕ → CellState) → ℕ → Bool
@@ -54,7 +54,7 @@ attack p w Any = true
 attack p w (Only b) = critical p w b || any (lure p w b) nine
 
 unfoldable pub prove-attacker : Position → Bool
-prove-attacker p = has-critical p (p .turn) && attack p (p .turn) (p .due)
+prove-attacker p = has-critical p (p .turn) && attack p (p .turn) (p .next-board)
 
 -- ---- the side to move loses: every cell of the board that is due sends the other side, v, where it suits, and v's critical boards are
 -- elsewhere
@@ -63,7 +63,7 @@ forced p v Any = false
 forced p v (Only b) = not (critical p v b) && all-suit p v b
 
 unfoldable pub forced-loss : Position → Bool
-forced-loss p = has-critical p (other (p .turn)) && forced p (other (p .turn)) (p .due)
+forced-loss p = has-critical p (other (p .turn)) && forced p (other (p .turn)) (p .next-board)
 
 -- ---- w's boards and the open ones still hold a line
 unfoldable pub winnable : Position → Player → Bool
@@ -84,7 +84,7 @@ unfoldable pub merged : Position → Option Status
 merged p = combine (p .turn) (prove-attacker p) (forced-loss p) (winnable p X) (winnable p O)
 
 -- ---- the six counts of one analysis
-pub record Stats : Type 0 where
+pub record EndgameStats : Type 0 where
   pub attacker-critical : ℕ
   pub defender-critical : ℕ
   pub both-critical : ℕ
@@ -92,12 +92,12 @@ pub record Stats : Type 0 where
   pub prove-attacker : ℕ
   pub prove-defender : ℕ
 
-abbrev pub no-stats : Stats
-no-stats =
+abbrev pub no-endgame-stats : EndgameStats
+no-endgame-stats =
     record { attacker-critical = 0; defender-critical = 0; both-critical = 0; unwinnable = 0; prove-attacker = 0; prove-defender = 0 }
 
-unfoldable pub stats : Position → Stats
-stats p =
+unfoldable pub endgame-stats : Position → EndgameStats
+endgame-stats p =
     let a = has-critical p (p .turn) in
     let d = has-critical p (other (p .turn)) in
     let wins = prove-attacker p in
@@ -115,7 +115,7 @@ pub record Analysis : Type 0 where
   -- 14, or 0 where it is not refused
   pub refusal : ℕ
   pub status : Status
-  pub stats : Stats
+  pub stats : EndgameStats
 
 unfoldable pub or-unproven : Option Status → Status
 or-unproven none = unproven
@@ -123,12 +123,12 @@ or-unproven (some s) = s
 
 -- what is asked of a position: that it is not unfinished and unsound
 abbrev pub analysis-checks : Position → List (Bool × ℕ)
-analysis-checks p = (not (going p && not (sound p)), 14) ∷ []
+analysis-checks p = (not (unfinished p && not (sound p)), 14) ∷ []
 
 unfoldable pub analysis : Position → Analysis
 analysis p =
-    if going p && sound p then (λ _. record { refusal = 0; status = or-unproven (merged p); stats = stats p }) else
-    λ _. record { refusal = first-failed (analysis-checks p); status = unproven; stats = no-stats }
+    if unfinished p && sound p then (λ _. record { refusal = 0; status = or-unproven (merged p); stats = endgame-stats p }) else
+    λ _. record { refusal = first-failed (analysis-checks p); status = unproven; stats = no-endgame-stats }
 
 -- ---- a move, judged: 14 first, then what play refuses. The Rust's answer, which calls some moves lost that win at once
 pub record Judged : Type 0 where

@@ -22,8 +22,8 @@ abbrev pub lost : ℤ
 lost = negsuc 1152921504606846975
 
 -- how many of a line's three places pass a test
-unfoldable pub count : (ℕ → Bool) → Line → ℕ
-count own l = cond (own (l .i)) 1 0 + cond (own (l .j)) 1 0 + cond (own (l .k)) 1 0
+unfoldable pub places-in : (ℕ → Bool) → Line → ℕ
+places-in own l = cond (own (l .i)) 1 0 + cond (own (l .j)) 1 0 + cond (own (l .k)) 1 0
 
 -- a line with both sides in it gives nothing
 unfoldable pub unless-both : ℕ → ℕ → ℤ → ℤ
@@ -39,7 +39,7 @@ worth (suc (suc (suc n))) = 0
 -- ---- as X sees it
 unfoldable pub board-line : (ℕ → Bool) → (ℕ → Bool) → Line → ℤ
 board-line xs os l =
-    let x = count xs l in let o = count os l in
+    let x = places-in xs l in let o = places-in os l in
     unless-both x o (pos (worth x) -ℤ pos (worth o))
 
 -- a closed board scores 0
@@ -49,7 +49,7 @@ board-score p b = if open-board p b then (λ _. sum (board-line (has p X b) (has
 -- an overall line gives 20 for each board that its side has won, and the scores of its three boards; a drawn board is neither side's
 unfoldable pub overall-line : (ℕ → Bool) → (ℕ → Bool) → (ℕ → ℤ) → Line → ℤ
 overall-line xs os score l =
-    let x = count xs l in let o = count os l in
+    let x = places-in xs l in let o = places-in os l in
     unless-both x o ((pos (x * 20) -ℤ pos (o * 20)) +ℤ (score (l .i) +ℤ (score (l .j) +ℤ score (l .k))))
 
 unfoldable pub score : Position → ℤ
@@ -75,10 +75,10 @@ scoring-with w = record { draws = w }
 abbrev pub no-draw-winner : Scoring
 no-draw-winner = scoring-with Nobody
 
-abbrev pub value-of : Scoring → Position → GameState → ℤ
-value-of sc p InPlay = score p
-value-of sc p Drawn = draw-value (sc .draws)
-value-of sc p (Won w) = seen-by w won
+abbrev pub state-value : Scoring → Position → GameState → ℤ
+state-value sc p InPlay = score p
+state-value sc p Drawn = draw-value (sc .draws)
+state-value sc p (Won w) = seen-by w won
 
 unfoldable pub evaluate : Scoring → Position → ℤ
-evaluate sc p = seen-by (p .turn) (value-of sc p (p .state))
+evaluate sc p = seen-by (p .turn) (state-value sc p (p .state))

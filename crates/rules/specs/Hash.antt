@@ -12,11 +12,11 @@ use Rattle.rules.specs.declared.GameState.the-variants.{InPlay, Drawn, W
 use Rattle.rules.specs.declared.NextBoard.{NextBoard}
 use Rattle.rules.specs.declared.NextBoard.the-variants.{Any, Only}
 use Rattle.base.specs.Branch.{if_then_else_}
-use Rattle.base.specs.Change.{put}
+use Rattle.base.specs.Update.{update}
 use Rattle.rules.specs.Board.{nine, in-play}
 use Rattle.rules.specs.Position.{Position}
 use Rattle.rules.specs.Play.{after}
-use Rattle.rules.specs.Keys.{x-cell-keys, o-cell-keys, drawn-keys, x-board-keys, o-board-keys, due-keys, x-key, o-key}
+use Rattle.rules.specs.Keys.{x-cell-keys, o-cell-keys, drawn-keys, x-board-keys, o-board-keys, next-board-keys, x-key, o-key}
 
 abbrev pub cell-keys : Player → List ℕ
 cell-keys X = x-cell-keys
@@ -35,9 +35,9 @@ board-key b InPlay = 0
 board-key b Drawn = getD drawn-keys b 0
 board-key b (Won w) = getD (won-keys w) b 0
 
-unfoldable pub due-key : NextBoard → ℕ
-due-key Any = 0
-due-key (Only b) = getD due-keys b 0
+unfoldable pub next-board-key : NextBoard → ℕ
+next-board-key Any = 0
+next-board-key (Only b) = getD next-board-keys b 0
 
 abbrev pub player-key : Player → ℕ
 player-key X = x-key
@@ -60,7 +60,7 @@ hash p = xors (λ b. board-hash b (p .cells b) (p .states b)) nine
 
 -- what next board and side to move add to a hash
 unfoldable pub with-turn : Position → ℕ → ℕ
-with-turn p h = bitXor h (bitXor (due-key (p .due)) (player-key (p .turn)))
+with-turn p h = bitXor h (bitXor (next-board-key (p .next-board)) (player-key (p .turn)))
 
 unfoldable pub zobrist : Position → ℕ
 zobrist p = with-turn p (hash p)
@@ -70,6 +70,6 @@ zobrist p = with-turn p (hash p)
 unfoldable pub hash-after : Position → ℕ → ℕ → ℕ → ℕ
 hash-after p b c h =
     let w = p .turn in
-    let row = put (p .cells b) c (Played w) in
+    let row = update (p .cells b) c (Played w) in
     let g = after p b c .states b in
     bitXor (board-key b g) (bitXor (if in-play g then (λ _. 0) else λ _. cells-hash b row) (bitXor (cell-key b c (Played w)) h))

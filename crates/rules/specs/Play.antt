@@ -8,9 +8,9 @@ use Rattle.rules.specs.declared.NextBoard.{NextBoard}
 use Rattle.rules.specs.declared.NextBoard.the-variants.{Any, Only}
 use Rattle.base.specs.Branch.{if_then_else_}
 use Rattle.base.specs.Checks.{all-pass, first-failed}
-use Rattle.base.specs.Change.{put}
+use Rattle.base.specs.Update.{update}
 use Rattle.rules.specs.Board.{other, blank, mine, in-play, won-by, result}
-use Rattle.rules.specs.Position.{Position, going, open-board, free-cell}
+use Rattle.rules.specs.Position.{Position, unfinished, open-board, free-cell}
 
 -- ---- a move is 16 times board plus cell
 abbrev pub move-of : ℕ → ℕ → ℕ
@@ -34,9 +34,9 @@ may (Only d) b = eqb d b
 abbrev pub checks : Position → ℕ → ℕ → List (Bool × ℕ)
 checks p b c =
     (ltb b 9 && ltb c 9, 9) ∷
-    (going p, 10) ∷
+    (unfinished p, 10) ∷
     (open-board p b, 11) ∷
-    (may (p .due) b, 12) ∷
+    (may (p .next-board) b, 12) ∷
     (free-cell p b c, 13) ∷ []
 
 unfoldable pub accepts : Position → ℕ → Bool
@@ -47,12 +47,12 @@ accepts p m = all-pass (checks p (board-of m) (cell-of m))
 unfoldable pub after : Position → ℕ → ℕ → Position
 after p b c =
     let w = p .turn in
-    let row = put (p .cells b) c (Played w) in
-    let states = put (p .states) b (result w (λ i. mine w (row i)) (λ i. blank (row i))) in
+    let row = update (p .cells b) c (Played w) in
+    let states = update (p .states) b (result w (λ i. mine w (row i)) (λ i. blank (row i))) in
     record {
       turn = other w;
-      due = if in-play (states c) then (λ _. Only c) else λ _. Any;
-      cells = put (p .cells) b row;
+      next-board = if in-play (states c) then (λ _. Only c) else λ _. Any;
+      cells = update (p .cells) b row;
       states = states;
       state = result w (λ i. won-by w (states i)) (λ i. in-play (states i));
     }

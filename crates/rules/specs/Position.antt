@@ -12,17 +12,17 @@ use Rattle.rules.specs.declared.NextBoard.{NextBoard}
 use Rattle.rules.specs.declared.NextBoard.the-variants.{Any, Only}
 use Rattle.rules.specs.Board.{blank, mine, in-play, won-by}
 
-abbrev pub same-due : NextBoard → NextBoard → Bool
-same-due Any Any = true
-same-due Any (Only c) = false
-same-due (Only b) Any = false
-same-due (Only b) (Only c) = eqb b c
+abbrev pub same-next-board : NextBoard → NextBoard → Bool
+same-next-board Any Any = true
+same-next-board Any (Only c) = false
+same-next-board (Only b) Any = false
+same-next-board (Only b) (Only c) = eqb b c
 
 pub record Position : Type 0 where
   -- the side to move
   pub turn : Player
   -- the next board: free choice, or one board that is due
-  pub due : NextBoard
+  pub next-board : NextBoard
   -- cell c of board b
   pub cells : ℕ → ℕ → CellState
   -- board b, in play, drawn or won
@@ -32,10 +32,10 @@ pub record Position : Type 0 where
 
 -- the empty board: X to move, free choice
 abbrev pub start : Position
-start = record { turn = X; due = Any; cells = λ _ _. Empty; states = λ _. InPlay; state = InPlay }
+start = record { turn = X; next-board = Any; cells = λ _ _. Empty; states = λ _. InPlay; state = InPlay }
 
-abbrev pub going : Position → Bool
-going p = in-play (p .state)
+abbrev pub unfinished : Position → Bool
+unfinished p = in-play (p .state)
 
 abbrev pub open-board : Position → ℕ → Bool
 open-board p b = in-play (p .states b)

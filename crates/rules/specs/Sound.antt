@@ -5,7 +5,7 @@ use Rattle.base.specs.Lists.{any, all}
 use Rattle.rules.specs.declared.NextBoard.{NextBoard}
 use Rattle.rules.specs.declared.NextBoard.the-variants.{Any, Only}
 use Rattle.rules.specs.Board.{sides, nine, has-line}
-use Rattle.rules.specs.Position.{Position, going, open-board, won-boards, free-cell, has}
+use Rattle.rules.specs.Position.{Position, unfinished, open-board, won-boards, free-cell, has}
 
 -- document 01's "sound", asked of an unfinished position: no side has a line of boards, and each board in play has an empty cell and no side's line
 unfoldable pub sound : Position → Bool
@@ -14,9 +14,9 @@ sound p =
     all (λ b. not (open-board p b) || (any (free-cell p b) nine && all (λ w. not (has-line (has p w b))) sides)) nine
 
 -- what play and reading give besides: the board that is due is one of the nine and in play, and an unfinished game has a board in play
-abbrev pub due-open : Position → NextBoard → Bool
-due-open p Any = true
-due-open p (Only b) = ltb b 9 && open-board p b
+abbrev pub next-board-open : Position → NextBoard → Bool
+next-board-open p Any = true
+next-board-open p (Only b) = ltb b 9 && open-board p b
 
 unfoldable pub proper : Position → Bool
-proper p = due-open p (p .due) && (not (going p) || any (open-board p) nine)
+proper p = next-board-open p (p .next-board) && (not (unfinished p) || any (open-board p) nine)

@@ -4,7 +4,7 @@
 ghost use mathlib.Core.Path.{_≡_};
 ghost use mathlib.Core.Bool.{not};
 ghost use Rattle.rules.specs.Board.{other, side-number, in-play, state-number};
-ghost use Rattle.rules.specs.Position.{same-due};
+ghost use Rattle.rules.specs.Position.{same-next-board};
 ghost use Rattle.rules.specs.Play.{may};
 
 pub enum Player {
@@ -69,7 +69,7 @@ impl GameState {
     }
 }
 
-// The board that is due: free choice, or one board.
+// The next board: free choice, or the one board that is due.
 pub enum NextBoard {
     Any,
     Only(u8),
@@ -87,7 +87,7 @@ impl NextBoard {
     }
 
     pub fn same(self, rhs: NextBoard) -> bool
-        ensures { λ r. ⌜ r ≡ same-due self rhs ⌝ }
+        ensures { λ r. ⌜ r ≡ same-next-board self rhs ⌝ }
     {
         match self {
             NextBoard::Any => match rhs {

@@ -7,10 +7,10 @@ use lib.Bits.{bitAnd, and-mask, and-step}
 use lib.Dec.{eqb, eqb→eq}
 use Rattle.base.specs.Branch.{if_then_else_}
 use Rattle.base.specs.Bits.{bit}
-use Rattle.base.proofs.Digits.{bit-low, bit-suc}
+use Rattle.base.proofs.BitsOperations.{bit-low, bit-suc}
 use Rattle.base.proofs.Bool.{always}
 use Rattle.rules.specs.Status.{Status, as-byte, from-byte, merge}
-use Rattle.rules.proofs.StatusFacts.{from-byte-none}
+use Rattle.rules.proofs.Status.{from-byte-none}
 use Rattle.status.specs.declared.Read.the-variants.{Set, Nothing}
 use Rattle.status.specs.Sets.{read-of}
 

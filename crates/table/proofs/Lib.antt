@@ -1,2 +1,2 @@
-pub mod Words
-pub mod Rows
+pub mod EntriesWords
+pub mod EntriesRows

@@ -5,8 +5,8 @@ use Rattle.theory.specs.Table.{Entry as Meant}
 use Rattle.table.specs.declared.Bound.{Bound}
 use Rattle.table.specs.declared.Bound.the-variants.{Exact, AtLeast, AtMost}
 use Rattle.table.specs.declared.Entry.{Entry}
-use Rattle.table.specs.declared.Held.{Held}
-use Rattle.table.specs.declared.Held.the-variants.{Entry as Holds, Absent}
+use Rattle.table.specs.declared.LookupResult.{LookupResult}
+use Rattle.table.specs.declared.LookupResult.the-variants.{Entry as Holds, Absent}
 
 -- document 01's numbers
 abbrev pub bound-number : Bound → ℕ
@@ -17,6 +17,6 @@ bound-number AtMost = 2
 abbrev pub entry-means : Entry → Meant
 entry-means e = record { value = e .value; depth = e .depth; bound = bound-number (e .bound); move = e .pv .bits }
 
-abbrev pub held-means : Held → Option Meant
-held-means (Holds e) = some (entry-means e)
-held-means Absent = none
+abbrev pub lookup-means : LookupResult → Option Meant
+lookup-means (Holds e) = some (entry-means e)
+lookup-means Absent = none

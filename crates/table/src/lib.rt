@@ -3,8 +3,8 @@
 // changed: one slot, lent words for a box of entries, no index bytes and no statistics.
 ghost use mathlib.Core.Path.{_≡_};
 ghost use Prim.Native.Nat.{_+_, _≤_, _<_};
-ghost use Rattle.theory.specs.Table.{value-of, word-of, rest-of, entry-of, begins, look-up, replaces, store};
-ghost use Rattle.table.specs.Entries.{bound-number, entry-means, held-means};
+ghost use Rattle.theory.specs.Table.{from-word, to-word, rest-of, entry-of, begins, look-up, replaces, store};
+ghost use Rattle.table.specs.Entries.{bound-number, entry-means, lookup-means};
 use boards::Move;
 use boards::PLACES;
 
@@ -22,7 +22,7 @@ pub struct Entry {
 }
 
 // What the table holds for a position.
-pub enum Held {
+pub enum LookupResult {
     Entry(Entry),
     Absent,
 }
@@ -35,7 +35,7 @@ pub const DEEPEST: u64 = PLACES as u64;
 
 // A word as a number in two's complement.
 fn from_word(w: u64) -> i64
-    ensures { λ r. ⌜ r ≡ value-of w ⌝ }
+    ensures { λ r. ⌜ r ≡ from-word w ⌝ }
 {
     if w < 9223372036854775808 {
         w as i64
@@ -45,7 +45,7 @@ fn from_word(w: u64) -> i64
 }
 
 pub fn to_word(value: i64) -> u64
-    ensures { λ r. ⌜ r ≡ word-of value ⌝ }
+    ensures { λ r. ⌜ r ≡ to-word value ⌝ }
 {
     if value < 0 {
         18446744073709551615 - ((-(value + 1)) as u64)
@@ -85,32 +85,32 @@ fn number_of(bound: Bound) -> u64
 }
 
 // What an entry's second and third words say.
-fn entry_of(value: u64, rest: u64) -> Held
-    ensures { λ r. ⌜ held-means r ≡ entry-of value rest ⌝ }
+fn entry_of(value: u64, rest: u64) -> LookupResult
+    ensures { λ r. ⌜ lookup-means r ≡ entry-of value rest ⌝ }
 {
     let v = from_word(value);
     if v < -WIDEST {
-        return Held::Absent;
+        return LookupResult::Absent;
     }
     if v > WIDEST {
-        return Held::Absent;
+        return LookupResult::Absent;
     }
     let depth = rest % 256;
     if depth == 0 {
-        return Held::Absent;
+        return LookupResult::Absent;
     }
     if depth > DEEPEST {
-        return Held::Absent;
+        return LookupResult::Absent;
     }
     let bound = rest / 256 % 256;
     if bound > 2 {
-        return Held::Absent;
+        return LookupResult::Absent;
     }
     let m = rest / 65536;
     if m > 255 {
-        return Held::Absent;
+        return LookupResult::Absent;
     }
-    Held::Entry(Entry {
+    LookupResult::Entry(Entry {
         value: v,
         depth: depth as u8,
         bound: bound_of(bound),
@@ -128,27 +128,27 @@ fn rest_of(e: Entry) -> u64
 }
 
 // The entry of a hash, if the table has it.
-pub fn lookup(words: &[u64], hash: u64) -> Held
-    ensures { λ r. ⌜ held-means r ≡ look-up (now (words .entry)) hash ⌝ }
+pub fn lookup(words: &[u64], hash: u64) -> LookupResult
+    ensures { λ r. ⌜ lookup-means r ≡ look-up (now (words .entry)) hash ⌝ }
 {
     let n = words.len();
     if n < 3 {
-        return Held::Absent;
+        return LookupResult::Absent;
     }
     let i = slot(hash, n);
     if words[i] != hash {
-        return Held::Absent;
+        return LookupResult::Absent;
     }
     entry_of(words[i + 1], words[i + 2])
 }
 
 // Whether an entry of a depth replaces what is held.
-fn replaces(depth: u8, held: Held) -> bool
-    ensures { λ r. ⌜ r ≡ replaces depth (held-means held) ⌝ }
+fn replaces(depth: u8, held: LookupResult) -> bool
+    ensures { λ r. ⌜ r ≡ replaces depth (lookup-means held) ⌝ }
 {
     match held {
-        Held::Absent => true,
-        Held::Entry(e) => e.depth < depth,
+        LookupResult::Absent => true,
+        LookupResult::Entry(e) => e.depth < depth,
     }
 }
 

@@ -15,12 +15,12 @@ use Rattle.rules.specs.declared.NextBoard.{NextBoard}
 use Rattle.rules.specs.declared.NextBoard.the-variants.{Any, Only}
 use Rattle.rules.specs.Board.{has-line, result}
 use Rattle.rules.specs.Position.{Position, start}
-use Rattle.rules.specs.Hash.{cell-key, board-key, due-key, xors, cells-hash, board-hash, hash}
+use Rattle.rules.specs.Hash.{cell-key, board-key, next-board-key, xors, cells-hash, board-hash, hash}
 use Rattle.text.specs.Bytes.{semicolon}
 use Rattle.text.specs.Reading.{Reading, reads, refuses, side-of, overall-mark, cell-mark, sections, first-bad, last-at, fault-at, first-fault, cell-in, state-in, said, read-cells, read-overall, read}
-use Rattle.text.specs.Writing.{overall-byte, board-text, joined, text-of}
+use Rattle.text.specs.Writing.{overall-byte, board-text, joined-by, text-of}
 use Rattle.text.specs.MoveText.{reads-move, bad-length, bad-character, read-letters, read-move, move-text}
-use Rattle.text.proofs.RoundTrip.{start-is-written, read-after-write}
+use Rattle.text.proofs.WritingRoundTrip.{start-is-written, read-after-write}
 
 -- ---- what the facts compute with
 -- the bytes of a quoted text of ASCII
@@ -37,19 +37,19 @@ told f (refuses n o l) = none
 pub record Seen : Type 0 where
   pub text : List ℕ
   pub state : GameState
-  pub due : NextBoard
+  pub next-board : NextBoard
   pub hash : ℕ
 
 -- what is compared with the Rust
 abbrev pub seen : Reading → Option Seen
-seen r = told (λ p. record { text = text-of p; state = p .state; due = p .due; hash = hash p }) r
+seen r = told (λ p. record { text = text-of p; state = p .state; next-board = p .next-board; hash = hash p }) r
 
 reading : Unit {0}
 unfolding bytes read sections read-overall first-bad read-cells first-fault fault-at side-of overall-mark cell-mark said last-at cell-in state-in result has-line any if_then_else_
 reading = tt
 
 seeing : Unit {0}
-unfolding text-of joined board-text overall-byte hash xors board-hash cells-hash cell-key board-key due-key reading
+unfolding text-of joined-by board-text overall-byte hash xors board-hash cells-hash cell-key board-key next-board-key reading
 seeing = tt
 
 -- ---- the empty board
@@ -71,7 +71,7 @@ pub empty-text-reads : read empty-text ≡ reads start
 empty-text-reads = ap read (sym start-text) ∙ read-after-write start start-is-written
 
 -- its hash is 0
-pub empty-text-is-seen : seen (read empty-text) ≡ some (record { text = empty-text; state = InPlay; due = Any; hash = 0 })
+pub empty-text-is-seen : seen (read empty-text) ≡ some (record { text = empty-text; state = InPlay; next-board = Any; hash = 0 })
 unfolding empty-text e9 seeing
 empty-text-is-seen = refl
 
@@ -114,7 +114,7 @@ cell-refusals = (refl, refl, refl, refl, refl, refl)
 
 -- ---- of several `@` the last is the next board, and all are in play
 pub several-due :
-    (told (λ p. p .due) (read (bytes "O;@X@.#@.O.;" ++ e9)) ≡ some (Only 5))
+    (told (λ p. p .next-board) (read (bytes "O;@X@.#@.O.;" ++ e9)) ≡ some (Only 5))
     × (told text-of (read (bytes "O;@X@.#@.O.;" ++ e9)) ≡ some (bytes "O;.X..#@.O.;" ++ e9))
 unfolding e9 seeing
 several-due = (refl, refl)
@@ -152,7 +152,7 @@ rust-refusals = (refl, refl, refl, refl, refl, refl, refl, refl, refl, refl, ref
 
 -- a text reads, with what the Rust then shows
 abbrev Rust : List ℕ → String → GameState → NextBoard → ℕ → Type 0
-Rust t again g d h = seen (read t) ≡ some (record { text = bytes again; state = g; due = d; hash = h })
+Rust t again g d h = seen (read t) ≡ some (record { text = bytes again; state = g; next-board = d; hash = h })
 
 -- positions: won, drawn though X has every line, with a tail, with several `@`
 pub rust-readings :

@@ -1,7 +1,7 @@
 pub mod Writing
-pub mod Scan
+pub mod ReadingScan
 pub mod Reading
-pub mod RoundTrip
+pub mod WritingRoundTrip
 pub mod MoveText
 pub mod Examples
 pub mod ProgramLine

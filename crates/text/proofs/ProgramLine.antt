@@ -15,8 +15,8 @@ use Rattle.base.proofs.Branch.{if-ind, if-both}
 use Rattle.rules.specs.declared.Player.the-variants.{X}
 use Rattle.rules.specs.Status.{Status, unproven, for-player}
 use Rattle.rules.specs.Play.{no-move}
-use Rattle.text.specs.Bytes.{blank, first-digit}
-use Rattle.text.specs.ProgramLine.{Parted, no-blank, around, parted-with, parted, depth-of, no-depth, asks, asked, in-places, decimal, signed, shown, status-letters, move-letters, or-minus, joined, spaced, answer-text, refusal-text}
+use Rattle.text.specs.Bytes.{space, first-digit}
+use Rattle.text.specs.ProgramLine.{Parted, no-blank, around, parted-with, parted, depth-of, no-depth, asks, asked, in-places, decimal, signed, shown, status-letters, move-letters, or-minus, moves-text, spaced, answer-text, refusal-text}
 use Rattle.text.proofs.Examples.{bytes}
 
 computing : Unit {0}
@@ -51,13 +51,13 @@ depths = (refl, refl, refl, refl, refl, refl, refl)
 -- ---- a line, parted
 -- at its last blank: none follows
 abbrev pub Parts : List ℕ → Parted → Type 0
-Parts line no-blank = In blank line → ⊥
-Parts line (around text rest) = (line ≡ text ++ (blank ∷ rest)) × (In blank rest → ⊥)
+Parts line no-blank = In space line → ⊥
+Parts line (around text rest) = (line ≡ text ++ (space ∷ rest)) × (In space rest → ⊥)
 
 parts-with : (c : ℕ) (cs : List ℕ) (p : Parted) → Parts cs p → Parts (c ∷ cs) (parted-with c cs p)
-parts-with c cs no-blank h = if-ind (Parts (c ∷ cs)) (eqb c blank) _ _
-    (λ t. (ap (λ (b : ℕ). b ∷ cs) (eqb→eq c blank t), h))
-    (λ n i. elim i [ inl e ↦ T-not (eqb c blank) n (subst (λ (b : ℕ). T (eqb b blank)) e tt) | inr k ↦ h k ])
+parts-with c cs no-blank h = if-ind (Parts (c ∷ cs)) (eqb c space) _ _
+    (λ t. (ap (λ (b : ℕ). b ∷ cs) (eqb→eq c space t), h))
+    (λ n i. elim i [ inl e ↦ T-not (eqb c space) n (subst (λ (b : ℕ). T (eqb b space)) e tt) | inr k ↦ h k ])
 parts-with c cs (around text rest) h = (ap (_∷_ c) (h .0), h .1)
 
 pub parted-parts : (line : List ℕ) → Parts line (parted line)
@@ -66,23 +66,23 @@ parted-parts [] = λ i. i
 parted-parts (c ∷ cs) = parts-with c cs (parted cs) (parted-parts cs)
 
 -- one byte more: a blank
-pub parted-blank : (line : List ℕ) → parted (line ++ (blank ∷ [])) ≡ around line []
+pub parted-blank : (line : List ℕ) → parted (line ++ (space ∷ [])) ≡ around line []
 unfolding parted if_then_else_
 parted-blank [] = refl
-parted-blank (c ∷ cs) = ap (parted-with c (cs ++ (blank ∷ []))) (parted-blank cs)
+parted-blank (c ∷ cs) = ap (parted-with c (cs ++ (space ∷ []))) (parted-blank cs)
 
 -- another
 abbrev pub followed : ℕ → Parted → Parted
 followed b no-blank = no-blank
 followed b (around text rest) = around text (rest ++ (b ∷ []))
 
-pub parted-other : (line : List ℕ) (b : ℕ) → eqb b blank ≡ false → parted (line ++ (b ∷ [])) ≡ followed b (parted line)
+pub parted-other : (line : List ℕ) (b : ℕ) → eqb b space ≡ false → parted (line ++ (b ∷ [])) ≡ followed b (parted line)
 unfolding parted if_then_else_
 parted-other [] b n = rw n
 parted-other (c ∷ cs) b n = ap (parted-with c (cs ++ (b ∷ []))) (parted-other cs b n) ∙ front (parted cs)
   where
     front : (p : Parted) → parted-with c (cs ++ (b ∷ [])) (followed b p) ≡ followed b (parted-with c cs p)
-    front no-blank = if-both (λ (p q : Parted). p ≡ followed b q) (eqb c blank) _ _ _ _ (λ _. refl) (λ _. refl)
+    front no-blank = if-both (λ (p q : Parted). p ≡ followed b q) (eqb c space) _ _ _ _ (λ _. refl) (λ _. refl)
     front (around text rest) = refl
 
 -- ---- lengths
@@ -115,7 +115,7 @@ unfolding move-letters
 letters-short [] = omega arith
 letters-short (m ∷ ms) = if-ind (λ (t : List ℕ). length t ≤ 2 * suc (length ms)) (eqb m no-move) _ _ (λ _. omega arith) (λ _. omega (arith, letters-short ms))
 
-joined-short : (ms : List ℕ) → length ms ≤ 81 → length (joined ms) ≤ 162
+joined-short : (ms : List ℕ) → length ms ≤ 81 → length (moves-text ms) ≤ 162
 joined-short ms h = go (move-letters ms) (omega (arith, letters-short ms))
   where
     go : (t : List ℕ) → length t ≤ 162 → length (or-minus t) ≤ 162
@@ -123,7 +123,7 @@ joined-short ms h = go (move-letters ms) (omega (arith, letters-short ms))
     go (c ∷ cs) k = k
 
 spaced-length : (t u : List ℕ) (us : List (List ℕ)) → length (spaced (t ∷ u ∷ us)) ≡ length t + suc (length (spaced (u ∷ us)))
-spaced-length t u us = length-append t (blank ∷ spaced (u ∷ us))
+spaced-length t u us = length-append t (space ∷ spaced (u ∷ us))
 
 -- the longest answer
 pub answer-short : (s : Status) (legal depth : ℕ) (score : ℤ) (count : ℕ) (line : List ℕ) → legal < 10 ^ 2 → depth < 10 ^ 2 → natAbs score < 10 ^ 19 → count < 10 ^ 7 → length line ≤ 81 →
@@ -137,9 +137,9 @@ answer-short s legal depth score count line a b c d e =
       signed-short 18 score c,
       decimal-short 6 count d,
       joined-short line e,
-      spaced-length (status-letters s) (decimal legal) (decimal depth ∷ signed score ∷ decimal count ∷ joined line ∷ []),
-      spaced-length (decimal legal) (decimal depth) (signed score ∷ decimal count ∷ joined line ∷ []),
-      spaced-length (decimal depth) (signed score) (decimal count ∷ joined line ∷ []),
-      spaced-length (signed score) (decimal count) (joined line ∷ []),
-      spaced-length (decimal count) (joined line) [],
+      spaced-length (status-letters s) (decimal legal) (decimal depth ∷ signed score ∷ decimal count ∷ moves-text line ∷ []),
+      spaced-length (decimal legal) (decimal depth) (signed score ∷ decimal count ∷ moves-text line ∷ []),
+      spaced-length (decimal depth) (signed score) (decimal count ∷ moves-text line ∷ []),
+      spaced-length (signed score) (decimal count) (moves-text line ∷ []),
+      spaced-length (decimal count) (moves-text line) [],
     )

@@ -19,13 +19,13 @@ use Rattle.rules.specs.declared.GameState.the-variants.{InPlay}
 use Rattle.rules.specs.declared.NextBoard.the-variants.{Any}
 use Rattle.rules.specs.Board.{other, result}
 use Rattle.rules.specs.Position.{Position, open-board, won-boards}
-use Rattle.rules.specs.Sound.{due-open, proper}
+use Rattle.rules.specs.Sound.{next-board-open, proper}
 use Rattle.rules.proofs.Board.{result-open}
 use Rattle.rules.proofs.Play.{same-position}
 use Rattle.rules.proofs.Sound.{→proper}
 use Rattle.text.specs.Bytes.{semicolon, dot}
 use Rattle.text.specs.Reading.{Reading, reads, refuses, overall-mark, cell-mark, or-else, sections, first-longer, first-bad, fault-at, first-fault, cell-in, state-in, said, read-cells, read-marks, read-overall, lone-side, read-side, read-sections, read}
-use Rattle.text.proofs.Scan.{if-equal, Clear, one-section, semicolons, section-count, last-at-cases, faultless-is-there, no-fault, no-fault→, first-fault-at-most-6}
+use Rattle.text.proofs.ReadingScan.{if-equal, Clear, one-section, semicolons, section-count, last-at-cases, faultless-is-there, no-fault, no-fault→, first-fault-at-most-6}
 
 -- ---- the answers
 -- the text is not too long and has three sections
@@ -156,9 +156,9 @@ cell-in-at cs b c h k l = if-ind (λ s. s ≡ or-else (cell-mark (getD cs (10 * 
     (λ n. absurd (T-not (ltb b 9 && ltb c 9) n (→and (ltb b 9) _ (lt→ltb b 9 h) (lt→ltb c 9 k))))
 
 -- the board that is due has an `@`, so it reads as in play
-said-due : (w : Player) (os cs : List ℕ) → length os ≡ 9 → T (due-open (said w os cs) (said w os cs .due))
+said-due : (w : Player) (os cs : List ℕ) → length os ≡ 9 → T (next-board-open (said w os cs) (said w os cs .next-board))
 unfolding said overall-mark if_then_else_
-said-due w os cs n = last-at-cases (λ d. T (due-open (said w os cs) d)) 0 os Any (λ _. tt) (λ k h e _.
+said-due w os cs n = last-at-cases (λ d. T (next-board-open (said w os cs) d)) 0 os Any (λ _. tt) (λ k h e _.
     let z : 0 + k ≡ k = omega arith in
     rw z (→and (ltb k 9) _ (lt→ltb k 9 (omega arith)) (rw (state-in-at os k (omega arith) h, e) tt)))
 

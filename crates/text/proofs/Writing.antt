@@ -10,7 +10,7 @@ use Rattle.base.specs.Lists.{from}
 use Rattle.rules.specs.Board.{nine}
 use Rattle.rules.specs.Position.{Position}
 use Rattle.text.specs.Bytes.{slash}
-use Rattle.text.specs.Writing.{cell-byte, overall-byte, board-text, joined, text-of, cells-byte, byte-at}
+use Rattle.text.specs.Writing.{cell-byte, overall-byte, board-text, joined-by, text-of, cells-byte, byte-at}
 
 -- ---- a list made from a run of numbers
 -- it has as many elements
@@ -36,7 +36,7 @@ cell-elsewhere p k n = rw (ne-eqb (k % 10) 9 n)
 
 -- the text is those bytes
 pub text-is-bytes : (p : Position) → text-of p ≡ map (byte-at p) (from 0 101)
-unfolding text-of byte-at cells-byte joined board-text if_then_else_
+unfolding text-of byte-at cells-byte joined-by board-text if_then_else_
 text-is-bytes p = refl
 
 -- every position's text has 101 bytes
@@ -58,10 +58,10 @@ marks-at p b h = run-at (overall-byte p) 0 0 9 b h ∙ ap (overall-byte p) (omeg
 
 -- the cells
 abbrev pub cells-of : Position → List ℕ
-cells-of p = joined slash (board-text p) nine
+cells-of p = joined-by slash (board-text p) nine
 
 cells-are-bytes : (p : Position) → cells-of p ≡ map (cells-byte p) (from 0 89)
-unfolding cells-byte joined board-text if_then_else_
+unfolding cells-byte joined-by board-text if_then_else_
 cells-are-bytes p = refl
 
 -- they take 89 bytes

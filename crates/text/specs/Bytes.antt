@@ -29,8 +29,8 @@ abbrev pub first-letter : ℕ
 first-letter = 0x61
 
 -- ---- of the program's lines
-abbrev pub blank : ℕ
-blank = 0x20
+abbrev pub space : ℕ
+space = 0x20
 
 -- of a negative number, and for no move
 abbrev pub minus : ℕ

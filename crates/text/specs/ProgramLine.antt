@@ -9,7 +9,7 @@ use Rattle.base.specs.Branch.{if_then_else_}
 use Rattle.rules.specs.declared.Player.the-variants.{X, O}
 use Rattle.rules.specs.Status.{Status}
 use Rattle.rules.specs.Play.{no-move}
-use Rattle.text.specs.Bytes.{blank, minus, first-digit, letter, letter-draw, letter-refused}
+use Rattle.text.specs.Bytes.{space, minus, first-digit, letter, letter-draw, letter-refused}
 use Rattle.text.specs.MoveText.{move-text}
 
 -- ---- what a line asks: `position depth`
@@ -20,7 +20,7 @@ pub data Parted : Type 0 where
 
 -- with c in front: a blank is the last one where none follows it
 abbrev pub parted-with : ℕ → List ℕ → Parted → Parted
-parted-with c cs no-blank = if eqb c blank then (λ _. around [] cs) else λ _. no-blank
+parted-with c cs no-blank = if eqb c space then (λ _. around [] cs) else λ _. no-blank
 parted-with c cs (around text rest) = around (c ∷ text) rest
 
 unfoldable pub parted : List ℕ → Parted
@@ -37,25 +37,25 @@ depth-of (c ∷ []) = if is-digit c then (λ _. some (c - first-digit)) else λ 
 depth-of (c ∷ d ∷ []) = if is-digit c && is-digit d then (λ _. some (10 * (c - first-digit) + (d - first-digit))) else λ _. none
 depth-of (c ∷ d ∷ e ∷ cs) = none
 
-pub data Asked : Type 0 where
+pub data Question : Type 0 where
   -- 19
-  no-depth : Asked
-  asks : (text : List ℕ) (depth : ℕ) → Asked
+  no-depth : Question
+  asks : (text : List ℕ) (depth : ℕ) → Question
 
-abbrev pub asks-with : List ℕ → Option ℕ → Asked
+abbrev pub asks-with : List ℕ → Option ℕ → Question
 asks-with text none = no-depth
 asks-with text (some depth) = asks text depth
 
-abbrev pub asked-by : Parted → Asked
+abbrev pub asked-by : Parted → Question
 asked-by no-blank = no-depth
 asked-by (around text rest) = asks-with text (depth-of rest)
 
 -- of the bytes of a line without its line feed
-abbrev pub asked : List ℕ → Asked
+abbrev pub asked : List ℕ → Question
 asked line = asked-by (parted line)
 
 -- document 01's numbers, 0 where nothing is refused
-abbrev pub line-refusal : Asked → ℕ
+abbrev pub line-refusal : Question → ℕ
 line-refusal no-depth = 19
 line-refusal (asks text depth) = 0
 
@@ -94,19 +94,19 @@ or-minus [] = minus ∷ []
 or-minus (c ∷ cs) = c ∷ cs
 
 -- `-` if there are none
-abbrev pub joined : List ℕ → List ℕ
-joined ms = or-minus (move-letters ms)
+abbrev pub moves-text : List ℕ → List ℕ
+moves-text ms = or-minus (move-letters ms)
 
 -- texts, parted by one blank
 abbrev pub spaced : List (List ℕ) → List ℕ
 spaced [] = []
 spaced (t ∷ []) = t
-spaced (t ∷ u ∷ us) = t ++ (blank ∷ spaced (u ∷ us))
+spaced (t ∷ u ∷ us) = t ++ (space ∷ spaced (u ∷ us))
 
 -- status, number of legal moves, last whole depth, score, positions entered, moves
 abbrev pub answer-text : Status → ℕ → ℕ → ℤ → ℕ → List ℕ → List ℕ
 answer-text s legal depth score count line =
-    spaced (status-letters s ∷ decimal legal ∷ decimal depth ∷ signed score ∷ decimal count ∷ joined line ∷ [])
+    spaced (status-letters s ∷ decimal legal ∷ decimal depth ∷ signed score ∷ decimal count ∷ moves-text line ∷ [])
 
 abbrev pub refusal-text : ℕ → List ℕ
 refusal-text n = spaced ((letter-refused ∷ []) ∷ decimal n ∷ [])

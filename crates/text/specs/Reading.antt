@@ -103,7 +103,7 @@ said w os cs =
     let v = other w in
     record {
       turn = w;
-      due = last-at 0 os Any;
+      next-board = last-at 0 os Any;
       cells = cell-in cs;
       states = state-in os;
       state = result v (λ b. won-by v (state-in os b)) (λ b. in-play (state-in os b));

@@ -10,7 +10,7 @@ use Rattle.rules.specs.declared.GameState.the-variants.{InPlay, Drawn, Won}
 use Rattle.rules.specs.declared.NextBoard.the-variants.{Only}
 use Rattle.base.specs.Branch.{if_then_else_}
 use Rattle.rules.specs.Board.{nine}
-use Rattle.rules.specs.Position.{Position, same-due}
+use Rattle.rules.specs.Position.{Position, same-next-board}
 use Rattle.text.specs.Bytes.{semicolon, slash, dot, hash-mark, at-mark, letter}
 
 abbrev pub state-byte : GameState → ℕ
@@ -24,19 +24,19 @@ cell-byte (Played w) = letter w
 
 -- the board that is due is marked, whatever its state
 unfoldable pub overall-byte : Position → ℕ → ℕ
-overall-byte p b = if same-due (p .due) (Only b) then (λ _. at-mark) else λ _. state-byte (p .states b)
+overall-byte p b = if same-next-board (p .next-board) (Only b) then (λ _. at-mark) else λ _. state-byte (p .states b)
 
 unfoldable pub board-text : Position → ℕ → List ℕ
 board-text p b = map (λ c. cell-byte (p .cells b c)) nine
 
 -- several boards, joined by a byte
-unfoldable pub joined : ℕ → (ℕ → List ℕ) → List ℕ → List ℕ
-joined c f [] = []
-joined c f (b ∷ []) = f b
-joined c f (b ∷ d ∷ bs) = f b ++ (c ∷ joined c f (d ∷ bs))
+unfoldable pub joined-by : ℕ → (ℕ → List ℕ) → List ℕ → List ℕ
+joined-by c f [] = []
+joined-by c f (b ∷ []) = f b
+joined-by c f (b ∷ d ∷ bs) = f b ++ (c ∷ joined-by c f (d ∷ bs))
 
 unfoldable pub text-of : Position → List ℕ
-text-of p = letter (p .turn) ∷ semicolon ∷ (map (overall-byte p) nine ++ (semicolon ∷ joined slash (board-text p) nine))
+text-of p = letter (p .turn) ∷ semicolon ∷ (map (overall-byte p) nine ++ (semicolon ∷ joined-by slash (board-text p) nine))
 
 -- ---- the same, byte by byte
 -- ---- the text of a position

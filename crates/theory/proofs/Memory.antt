@@ -14,7 +14,7 @@ use Rattle.rules.specs.Board.{other}
 use Rattle.rules.specs.Play.{no-move}
 use Rattle.theory.specs.Table.{Entry, off, look-up, store, suffices}
 use Rattle.theory.specs.Memory.{Memory, with-table, begin, enter, leaf, hit, answered, responses-to, cut}
-use Rattle.theory.specs.OrderedSearch.{Probed, known, missed, probed, probe, told}
+use Rattle.theory.specs.OrderedSearch.{Probed, known, missed, probed, probe, with-stored}
 
 -- ---- the count
 pub count-enter : (s : Memory) → enter s .count ≡ suc (s .count)
@@ -42,9 +42,9 @@ unfolding cut
 count-cut X s prev m = refl
 count-cut O s prev m = refl
 
-pub count-told : (s : Memory) (key d : ℕ) (a b r : ℤ) (line : List ℕ) → told s key d a b r line .count ≡ s .count
-unfolding told
-count-told s key d a b r line = refl
+pub count-told : (s : Memory) (key d : ℕ) (a b r : ℤ) (pv : List ℕ) → with-stored s key d a b r pv .count ≡ s .count
+unfolding with-stored
+count-told s key d a b r pv = refl
 
 -- what holds of the memory that a probe leaves
 abbrev pub Leaves : (Memory → Type 0) → Probed → Type 0
@@ -103,6 +103,6 @@ unfolding probed
 probe-off s key d a b t = ap (probed s d a b) (look-up-off (s .table) key t)
 
 -- and what is told is not kept
-pub told-off : (s : Memory) (key d : ℕ) (a b r : ℤ) (line : List ℕ) → Off s → told s key d a b r line ≡ s
-unfolding told
-told-off s key d a b r line t = ap (with-table s) (store-off (s .table) key _ t)
+pub told-off : (s : Memory) (key d : ℕ) (a b r : ℤ) (pv : List ℕ) → Off s → with-stored s key d a b r pv ≡ s
+unfolding with-stored
+told-off s key d a b r pv t = ap (with-table s) (store-off (s .table) key _ t)

@@ -12,34 +12,34 @@ use Rattle.theory.specs.PlainMinimax.{lowest, highest}
 use Rattle.theory.specs.Memory.{Tally, Memory, begin}
 use Rattle.theory.specs.OrderedSearch.{Allowance, Outcome, stopped, found, search}
 
--- one for each whole depth
+-- one for each completed depth
 pub record Stats : Type 0 where
   pub depth : ℕ
   pub score : ℤ
   pub tally : Tally
 
--- what the whole depths have come to: the last one with its score and line, and the stats of each
-pub record Whole : Type 0 where
+-- what the completed depths have come to: the last one with its score and variation, and the stats of each
+pub record Completed : Type 0 where
   pub depth : ℕ
   pub score : ℤ
-  pub line : List ℕ
+  pub pv : List ℕ
   pub stats : List Stats
 
-abbrev pub nothing-yet : Whole
-nothing-yet = record { depth = 0; score = pos 0; line = []; stats = [] }
+abbrev pub nothing-yet : Completed
+nothing-yet = record { depth = 0; score = pos 0; pv = []; stats = [] }
 
-abbrev pub one-deeper : Whole → ℤ → List ℕ → Tally → Whole
-one-deeper w r line t = record {
+abbrev pub one-deeper : Completed → ℤ → List ℕ → Tally → Completed
+one-deeper w r pv t = record {
   depth = suc (w .depth);
   score = r;
-  line = line;
+  pv = pv;
   stats = w .stats ++ (record { depth = suc (w .depth); score = r; tally = t } ∷ []);
 }
 
--- a search's answer: the last whole depth, whether the allowance stopped it, and the memory. Stopped before depth 1 was whole is refusal 18
-pub record Answer : Type 0 where
+-- a search's answer: the last completed depth, whether the allowance stopped it, and the memory. Stopped before depth 1 was whole is refusal 18
+pub record SearchAnswer : Type 0 where
   pub is-stopped : Bool
-  pub whole : Whole
+  pub completed : Completed
   pub memory : Memory
 
 abbrev pub decided : ℤ → Bool
@@ -50,14 +50,14 @@ on-outcome (stopped s) f g = f s
 on-outcome (found r l s) f g = g r l s
 
 module _ (G : Game) (n : Allowance) where
-  -- k depths are left. The line of one depth is where the next begins; the root has no previous move
-  unfoldable pub deepen : ℕ → G .Pos → Whole → Memory → Answer
-  deepen zero p w s = record { is-stopped = false; whole = w; memory = s }
+  -- k depths are left. The variation of one depth is where the next begins; the root has no previous move
+  unfoldable pub deepen : ℕ → G .Pos → Completed → Memory → SearchAnswer
+  deepen zero p w s = record { is-stopped = false; completed = w; memory = s }
   deepen (suc k) p w s =
-      on-outcome (search G n (suc (w .depth)) p lowest highest (w .line ++ (no-move ∷ [])) no-move (begin s))
-      (λ s'. record { is-stopped = true; whole = w; memory = s' })
-      (λ r line s'. let w' = one-deeper w r line (s' .tally) in
-      if decided r then (λ _. record { is-stopped = false; whole = w'; memory = s' }) else λ _. deepen k p w' s')
+      on-outcome (search G n (suc (w .depth)) p lowest highest (w .pv ++ (no-move ∷ [])) no-move (begin s))
+      (λ s'. record { is-stopped = true; completed = w; memory = s' })
+      (λ r pv s'. let w' = one-deeper w r pv (s' .tally) in
+      if decided r then (λ _. record { is-stopped = false; completed = w'; memory = s' }) else λ _. deepen k p w' s')
 
-  unfoldable pub analyze : ℕ → G .Pos → Memory → Answer
+  unfoldable pub analyze : ℕ → G .Pos → Memory → SearchAnswer
   analyze limit p s = deepen limit p nothing-yet s

@@ -6,5 +6,5 @@ pub mod Memory
 pub mod OrderedSearch
 pub mod Deepening
 pub mod Allowance
-pub mod Line
+pub mod Variation
 pub mod Reported

@@ -2,7 +2,7 @@
 use Prim.Native.Nat.{ℕ}
 
 pub record Limits : Type 0 where
-  -- the deepest search, and so the places of a line
+  -- the deepest search, and so the places of a variation
   pub deepest : ℕ
   -- the most positions, and the most words of a table
   pub positions : ℕ

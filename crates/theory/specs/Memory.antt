@@ -96,8 +96,8 @@ cut w s prev m = let t = s .tally in record {
 unfoldable pub some-move : ℕ → List ℕ
 some-move m = if eqb m no-move then (λ _. []) else λ _. m ∷ []
 
--- what is tried before the list of moves, with w to move: the response to the previous move, or lacking one the line's move
+-- what is tried before the list of moves, with w to move: the response to the previous move, or lacking one the variation's move
 unfoldable pub hints : Player → Memory → ℕ → List ℕ → List ℕ
-hints w s prev line =
+hints w s prev pv =
     let response = getD (responses-to s (other w)) prev no-move in
-    if eqb response no-move then (λ _. some-move (getD line 0 no-move)) else λ _. response ∷ []
+    if eqb response no-move then (λ _. some-move (getD pv 0 no-move)) else λ _. response ∷ []

@@ -19,11 +19,11 @@ pub data Allowance : Type 0 where
   unlimited : Allowance
   at-most : ℕ → Allowance
 
-abbrev pub one-more : Allowance → ℕ → Bool
-one-more unlimited count = true
-one-more (at-most n) count = ltb count n
+abbrev pub has-room : Allowance → ℕ → Bool
+has-room unlimited count = true
+has-room (at-most n) count = ltb count n
 
--- ---- what a search gives: a score and a line, or nothing if it was stopped; and the memory as the entered positions left it
+-- ---- what a search gives: a score and a variation, or nothing if it was stopped; and the memory as the entered positions left it
 pub data Outcome : Type 0 where
   stopped : Memory → Outcome
   found : ℤ → List ℕ → Memory → Outcome
@@ -34,7 +34,7 @@ unless-stopped (found r l s) k = k r l s
 
 -- a position is counted when it is entered; where none may be, the search stops
 unfoldable pub entering : Allowance → Memory → (Memory → Outcome) → Outcome
-entering n s k = if one-more n (s .count) then (λ _. k (enter s)) else λ _. stopped s
+entering n s k = if has-room n (s .count) then (λ _. k (enter s)) else λ _. stopped s
 
 -- ---- the table, asked for a key at a depth and within the window from a to b: a value and its move; or the moves to be tried first
 pub data Probed : Type 0 where
@@ -53,11 +53,11 @@ unfoldable pub on-probe : Probed → (ℤ → ℕ → Memory → Outcome) → (L
 on-probe (known v m s) f g = f v m s
 on-probe (missed ms s) f g = g ms s
 
--- the table, told the score r and the line at a depth and within the window
-unfoldable pub told : Memory → ℕ → ℕ → ℤ → ℤ → ℤ → List ℕ → Memory
-told s key depth a b r line = with-table s (store (s .table) key (record { value = r; depth = depth; bound = bound-of a b r; move = getD line 0 no-move }))
+-- the memory after storing the score r and the variation at a depth and within the window
+unfoldable pub with-stored : Memory → ℕ → ℕ → ℤ → ℤ → ℤ → List ℕ → Memory
+with-stored s key depth a b r pv = with-table s (store (s .table) key (record { value = r; depth = depth; bound = bound-of a b r; move = getD pv 0 no-move }))
 
--- a table's answer sets the line's first place alone
+-- a table's answer sets the variation's first place alone
 unfoldable pub set-first : ℕ → List ℕ → List ℕ
 set-first m [] = []
 set-first m (x ∷ l) = m ∷ l
@@ -70,32 +70,32 @@ fresh ok seen (m ∷ ms) =
     λ _. if ok m then (λ _. m ∷ fresh ok (m ∷ seen) ms) else λ _. fresh ok (m ∷ seen) ms
 
 module _ (G : Game) where
-  -- the table's move; the remembered answer or the line's move; the list of moves
+  -- the table's move; the response or the variation's move; the list of moves
   unfoldable pub candidates : List ℕ → Memory → G .Pos → ℕ → List ℕ → List ℕ
-  candidates first s p prev line = fresh (G .accepts p) [] (first ++ (hints (G .turn p) s prev line ++ G .moves p))
+  candidates first s p prev pv = fresh (G .accepts p) [] (first ++ (hints (G .turn p) s prev pv ++ G .moves p))
 
-  -- position, window from a to b, line, previous move, memory
+  -- position, window from a to b, variation, previous move, memory
   abbrev pub Search : Type 0
   Search = G .Pos → ℤ → ℤ → List ℕ → ℕ → Memory → Outcome
 
-  -- over the moves left: a is the lower edge by now, line the line, and low the line of the position below, which its moves share. A score above
-  -- the lower edge becomes that edge, and the line is its move and the line below; the loop is left early only when it reaches the upper edge
+  -- over the moves left: a is the lower edge by now, pv the variation, and low the variation of the position below, which its moves share. A score above
+  -- the lower edge becomes that edge, and the variation is its move and the variation below; the loop is left early only when it reaches the upper edge
   unfoldable pub over-moves : Search → G .Pos → ℤ → ℕ → List ℕ → ℤ → List ℕ → List ℕ → Memory → Outcome
-  over-moves below p b prev [] a line low s = found a line s
-  over-moves below p b prev (m ∷ ms) a line low s =
+  over-moves below p b prev [] a pv low s = found a pv s
+  over-moves below p b prev (m ∷ ms) a pv low s =
       unless-stopped (below (G .play p m) (negℤ b) (negℤ a) low m s) (λ r low' s'.
       if ltZ a (negℤ r)
       then (λ _. if leZ b (negℤ r)
       then (λ _. found (negℤ r) (m ∷ low') (cut (G .turn p) s' prev m))
       else λ _. over-moves below p b prev ms (negℤ r) (m ∷ low') low' s')
-      else λ _. over-moves below p b prev ms a line low' s')
+      else λ _. over-moves below p b prev ms a pv low' s')
 
-  -- to a depth. The line has as many places as the depth; those that nothing was found for stay as given
+  -- to a depth. The variation has as many places as the depth; those that nothing was found for stay as given
   unfoldable pub search : Allowance → ℕ → Search
-  search n zero p a b line prev s = entering n s (λ s₁. found (G .value p) line (leaf s₁))
-  search n (suc d) p a b line prev s = entering n s (λ s₁.
-      if G .over p then (λ _. found (G .value p) line (leaf s₁)) else
+  search n zero p a b pv prev s = entering n s (λ s₁. found (G .value p) pv (leaf s₁))
+  search n (suc d) p a b pv prev s = entering n s (λ s₁.
+      if G .over p then (λ _. found (G .value p) pv (leaf s₁)) else
       λ _. on-probe (probe s₁ (G .key p) (suc d) a b)
-      (λ v m s₂. found v (set-first m line) s₂)
-      (λ first s₂. unless-stopped (over-moves (search n d) p b prev (candidates first s₂ p prev line) a line (replicate d no-move) s₂)
-      (λ r line' s₃. found r line' (told s₃ (G .key p) (suc d) a b r line'))))
+      (λ v m s₂. found v (set-first m pv) s₂)
+      (λ first s₂. unless-stopped (over-moves (search n d) p b prev (candidates first s₂ p prev pv) a pv (replicate d no-move) s₂)
+      (λ r line' s₃. found r line' (with-stored s₃ (G .key p) (suc d) a b r line'))))

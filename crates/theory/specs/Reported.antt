@@ -12,7 +12,7 @@ use Rattle.theory.specs.Limits.{Limits, console}
 use Rattle.theory.specs.Game.{Game}
 use Rattle.theory.specs.Memory.{no-tally, Responses, fresh-memory}
 use Rattle.theory.specs.OrderedSearch.{at-most}
-use Rattle.theory.specs.Deepening.{Stats, Answer, analyze}
+use Rattle.theory.specs.Deepening.{Stats, SearchAnswer, analyze}
 
 pub record Settings : Type 0 where
   pub max-depth : ℕ
@@ -34,10 +34,10 @@ pub record Reported : Type 0 where
   pub number : ℕ
   -- the allowance stopped the search
   pub is-stopped : Bool
-  -- the last whole depth, with its score, line and the stats of each depth to it; 0 where there is none
+  -- the last completed depth, with its score, variation and the stats of each depth to it; 0 where there is none
   pub depth : ℕ
   pub score : ℤ
-  pub line : List ℕ
+  pub pv : List ℕ
   pub stats : List Stats
   -- positions entered, over all depths
   pub count : ℕ
@@ -48,7 +48,7 @@ pub record Reported : Type 0 where
 abbrev pub no-stats : Stats
 no-stats = record { depth = 0; score = pos 0; tally = no-tally }
 
--- as many places as the deepest search has, those after the last whole depth's empty
+-- as many places as the deepest search has, those after the last completed depth's empty
 abbrev pub filled : {A : Type 0} → A → List A → List A
 filled x xs = xs ++ replicate (console .deepest - length xs) x
 
@@ -59,7 +59,7 @@ refused-entry n rs words = record {
   is-stopped = false;
   depth = 0;
   score = pos 0;
-  line = replicate (console .deepest) no-move;
+  pv = replicate (console .deepest) no-move;
   stats = replicate (console .deepest) no-stats;
   count = 0;
   responses = rs;
@@ -68,14 +68,14 @@ refused-entry n rs words = record {
 
 module _ (G : Game) where
   -- of a search of p. 18: the allowance was spent inside depth 1
-  abbrev pub report : G .Pos → Answer → Reported
+  abbrev pub report : G .Pos → SearchAnswer → Reported
   report p x = record {
-    number = if x .is-stopped && eqb (x .whole .depth) 0 then (λ _. 18) else λ _. 0;
+    number = if x .is-stopped && eqb (x .completed .depth) 0 then (λ _. 18) else λ _. 0;
     is-stopped = x .is-stopped;
-    depth = x .whole .depth;
-    score = x .whole .score;
-    line = filled no-move (x .whole .line);
-    stats = filled no-stats (x .whole .stats);
+    depth = x .completed .depth;
+    score = x .completed .score;
+    pv = filled no-move (x .completed .pv);
+    stats = filled no-stats (x .completed .stats);
     count = x .memory .count;
     responses = x .memory .responses;
     table = x .memory .table;

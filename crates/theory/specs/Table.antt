@@ -20,12 +20,12 @@ pub record Entry : Type 0 where
 
 -- ---- words
 -- two's complement
-unfoldable pub value-of : ℕ → ℤ
-value-of w = if ltb w 0x8000_0000_0000_0000 then (λ _. pos w) else λ _. negsuc (0xffff_ffff_ffff_ffff - w)
+unfoldable pub from-word : ℕ → ℤ
+from-word w = if ltb w 0x8000_0000_0000_0000 then (λ _. pos w) else λ _. negsuc (0xffff_ffff_ffff_ffff - w)
 
-abbrev pub word-of : ℤ → ℕ
-word-of (pos n) = n
-word-of (negsuc n) = 0xffff_ffff_ffff_ffff - n
+abbrev pub to-word : ℤ → ℕ
+to-word (pos n) = n
+to-word (negsuc n) = 0xffff_ffff_ffff_ffff - n
 
 abbrev pub rest-of : Entry → ℕ
 rest-of e = e .depth + 256 * e .bound + 65536 * e .move
@@ -33,7 +33,7 @@ rest-of e = e .depth + 256 * e .bound + 65536 * e .move
 -- an entry is absent unless depth is 1 to the deepest, bound 0 to 2, the value from -2^60 - 1 to 2^60 + 1, and all higher bits zero
 unfoldable pub entry-of : ℕ → ℕ → Option Entry
 entry-of value rest =
-    let v = value-of value in
+    let v = from-word value in
     let depth = rest % 256 in
     let bound = rest / 256 % 256 in
     let move = rest / 65536 in
@@ -66,7 +66,7 @@ store words h e =
     if off words then (λ _. words) else
     λ _. let i = begins (length words) h in
     if replaces (e .depth) (entry-of (getD words (i + 1) 0) (getD words (i + 2) 0))
-    then (λ _. set (set (set words i h) (i + 1) (word-of (e .value))) (i + 2) (rest-of e))
+    then (λ _. set (set (set words i h) (i + 1) (to-word (e .value))) (i + 2) (rest-of e))
     else λ _. words
 
 -- ---- what an entry is good for

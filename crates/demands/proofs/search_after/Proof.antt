@@ -6,7 +6,7 @@ use denote.Ref.{now}
 use Rattle.game.specs.declared.Game.{Game}
 use Rattle.game.specs.After.{games-after}
 use Rattle.minimax.specs.Report.{report-of, reported-of}
-use Rattle.demands.proofs.AfterMoves.{none-long, demand-3}
+use Rattle.demands.proofs.Demand3.{none-long, demand-3}
 use borrow.Author.Needs.{needs}
 use Rattle.demands.proofs.search_after.Statement.{statement}
 use Rattle.demands.proofs.search_after.Tie as tie

@@ -6,12 +6,12 @@ use native.Mathlib.Omega.{arith}
 use lib.ListN.{getD, drop}
 use Rattle.base.specs.Bits.{bit}
 use Rattle.base.specs.Lists.{any, all}
-use Rattle.base.proofs.Numbers.{digit-test}
+use Rattle.base.proofs.Bits.{digit-test}
 use Rattle.rules.specs.Board.{nine}
 use Rattle.rules.specs.Position.{Position, free-cell}
 use Rattle.rules.proofs.Board.{nine-at}
 use Rattle.game.specs.Meaning.{position-of}
-use Rattle.endgame.proofs.Walk.{any-found, any-missed}
+use Rattle.endgame.proofs.PartsLoop.{any-found, any-missed}
 use borrow.Author.Needs.{needs}
 use Rattle.endgame.proofs.any_sends_to.Statement.{statement}
 use Rattle.endgame.proofs.any_sends_to.Tie as tie

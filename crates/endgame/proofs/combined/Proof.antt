@@ -6,7 +6,7 @@ use Rattle.rules.specs.Status.{draw-or-other}
 use Rattle.rules.specs.Endgame.{combine}
 use Rattle.status.specs.declared.Read.the-variants.{Set as IsSet}
 use Rattle.status.specs.Sets.{read-of}
-use Rattle.endgame.proofs.Statuses.{set-read, never-none}
+use Rattle.endgame.proofs.MeansStatuses.{set-read, never-none}
 use borrow.Author.Needs.{needs}
 use Rattle.endgame.proofs.combined.Statement.{statement}
 use Rattle.endgame.proofs.combined.Tie as tie

@@ -6,9 +6,9 @@ use lib.Count.{trailing-le}
 use borrow.Author.Tests.{not-true, not-false}
 use Rattle.game.specs.Meaning.{position-of}
 use Rattle.lines.proofs.Masks.{mask-at}
-use Rattle.endgame.proofs.Sets.{set-lt, set-bit}
-use Rattle.endgame.proofs.Lacking.{any-lacks}
-use Rattle.endgame.proofs.Critical.{line-lacks-none, line-found, line-missed}
+use Rattle.endgame.proofs.PartsSets.{set-lt, set-bit}
+use Rattle.endgame.proofs.PartsLacking.{any-lacks}
+use Rattle.endgame.proofs.PartsCritical.{line-lacks-none, line-found, line-missed}
 use borrow.Author.Needs.{needs}
 use Rattle.endgame.proofs.critical_board.Statement.{statement}
 use Rattle.endgame.proofs.critical_board.Tie as tie

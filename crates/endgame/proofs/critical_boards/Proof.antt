@@ -9,7 +9,7 @@ use Rattle.rules.specs.Board.{lines}
 use Rattle.rules.proofs.Sound.{sound→}
 use Rattle.game.specs.Meaning.{position-of}
 use Rattle.endgame.specs.Parts.{critical-by}
-use Rattle.endgame.proofs.Critical.{all-lines, no-lines, one-line-more}
+use Rattle.endgame.proofs.PartsCritical.{all-lines, no-lines, one-line-more}
 use borrow.Author.Needs.{needs}
 use Rattle.endgame.proofs.critical_boards.Statement.{statement}
 use Rattle.endgame.proofs.critical_boards.Tie as tie

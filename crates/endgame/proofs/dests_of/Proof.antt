@@ -1,6 +1,6 @@
 -- The digits of the empty cells, the open boards and the others, digit by digit.
 use native.Mathlib.Omega.{arith}
-use Rattle.endgame.proofs.Sets.{chosen-past, chosen-in}
+use Rattle.endgame.proofs.PartsSets.{chosen-past, chosen-in}
 use borrow.Author.Needs.{needs}
 use Rattle.endgame.proofs.dests_of.Statement.{statement}
 use Rattle.endgame.proofs.dests_of.Tie as tie

@@ -1,11 +1,11 @@
 -- Refused as unsound, refused by play, or judged.
 use mathlib.Core.Path.{_≡_, refl, sym, ap, _∙_}
-use Rattle.boards.specs.Answers.{error-number, answer-number}
+use Rattle.boards.specs.Answers.{move-error-number, answer-number}
 use Rattle.rules.specs.Play.{play}
 use Rattle.game.specs.After.{refusal}
 use Rattle.game.specs.Meaning.{position-of}
-use Rattle.game.proofs.Tries.{some-number}
-use Rattle.endgame.proofs.Answers.{judges-as, tried-first, may-judge, judged-played, judged-refused}
+use Rattle.game.proofs.After.{some-number}
+use Rattle.endgame.proofs.MeansAnswers.{judges-as, tried-first, may-judge, judged-played, judged-refused}
 use borrow.Author.Needs.{needs}
 use Rattle.endgame.proofs.evaluate_move.Statement.{statement}
 use Rattle.endgame.proofs.evaluate_move.Tie as tie
@@ -61,7 +61,7 @@ returns-3 c =
     let start = at-is-unsound .before in
     let p = position-of (start .args .pos) in
     judges-as _ _ _ _
-    (judged-refused p _ (sym (at-is-unsound .is-unsound .ensures) ∙ at-if1 .if1 .left) (error-number (at-answer .answer .given .0 .0)) (some-number (at-answer .answer .given .0 .0)) (sym (ap answer-number (at-answer .answer .given .1)) ∙ at-make-move .make-move .ensures .number))
+    (judged-refused p _ (sym (at-is-unsound .is-unsound .ensures) ∙ at-if1 .if1 .left) (move-error-number (at-answer .answer .given .0 .0)) (some-number (at-answer .answer .given .0 .0)) (sym (ap answer-number (at-answer .answer .given .1)) ∙ at-make-move .make-move .ensures .number))
     refl (c .unproven2 .ensures)
 
 pub evaluate-move-spec : {M : Type 1} → statement M

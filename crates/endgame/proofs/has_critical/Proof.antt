@@ -7,7 +7,7 @@ use Rattle.base.specs.Bits.{bit}
 use Rattle.base.specs.Lists.{any}
 use Rattle.rules.specs.Board.{lines}
 use Rattle.endgame.specs.Parts.{lacks-one}
-use Rattle.endgame.proofs.Walk.{any-found, any-missed}
+use Rattle.endgame.proofs.PartsLoop.{any-found, any-missed}
 use borrow.Author.Needs.{needs}
 use Rattle.endgame.proofs.has_critical.Statement.{statement}
 use Rattle.endgame.proofs.has_critical.Tie as tie

@@ -1,7 +1,7 @@
 -- Over 8 a number of nine digits has none.
 use mathlib.Core.Path.{sym}
 use native.Mathlib.Omega.{arith}
-use Rattle.base.proofs.Numbers.{bit-above, digit-test}
+use Rattle.base.proofs.Bits.{bit-above, digit-test}
 use borrow.Author.Needs.{needs}
 use Rattle.endgame.proofs.holds.Statement.{statement}
 use Rattle.endgame.proofs.holds.Tie as tie

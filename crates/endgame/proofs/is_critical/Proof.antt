@@ -1,6 +1,6 @@
 -- The mask of the line finds both, computed for each line and number.
 use mathlib.Core.Path.{_∙_}
-use Rattle.endgame.proofs.Lacking.{line-blocked, line-counted}
+use Rattle.endgame.proofs.PartsLacking.{line-blocked, line-counted}
 use borrow.Author.Needs.{needs}
 use Rattle.endgame.proofs.is_critical.Statement.{statement}
 use Rattle.endgame.proofs.is_critical.Tie as tie

@@ -3,8 +3,8 @@ use mathlib.Core.Path.{sym, refl, _∙_}
 use borrow.Author.Tests.{eq-eqb, ne-eqb, not-true, not-false}
 use Rattle.lines.proofs.Masks.{line-known}
 use Rattle.game.specs.Meaning.{position-of}
-use Rattle.endgame.proofs.Sets.{none-in}
-use Rattle.endgame.proofs.Sound.{live-closed, live-full, live-line-x, live-line-o}
+use Rattle.endgame.proofs.PartsSets.{none-in}
+use Rattle.endgame.proofs.PartsSound.{live-closed, live-full, live-line-x, live-line-o}
 use borrow.Author.Needs.{needs}
 use Rattle.endgame.proofs.is_live.Statement.{statement}
 use Rattle.endgame.proofs.is_live.Tie as tie

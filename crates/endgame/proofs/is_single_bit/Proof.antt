@@ -1,6 +1,6 @@
 -- A number has one bit more than without its lowest.
 use native.Mathlib.Omega.{arith}
-use Rattle.endgame.proofs.Lacking.{no-bit, single-bit}
+use Rattle.endgame.proofs.PartsLacking.{no-bit, single-bit}
 use borrow.Author.Needs.{needs}
 use Rattle.endgame.proofs.is_single_bit.Statement.{statement}
 use Rattle.endgame.proofs.is_single_bit.Tie as tie

@@ -11,8 +11,8 @@ use Rattle.rules.proofs.Board.{nine-at}
 use Rattle.lines.proofs.Masks.{line-known}
 use Rattle.game.specs.Meaning.{position-of}
 use Rattle.endgame.specs.Parts.{live}
-use Rattle.endgame.proofs.Walk.{all-failed, all-passed}
-use Rattle.endgame.proofs.Sound.{line-of-x, line-of-o, no-line}
+use Rattle.endgame.proofs.PartsLoop.{all-failed, all-passed}
+use Rattle.endgame.proofs.PartsSound.{line-of-x, line-of-o, no-line}
 use borrow.Author.Needs.{needs}
 use Rattle.endgame.proofs.is_sound.Statement.{statement}
 use Rattle.endgame.proofs.is_sound.Tie as tie

@@ -1,7 +1,7 @@
 -- The digits of the side's boards and of the open ones, joined.
 use mathlib.Core.Path.{_∙_}
 use Rattle.rules.specs.Endgame.{winnable}
-use Rattle.endgame.proofs.Sets.{joined-line}
+use Rattle.endgame.proofs.PartsSets.{joined-line}
 use borrow.Author.Needs.{needs}
 use Rattle.endgame.proofs.is_winnable.Statement.{statement}
 use Rattle.endgame.proofs.is_winnable.Tie as tie

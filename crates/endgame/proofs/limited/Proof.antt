@@ -1,7 +1,7 @@
 -- A side that can win takes nothing away; else the two sets are merged, if there are two.
 use mathlib.Core.Path.{sym, ap, _∙_}
 use Rattle.status.specs.Sets.{read-of}
-use Rattle.endgame.proofs.Statuses.{narrow-can, narrow-set, narrow-none}
+use Rattle.endgame.proofs.MeansStatuses.{narrow-can, narrow-set, narrow-none}
 use borrow.Author.Needs.{needs}
 use Rattle.endgame.proofs.limited.Statement.{statement}
 use Rattle.endgame.proofs.limited.Tie as tie

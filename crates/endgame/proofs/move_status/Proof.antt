@@ -11,8 +11,8 @@ use Rattle.rules.specs.Status.{for-player}
 use Rattle.rules.specs.Endgame.{critical, has-critical, suits}
 use Rattle.status.specs.Sets.{status-of}
 use Rattle.game.specs.Meaning.{position-of}
-use Rattle.endgame.proofs.Sets.{set-lt, joined-lt}
-use Rattle.endgame.proofs.Attack.{set-of-side, set-critical, set-suits, some-critical, judged-safe, judged-blocking, judged-lost, judged-open}
+use Rattle.endgame.proofs.PartsSets.{set-lt, joined-lt}
+use Rattle.endgame.proofs.PartsAttack.{set-of-side, set-critical, set-suits, some-critical, judged-safe, judged-blocking, judged-lost, judged-open}
 use borrow.Author.Needs.{needs}
 use Rattle.endgame.proofs.move_status.Statement.{statement}
 use Rattle.endgame.proofs.move_status.Tie as tie

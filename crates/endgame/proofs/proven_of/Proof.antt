@@ -1,7 +1,7 @@
 -- The three cases of `proven`.
 use mathlib.Core.Path.{ap, _∙_}
 use Rattle.status.specs.Sets.{status-of}
-use Rattle.endgame.proofs.Statuses.{proven-won, proven-lost, proven-open}
+use Rattle.endgame.proofs.MeansStatuses.{proven-won, proven-lost, proven-open}
 use borrow.Author.Needs.{needs}
 use Rattle.endgame.proofs.proven_of.Statement.{statement}
 use Rattle.endgame.proofs.proven_of.Tie as tie

@@ -1,6 +1,6 @@
 -- No empty cell is left of those that are not wanted.
 use native.Mathlib.Omega.{arith}
-use Rattle.endgame.proofs.Sets.{all-wanted}
+use Rattle.endgame.proofs.PartsSets.{all-wanted}
 use borrow.Author.Needs.{needs}
 use Rattle.endgame.proofs.sends_to.Statement.{statement}
 use Rattle.endgame.proofs.sends_to.Tie as tie

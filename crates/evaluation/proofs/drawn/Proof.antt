@@ -1,7 +1,7 @@
 -- A drawn game is worth nothing, or as much as one that the draw winner has won.
 use mathlib.Core.Path.{_∙_}
 use Rattle.base.proofs.Signed.{result}
-use Rattle.evaluation.proofs.Ends.{nothing, drawn-as}
+use Rattle.evaluation.proofs.ValuesEnds.{nothing, drawn-as}
 use borrow.Author.Needs.{needs}
 use Rattle.evaluation.proofs.drawn.Statement.{statement}
 use Rattle.evaluation.proofs.drawn.Tie as tie

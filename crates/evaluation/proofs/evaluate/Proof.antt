@@ -4,7 +4,7 @@ use Rattle.rules.specs.Evaluation.{scoring-with}
 use Rattle.game.specs.Meaning.{position-of}
 use Rattle.evaluation.specs.Values.{evaluate-by}
 use Rattle.base.proofs.Signed.{result}
-use Rattle.evaluation.proofs.Overall.{by-values}
+use Rattle.evaluation.proofs.ValuesOverall.{by-values}
 use borrow.Author.Needs.{needs}
 use Rattle.evaluation.proofs.evaluate.Statement.{statement}
 use Rattle.evaluation.proofs.evaluate.Tie as tie

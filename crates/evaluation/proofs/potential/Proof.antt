@@ -1,7 +1,7 @@
 -- The code tells by the mask how many of the line's places are set.
 use mathlib.Core.Path.{ap}
 use lib.IntN.{pos}
-use Rattle.evaluation.proofs.Lines.{worth-none, worth-one, worth-all, worth-two}
+use Rattle.evaluation.proofs.ValuesLines.{worth-none, worth-one, worth-all, worth-two}
 use borrow.Author.Needs.{needs}
 use Rattle.evaluation.proofs.potential.Statement.{statement}
 use Rattle.evaluation.proofs.potential.Tie as tie

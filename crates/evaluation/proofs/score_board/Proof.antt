@@ -3,8 +3,8 @@ use mathlib.Core.Path.{_∙_}
 use Rattle.rules.specs.Evaluation.{board-line}
 use Rattle.rules.proofs.Evaluation.{board-line-within}
 use Rattle.base.proofs.Signed.{Held, held, held-fits, held-reads, plus}
-use Rattle.evaluation.proofs.Lines.{eight}
-use Rattle.evaluation.proofs.Boards.{board-sum}
+use Rattle.evaluation.proofs.ValuesLines.{eight}
+use Rattle.evaluation.proofs.ValuesBoards.{board-sum}
 use borrow.Author.Needs.{needs}
 use Rattle.evaluation.proofs.score_board.Statement.{statement}
 use Rattle.evaluation.proofs.score_board.Tie as tie

@@ -3,7 +3,7 @@ use mathlib.Core.Path.{ap, _∙_}
 use lib.IntN.{negℤ}
 use Rattle.rules.proofs.Evaluation.{board-line-within}
 use Rattle.base.proofs.Signed.{result, Held, held-fits, held-reads, minus}
-use Rattle.evaluation.proofs.Lines.{line-x, line-o, line-both}
+use Rattle.evaluation.proofs.ValuesLines.{line-x, line-o, line-both}
 use borrow.Author.Needs.{needs}
 use Rattle.evaluation.proofs.score_line.Statement.{statement}
 use Rattle.evaluation.proofs.score_line.Tie as tie

@@ -5,7 +5,7 @@ use native.Mathlib.Omega.{arith}
 use Rattle.evaluation.specs.Values.{value-at}
 use Rattle.base.proofs.Signed.{Held, held-wide, held-fits, held-reads, held-small, plus}
 use Rattle.lines.proofs.Masks.{place-at, place-low}
-use Rattle.evaluation.proofs.Overall.{overall-both, overall-x, overall-o}
+use Rattle.evaluation.proofs.ValuesOverall.{overall-both, overall-x, overall-o}
 use borrow.Author.Needs.{needs}
 use Rattle.evaluation.proofs.score_overall.Statement.{statement}
 use Rattle.evaluation.proofs.score_overall.Tie as tie

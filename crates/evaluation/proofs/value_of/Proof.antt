@@ -3,7 +3,7 @@ use mathlib.Core.Path.{sym, ap, _∙_}
 use Rattle.rules.specs.declared.GameState.the-variants.{Won}
 use Rattle.game.specs.Meaning.{position-of}
 use Rattle.base.proofs.Signed.{Held, held, held-narrows, held-narrowed}
-use Rattle.evaluation.proofs.Boards.{value-is, value-open, value-within}
+use Rattle.evaluation.proofs.ValuesBoards.{value-is, value-open, value-within}
 use borrow.Author.Needs.{needs}
 use Rattle.evaluation.proofs.value_of.Statement.{statement}
 use Rattle.evaluation.proofs.value_of.Tie as tie

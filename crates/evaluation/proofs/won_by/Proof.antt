@@ -1,5 +1,5 @@
 -- The sides are the same if their numbers are: the winner sees a won game, and the other side a lost one.
-use Rattle.evaluation.proofs.Ends.{won-same, won-other}
+use Rattle.evaluation.proofs.ValuesEnds.{won-same, won-other}
 use borrow.Author.Needs.{needs}
 use Rattle.evaluation.proofs.won_by.Statement.{statement}
 use Rattle.evaluation.proofs.won_by.Tie as tie

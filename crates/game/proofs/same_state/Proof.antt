@@ -1,6 +1,6 @@
 -- The states are of one kind, and of one side where they are won.
 use borrow.Author.Needs.{needs}
-use Rattle.game.proofs.Sides.{same-won}
+use Rattle.game.proofs.MeaningSides.{same-won}
 use Rattle.game.proofs.same_state.Statement.{statement}
 use Rattle.game.proofs.same_state.Tie as tie
 

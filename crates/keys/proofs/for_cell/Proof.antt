@@ -4,7 +4,7 @@ use native.Mathlib.Omega.{arith}
 use borrow.Author.Needs.{needs}
 use Rattle.rules.specs.declared.CellState.{CellState}
 use Rattle.rules.specs.Hash.{cell-key}
-use Rattle.keys.proofs.Range.{key-in-range, no-key-out-of-range}
+use Rattle.keys.proofs.KeysRange.{key-in-range, no-key-out-of-range}
 use Rattle.keys.proofs.for_cell.Statement.{statement}
 use Rattle.keys.proofs.for_cell.Tie as tie
 

@@ -1,6 +1,6 @@
 -- The three marks of a cell, and no other byte.
 use mathlib.Core.Path.{sym}
-use Rattle.notation.proofs.Marks.{no-cell}
+use Rattle.notation.proofs.PartsMarks.{no-cell}
 use Rattle.text.specs.Reading.{side-of, cell-mark}
 use Rattle.base.specs.Branch.{if_then_else_}
 use Rattle.notation.proofs.cell_mark_of.Statement.{statement}

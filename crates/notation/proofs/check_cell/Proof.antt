@@ -1,6 +1,6 @@
 -- Each way out is a case of a byte.
 use mathlib.Core.Path.{sym, ap, _∙_}
-use Rattle.text.proofs.Scan.{slash-stands, slash-lacks, cell-lacks, cell-stands, cell-bad}
+use Rattle.text.proofs.ReadingScan.{slash-stands, slash-lacks, cell-lacks, cell-stands, cell-bad}
 use Rattle.notation.specs.Parts.{cell-said}
 use borrow.Author.Needs.{needs}
 use native.Mathlib.Omega.{arith}

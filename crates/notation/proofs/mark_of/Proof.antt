@@ -1,7 +1,7 @@
 -- The five overall marks, and no other byte.
 use mathlib.Core.Path.{sym}
 use mathlib.Core.Logic.{⊎-elim, inl, inr}
-use Rattle.notation.proofs.Marks.{no-mark}
+use Rattle.notation.proofs.PartsMarks.{no-mark}
 use Rattle.text.specs.Reading.{side-of, overall-mark}
 use Rattle.base.specs.Branch.{if_then_else_}
 use Rattle.notation.proofs.mark_of.Statement.{statement}

@@ -1,5 +1,5 @@
 -- An `@` makes its board due, and no other byte does.
-use Rattle.notation.proofs.Marks.{due-here, due-nowhere}
+use Rattle.notation.proofs.PartsMarks.{due-here, due-nowhere}
 use borrow.Author.Needs.{needs}
 use Rattle.notation.proofs.next_of.Statement.{statement}
 use Rattle.notation.proofs.next_of.Tie as tie

@@ -1,7 +1,7 @@
 -- Each way out is an answer of reading.
 use mathlib.Core.Path.{sym}
 use lib.Seq.{length-take-le}
-use Rattle.notation.proofs.Answers.{parses-too-long, parses-one, parses-two, parses-four, parses-three}
+use Rattle.notation.proofs.ParsedAnswers.{parses-too-long, parses-one, parses-two, parses-four, parses-three}
 use borrow.Author.Needs.{needs}
 use native.Mathlib.Omega.{arith}
 use Rattle.notation.proofs.parse.Statement.{statement}

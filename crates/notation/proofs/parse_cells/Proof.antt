@@ -1,10 +1,10 @@
 -- The cells before the next byte are in the boards.
 use mathlib.Core.Path.{_≡_, sym, ap, _∙_}
 use Prim.Native.Nat.{_≤_, _-_}
-use Rattle.text.proofs.Scan.{faultless-is-there}
+use Rattle.text.proofs.ReadingScan.{faultless-is-there}
 use Rattle.notation.specs.Parts.{fault-number}
-use Rattle.notation.proofs.Cells.{CellsUpTo, none-filled, fault-found, one-filled, all-filled}
-use Rattle.notation.proofs.Answers.{kind-is-a-fault}
+use Rattle.notation.proofs.PartsCells.{CellsUpTo, none-filled, fault-found, one-filled, all-filled}
+use Rattle.notation.proofs.ParsedAnswers.{kind-is-a-fault}
 use borrow.Author.Needs.{needs}
 use native.Mathlib.Omega.{arith}
 use Rattle.notation.proofs.parse_cells.Statement.{statement}

@@ -2,7 +2,7 @@
 use mathlib.Core.Path.{refl}
 use lib.ListN.{getD}
 use Rattle.text.proofs.MoveText.{Lettered}
-use Rattle.notation.proofs.Moves.{not-two, first-bad, first-lettered, second-bad, second-lettered, both-good}
+use Rattle.notation.proofs.ParsedMoves.{not-two, first-bad, first-lettered, second-bad, second-lettered, both-good}
 use borrow.Author.Needs.{needs}
 use native.Mathlib.Omega.{arith}
 use Rattle.notation.proofs.parse_move.Statement.{statement}

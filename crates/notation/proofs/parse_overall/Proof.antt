@@ -2,8 +2,8 @@
 use mathlib.Core.Path.{_≡_, sym, ap, _∙_}
 use Prim.Native.Nat.{_≤_, _-_}
 use Rattle.rules.specs.declared.NextBoard.{NextBoard}
-use Rattle.notation.specs.Parts.{mark-said, due-or}
-use Rattle.notation.proofs.Overall.{MarksUpTo, none-marked, bad-found, one-marked, all-marked}
+use Rattle.notation.specs.Parts.{mark-said, next-board-or}
+use Rattle.notation.proofs.PartsOverall.{MarksUpTo, none-marked, bad-found, one-marked, all-marked}
 use borrow.Author.Needs.{needs}
 use native.Mathlib.Omega.{arith}
 use Rattle.notation.proofs.parse_overall.Statement.{statement}
@@ -54,7 +54,7 @@ loop-again c =
     let l = q .before .before .before .loop in (
       omega arith,
       rw (c .before .before .set .ensures) (one-marked _ _ _ _ (q .before .before .before .before .before .pre) (l .inv .1) (q .before .before .loop-test .taken) _ (sym (q .mark-of .ensures) ∙ ap mark-said (c .before .before .before .before .state .given .1)) _
-          (c .either .ensures ∙ ap (λ (d : NextBoard). due-or d (l .next)) (c .before .next-of .ensures))),
+          (c .either .ensures ∙ ap (λ (d : NextBoard). next-board-or d (l .next)) (c .before .next-of .ensures))),
     )
 
 returns-2 : tie.Need-returns-2 Inv-loop μ-loop

@@ -1,6 +1,6 @@
 -- One byte names the side.
 use mathlib.Core.Path.{sym, _∙_}
-use Rattle.text.proofs.Scan.{lone-byte, not-lone}
+use Rattle.text.proofs.ReadingScan.{lone-byte, not-lone}
 use borrow.Author.Needs.{needs}
 use Rattle.notation.proofs.parse_player.Statement.{statement}
 use Rattle.notation.proofs.parse_player.Tie as tie

@@ -5,7 +5,7 @@ use Rattle.text.specs.Reading.{lone-side, first-bad}
 use Rattle.notation.specs.declared.ErrorKind.the-variants.{BadPlayer, TooFewSquares, BadBoard}
 use Rattle.notation.specs.Parts.{side-said, Marks-say}
 use Rattle.game.specs.Built.{recalculated}
-use Rattle.notation.proofs.Answers.{refusal-gives, bad-read, marks-read, fault-read, cells-read, bad-below, side-bad, marks-not-nine, mark-bad, cells-bad, all-good, accepted-gives}
+use Rattle.notation.proofs.ParsedAnswers.{refusal-gives, bad-read, marks-read, fault-read, cells-read, bad-below, side-bad, marks-not-nine, mark-bad, cells-bad, all-good, accepted-gives}
 use borrow.Author.Needs.{needs}
 use native.Mathlib.Omega.{arith}
 use Rattle.notation.proofs.parse_sections.Statement.{statement}

@@ -2,7 +2,7 @@
 use mathlib.Core.Path.{_≡_, refl}
 use Prim.Native.Nat.{_≤_, _-_}
 use Rattle.game.specs.Meaning.{position-of}
-use Rattle.notation.proofs.Bytes.{Rendered, none-rendered, one-rendered, all-rendered}
+use Rattle.notation.proofs.PartsBytes.{Rendered, none-rendered, one-rendered, all-rendered}
 use borrow.Author.Needs.{needs}
 use native.Mathlib.Omega.{arith}
 use Rattle.notation.proofs.render.Statement.{statement}

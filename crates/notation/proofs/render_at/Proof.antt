@@ -1,7 +1,7 @@
 -- Each way out is a place of the text.
 use mathlib.Core.Path.{_∙_}
 use Rattle.text.specs.Writing.{state-byte, cell-byte}
-use Rattle.notation.proofs.Bytes.{at-side, at-first, at-second, at-due, at-state, at-slash, at-cell}
+use Rattle.notation.proofs.PartsBytes.{at-side, at-first, at-second, at-due, at-state, at-slash, at-cell}
 use borrow.Author.Needs.{needs}
 use Rattle.notation.proofs.render_at.Statement.{statement}
 use Rattle.notation.proofs.render_at.Tie as tie

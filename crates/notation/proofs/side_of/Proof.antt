@@ -1,6 +1,6 @@
 -- X and O are the sides, and no other byte.
 use mathlib.Core.Path.{sym}
-use Rattle.notation.proofs.Marks.{no-side}
+use Rattle.notation.proofs.PartsMarks.{no-side}
 use Rattle.text.specs.Reading.{side-of}
 use Rattle.base.specs.Branch.{if_then_else_}
 use Rattle.notation.proofs.side_of.Statement.{statement}

@@ -4,14 +4,14 @@ use native.Mathlib.Omega.{arith}
 use mir.Syntax.{w64}
 use mir.Val.{toZ, ofZ}
 use mir.Facts.{toZ-ofZ}
-use Rattle.theory.specs.Table.{value-of}
+use Rattle.theory.specs.Table.{from-word}
 use Rattle.base.proofs.Signed.{less, not-less}
-use Rattle.table.proofs.Words.{bound-number-most, absent, absent-low, absent-high, present, same-entry}
+use Rattle.table.proofs.EntriesWords.{bound-number-most, absent, absent-low, absent-high, present, same-entry}
 use borrow.Author.Needs.{needs}
 use Rattle.table.proofs.entry_of.Statement.{statement}
 use Rattle.table.proofs.entry_of.Tie as tie
 
-value-read : (c : tie.After-from-word) → toZ w64 (ofZ w64 (c .from-word .result)) ≡ value-of (c .before .args .value)
+value-read : (c : tie.After-from-word) → toZ w64 (ofZ w64 (c .from-word .result)) ≡ from-word (c .before .args .value)
 value-read c = toZ-ofZ {z = c .from-word .result} (record { sfits = c .from-word .ok }) ∙ c .from-word .ensures
 
 from-word-requires : tie.Need-from-word-requires

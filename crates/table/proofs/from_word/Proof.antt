@@ -3,7 +3,7 @@ use mathlib.Core.Path.{sym, _∙_}
 use Prim.Native.Nat.{_-_}
 use native.Mathlib.Omega.{arith}
 use Rattle.base.proofs.Signed.{low-word, minus-fits, minus-one-more}
-use Rattle.table.proofs.Words.{value-low, value-high}
+use Rattle.table.proofs.EntriesWords.{value-low, value-high}
 use borrow.Author.Needs.{needs}
 use mir.Facts.{toZ-ofZ}
 use Rattle.table.proofs.from_word.Statement.{statement}

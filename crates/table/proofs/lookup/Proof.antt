@@ -2,7 +2,7 @@
 use mathlib.Core.Path.{sym, _∙_}
 use native.Mathlib.Omega.{arith}
 use denote.Ref.{now}
-use Rattle.table.proofs.Rows.{look-up-off, look-up-other, look-up-same}
+use Rattle.table.proofs.EntriesRows.{look-up-off, look-up-other, look-up-same}
 use borrow.Author.Needs.{needs}
 use Rattle.table.proofs.lookup.Statement.{statement}
 use Rattle.table.proofs.lookup.Tie as tie

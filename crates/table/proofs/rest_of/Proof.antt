@@ -2,7 +2,7 @@
 use mathlib.Core.Path.{sym, subst}
 use Prim.Native.Nat.{ℕ, _≤_}
 use native.Mathlib.Omega.{arith}
-use Rattle.table.proofs.Words.{bound-number-most}
+use Rattle.table.proofs.EntriesWords.{bound-number-most}
 use borrow.Author.Needs.{needs}
 use Rattle.table.proofs.rest_of.Statement.{statement}
 use Rattle.table.proofs.rest_of.Tie as tie

@@ -1,7 +1,7 @@
 -- The remainder is below the number of entries, so that three words from three times it are within the row.
 use mathlib.Core.Path.{refl}
 use native.Mathlib.Omega.{arith}
-use Rattle.table.proofs.Rows.{begins-within}
+use Rattle.table.proofs.EntriesRows.{begins-within}
 use borrow.Author.Needs.{needs}
 use Rattle.theory.specs.Table.{begins}
 use Rattle.table.proofs.slot.Statement.{statement}

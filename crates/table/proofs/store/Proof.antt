@@ -4,9 +4,9 @@ use native.Mathlib.Omega.{arith}
 use lib.ListN.{length-set}
 use borrow.Author.Tests.{not-true, not-false}
 use denote.Ref.{now}
-use Rattle.theory.specs.Table.{word-of, replaces}
+use Rattle.theory.specs.Table.{to-word, replaces}
 use Rattle.table.specs.Entries.{entry-means}
-use Rattle.table.proofs.Rows.{held-at, store-off, store-refused, store-wrote}
+use Rattle.table.proofs.EntriesRows.{held-at, store-off, store-refused, store-wrote}
 use borrow.Author.Needs.{needs}
 use mir.Facts.{toZ-ofZ}
 use Rattle.table.proofs.store.Statement.{statement}
@@ -87,7 +87,7 @@ returns-3 c =
     let e = c .before .before .before .before .before .before .before .before .before .before .before .args .e in
     let value = toZ-ofZ {z = e .value} (record { sfits = c .before .before .struct-told .given .0 .1 }) in
     store-wrote _ _ _ (c .before .before .before .before .before .before .before .before .before .if1 .left) (c .before .before .before .before .before .before .before .before .slot .ensures .0) (entry-means e) _ _
-    (c .before .to-word .ensures ∙ ap word-of value) (c .rest-of .ensures) (sym (decision (c .before .before .before .before)) ∙ not-false _ (c .before .before .before .if2 .left))
+    (c .before .to-word .ensures ∙ ap to-word value) (c .rest-of .ensures) (sym (decision (c .before .before .before .before)) ∙ not-false _ (c .before .before .before .if2 .left))
 
 pub store-spec : {M : Type 1} → statement M
 store-spec =

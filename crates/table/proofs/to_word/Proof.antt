@@ -1,7 +1,7 @@
 -- A number from 0 on is its word, and of a negative one -(z + 1) is taken from 2^64 - 1, as the definition does.
 use native.Mathlib.Omega.{arith}
 use Rattle.base.proofs.Signed.{next-in, minus-next-in, minus-next-is, natural-fits}
-use Rattle.table.proofs.Words.{negative-word, natural-word}
+use Rattle.table.proofs.EntriesWords.{negative-word, natural-word}
 use mir.Facts.{toZ-ofZ}
 use Rattle.table.proofs.to_word.Statement.{statement}
 use Rattle.table.proofs.to_word.Tie as tie

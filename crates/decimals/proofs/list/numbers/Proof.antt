@@ -5,7 +5,7 @@ use native.Mathlib.Omega.{arith}
 use lib.ListN.{length, drop}
 use denote.Ref.{now}
 use Rattle.decimals.specs.Lists.{scanned-all}
-use Rattle.decimals.proofs.Blanks.{scan-next, scan-end}
+use Rattle.decimals.proofs.Lists.{scan-next, scan-end}
 use borrow.Author.Needs.{needs}
 use Rattle.decimals.proofs.list.numbers.Statement.{statement}
 use Rattle.decimals.proofs.list.numbers.Tie as tie

@@ -5,7 +5,7 @@ use native.Mathlib.Omega.{arith}
 use lib.ListN.{length, drop}
 use denote.Ref.{now}
 use Rattle.decimals.specs.Numbers.{digits-after, read-number}
-use Rattle.decimals.proofs.Digits.{no-digits, some-digits, digits-next, digits-stop, digits-end}
+use Rattle.decimals.proofs.NumbersDigits.{no-digits, some-digits, digits-next, digits-stop, digits-end}
 use borrow.Author.Needs.{needs}
 use Rattle.decimals.proofs.number.read_number.Statement.{statement}
 use Rattle.decimals.proofs.number.read_number.Tie as tie

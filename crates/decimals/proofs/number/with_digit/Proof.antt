@@ -2,7 +2,7 @@
 use mathlib.Core.Path.{sym, _∙_}
 use native.Mathlib.Omega.{arith}
 use borrow.Author.Tests.{not-true, not-false}
-use Rattle.decimals.proofs.Digits.{within-bounds, digit-fits, digit-over, no-digit}
+use Rattle.decimals.proofs.NumbersDigits.{within-bounds, digit-fits, digit-over, no-digit}
 use borrow.Author.Needs.{needs}
 use Rattle.decimals.proofs.number.with_digit.Statement.{statement}
 use Rattle.decimals.proofs.number.with_digit.Tie as tie

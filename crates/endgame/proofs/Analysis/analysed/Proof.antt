@@ -10,9 +10,9 @@ use Rattle.rules.specs.Status.{Status as Set}
 use Rattle.rules.specs.Endgame.{critical, prove-attacker, forced-loss, or-unproven}
 use Rattle.status.specs.Sets.{status-of}
 use Rattle.game.specs.Meaning.{position-of}
-use Rattle.endgame.proofs.Attack.{set-of-side, some-critical}
-use Rattle.endgame.proofs.Statuses.{combined-is-merged, sets-agree, counts, at-most-one}
-use Rattle.endgame.proofs.Answers.{analyses-as, analysis-made}
+use Rattle.endgame.proofs.PartsAttack.{set-of-side, some-critical}
+use Rattle.endgame.proofs.MeansStatuses.{combined-is-merged, sets-agree, counts, at-most-one}
+use Rattle.endgame.proofs.MeansAnswers.{analyses-as, analysis-made}
 use borrow.Author.Needs.{needs}
 use Rattle.endgame.proofs.Analysis.analysed.Statement.{statement}
 use Rattle.endgame.proofs.Analysis.analysed.Tie as tie

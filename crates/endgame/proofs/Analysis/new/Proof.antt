@@ -2,11 +2,11 @@
 use mathlib.Core.Path.{sym, ap, _∙_}
 use mathlib.Core.Bool.{not}
 use borrow.Author.Tests.{not-false}
-use Rattle.rules.specs.Position.{going}
+use Rattle.rules.specs.Position.{unfinished}
 use Rattle.rules.proofs.Endgame.{analysis-finished, analysis-unsound}
 use Rattle.game.specs.Meaning.{position-of}
-use Rattle.endgame.specs.Means.{made-number}
-use Rattle.endgame.proofs.Answers.{analyses-as}
+use Rattle.endgame.specs.Means.{analysis-number}
+use Rattle.endgame.proofs.MeansAnswers.{analyses-as}
 use borrow.Author.Needs.{needs}
 use denote.Floats.{passes}
 use Rattle.endgame.proofs.Analysis.new.Statement.{statement}
@@ -24,7 +24,7 @@ returns c =
     let start = at-game-over .before in
     let p = position-of (start .args .pos) in
     analyses-as _ _ _ (analysis-finished p (passes _ (sym (at-game-over .game-over .ensures) ∙ c .before .if1 .taken)))
-    (ap made-number (c .unanalysed .ensures .0)) (c .unanalysed .ensures .1) (c .unanalysed .ensures .2)
+    (ap analysis-number (c .unanalysed .ensures .0)) (c .unanalysed .ensures .1) (c .unanalysed .ensures .2)
 
 is-sound-requires : tie.Need-is-sound-requires
 is-sound-requires c κs = search needs
@@ -40,8 +40,8 @@ returns-2 c =
     let start = at-game-over .before in
     let p = position-of (start .args .pos) in
     analyses-as _ _ _
-    (analysis-unsound p (passes _ (not-false (going p) (sym (at-game-over .game-over .ensures) ∙ at-if1 .if1 .left))) (passes _ (sym (ap not (at-is-sound .is-sound .ensures)) ∙ c .before .if2 .taken)))
-    (ap made-number (c .unanalysed2 .ensures .0)) (c .unanalysed2 .ensures .1) (c .unanalysed2 .ensures .2)
+    (analysis-unsound p (passes _ (not-false (unfinished p) (sym (at-game-over .game-over .ensures) ∙ at-if1 .if1 .left))) (passes _ (sym (ap not (at-is-sound .is-sound .ensures)) ∙ c .before .if2 .taken)))
+    (ap analysis-number (c .unanalysed2 .ensures .0)) (c .unanalysed2 .ensures .1) (c .unanalysed2 .ensures .2)
 
 analysed-requires : tie.Need-analysed-requires
 analysed-requires c κs =
@@ -49,7 +49,7 @@ analysed-requires c κs =
     let at-game-over = at-if1 .before in
     let start = at-game-over .before in
     let p = position-of (start .args .pos) in
-    (passes _ (not-false (going p) (sym (at-game-over .game-over .ensures) ∙ at-if1 .if1 .left)), passes _ (sym (c .before .is-sound .ensures) ∙ not-false _ (c .if2 .left)))
+    (passes _ (not-false (unfinished p) (sym (at-game-over .game-over .ensures) ∙ at-if1 .if1 .left)), passes _ (sym (c .before .is-sound .ensures) ∙ not-false _ (c .if2 .left)))
 
 returns-3 : tie.Need-returns-3
 returns-3 c = search needs

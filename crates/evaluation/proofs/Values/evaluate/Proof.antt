@@ -5,7 +5,7 @@ use Rattle.rules.specs.declared.Player.the-variants.{X, O}
 use Rattle.base.proofs.Integers.{within-neg}
 use Rattle.game.specs.Meaning.{position-of}
 use Rattle.base.proofs.Signed.{result, Held, held-promised, held-fits, held-reads, minus}
-use Rattle.evaluation.proofs.Ends.{eval-ended, eval-open}
+use Rattle.evaluation.proofs.ValuesEnds.{eval-ended, eval-open}
 use borrow.Author.Needs.{needs}
 use Rattle.evaluation.proofs.Values.evaluate.Statement.{statement}
 use Rattle.evaluation.proofs.Values.evaluate.Tie as tie

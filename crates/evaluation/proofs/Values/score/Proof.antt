@@ -3,8 +3,8 @@ use mathlib.Core.Path.{_∙_}
 use Rattle.game.specs.Meaning.{position-of}
 use Rattle.evaluation.specs.Values.{overall-value}
 use Rattle.base.proofs.Signed.{Held, held-promised, held-fits, held-reads, held-small, plus}
-use Rattle.evaluation.proofs.Lines.{eight}
-use Rattle.evaluation.proofs.Overall.{score-bits}
+use Rattle.evaluation.proofs.ValuesLines.{eight}
+use Rattle.evaluation.proofs.ValuesOverall.{score-bits}
 use borrow.Author.Needs.{needs}
 use Rattle.evaluation.proofs.Values.score.Statement.{statement}
 use Rattle.evaluation.proofs.Values.score.Tie as tie

@@ -1,7 +1,7 @@
 -- The empty cells of the boards that may be played are the moves.
 use mathlib.Core.Path.{_∙_}
 use borrow.Author.Needs.{needs}
-use Rattle.game.proofs.Lists.{moves-cursor}
+use Rattle.game.proofs.MeaningMoves.{moves-cursor}
 use Rattle.game.proofs.Game.all_moves.Statement.{statement}
 use Rattle.game.proofs.Game.all_moves.Tie as tie
 

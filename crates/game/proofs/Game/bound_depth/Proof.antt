@@ -3,7 +3,7 @@ use mathlib.Core.Path.{ap, _∙_}
 use lib.ListN.{length}
 use borrow.Author.Needs.{needs}
 use Rattle.boards.specs.Cursor.{moves-left}
-use Rattle.game.proofs.Counted.{depth-counted}
+use Rattle.game.proofs.MeaningCounts.{depth-counted}
 use Rattle.game.proofs.Game.bound_depth.Statement.{statement}
 use Rattle.game.proofs.Game.bound_depth.Tie as tie
 

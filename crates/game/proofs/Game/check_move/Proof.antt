@@ -6,7 +6,7 @@ use Rattle.rules.specs.Board.{blank}
 use Rattle.rules.specs.Play.{play}
 use Rattle.game.specs.Meaning.{position-of}
 use Rattle.game.specs.After.{refusal}
-use Rattle.game.proofs.Answers.{over-board, over-cell, finished, shut, elsewhere, looked}
+use Rattle.game.proofs.AfterRefusals.{over-board, over-cell, finished, shut, elsewhere, looked}
 use Rattle.game.proofs.Game.check_move.Statement.{statement}
 use Rattle.game.proofs.Game.check_move.Tie as tie
 

@@ -2,7 +2,7 @@
 use mathlib.Core.Path.{_∙_}
 use borrow.Author.Needs.{needs}
 use Rattle.game.specs.Meaning.{position-of}
-use Rattle.game.proofs.Counted.{same-boards, other-turn, other-due, other-state, compared}
+use Rattle.game.proofs.MeaningCounts.{same-boards, other-turn, other-due, other-state, compared}
 use Rattle.game.proofs.Game.equivalent.Statement.{statement}
 use Rattle.game.proofs.Game.equivalent.Tie as tie
 

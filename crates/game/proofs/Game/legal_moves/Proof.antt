@@ -3,7 +3,7 @@ use mathlib.Core.Path.{ap, _∙_}
 use lib.ListN.{length}
 use borrow.Author.Needs.{needs}
 use Rattle.boards.specs.Cursor.{moves-left}
-use Rattle.game.proofs.Lists.{all-moves-listed}
+use Rattle.game.proofs.MeaningMoves.{all-moves-listed}
 use Rattle.game.proofs.Game.legal_moves.Statement.{statement}
 use Rattle.game.proofs.Game.legal_moves.Tie as tie
 

@@ -2,7 +2,7 @@
 use mathlib.Core.Path.{_≡_}
 use lib.ListN.{length, length-map}
 use borrow.Author.Needs.{needs}
-use Rattle.game.proofs.Tries.{may-play, plays-accepted, plays-refused}
+use Rattle.game.proofs.After.{may-play, plays-accepted, plays-refused}
 use Rattle.game.proofs.Game.make_move.Statement.{statement}
 use Rattle.game.proofs.Game.make_move.Tie as tie
 

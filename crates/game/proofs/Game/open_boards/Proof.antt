@@ -2,7 +2,7 @@
 use native.Mathlib.Omega.{arith}
 use borrow.Author.Needs.{needs}
 use Rattle.game.specs.Meaning.{position-of}
-use Rattle.game.proofs.Counted.{open-count, few-open}
+use Rattle.game.proofs.MeaningCounts.{open-count, few-open}
 use Rattle.game.proofs.Game.open_boards.Statement.{statement}
 use Rattle.game.proofs.Game.open_boards.Tie as tie
 

@@ -8,7 +8,7 @@ use borrow.Author.Needs.{needs}
 use Rattle.rules.specs.Hash.{board-hash, xors, hash}
 use Rattle.rules.specs.Board.{nine}
 use Rattle.boards.specs.Packed.{cell-at, state-at}
-use Rattle.boards.proofs.Hashes.{one-more}
+use Rattle.boards.proofs.RowsHash.{one-more}
 use Rattle.game.specs.Meaning.{position-of}
 use Rattle.game.specs.Built.{parts, with-hash, packed}
 use Rattle.game.proofs.Game.pack.Statement.{statement}

@@ -5,7 +5,7 @@ use lib.ListN.{length, drop}
 use denote.Ref.{now}
 use Rattle.game.specs.declared.Game.{Game}
 use Rattle.game.specs.After.{games-after}
-use Rattle.game.proofs.Played.{games-more, games-all}
+use Rattle.game.proofs.AfterList.{games-more, games-all}
 use borrow.Author.Needs.{needs}
 use Rattle.game.proofs.Game.play_all.Statement.{statement}
 use Rattle.game.proofs.Game.play_all.Tie as tie

@@ -3,7 +3,7 @@ use mathlib.Core.Path.{sym, _∙_}
 use borrow.Author.Tests.{not-true, not-false}
 use borrow.Author.Needs.{needs}
 use Rattle.game.specs.Meaning.{position-of}
-use Rattle.game.proofs.Lists.{none-over, none-due, all-open, one-open}
+use Rattle.game.proofs.MeaningMoves.{none-over, none-due, all-open, one-open}
 use Rattle.game.proofs.Game.playable.Statement.{statement}
 use Rattle.game.proofs.Game.playable.Tie as tie
 

@@ -4,7 +4,7 @@ use mathlib.Core.Path.{ap, _∙_}
 use lib.Bits.{bitXor}
 use borrow.Author.Needs.{needs}
 use Rattle.rules.specs.Hash.{with-turn}
-use Rattle.game.proofs.Hash.{turn-any, turn-only}
+use Rattle.game.proofs.AfterHash.{turn-any, turn-only}
 use Rattle.game.proofs.Game.zobrist.Statement.{statement}
 use Rattle.game.proofs.Game.zobrist.Tie as tie
 

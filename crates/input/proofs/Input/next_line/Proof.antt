@@ -5,7 +5,7 @@ use lib.Seq.{drop-nil}
 use denote.Ref.{now}
 use borrow.Author.Needs.{needs}
 use Rattle.input.specs.Lines.{unused}
-use Rattle.input.proofs.Taking.{Went, went-none, went-on, went-from, reads, reads-end}
+use Rattle.input.proofs.Lines.{Went, went-none, went-on, went-from, reads, reads-end}
 use Rattle.input.proofs.Input.next_line.Statement.{statement}
 use Rattle.input.proofs.Input.next_line.Tie as tie
 

@@ -5,13 +5,13 @@ use native.Mathlib.Omega.{arith}
 use lib.ListN.{length, take, drop, length-take, length-drop, length-set, drop-of-length-le}
 use denote.Ref.{now}
 use borrow.Author.Needs.{needs}
-use Rattle.input.specs.Lines.{taken}
-use Rattle.input.proofs.Taking.{byte-taken, line-found, all-taken, takes}
+use Rattle.input.specs.Lines.{line-taken}
+use Rattle.input.proofs.Lines.{byte-taken, line-found, all-taken, takes}
 use Rattle.input.proofs.Input.take.Statement.{statement}
 use Rattle.input.proofs.Input.take.Tie as tie
 
 abbrev Inv-loop : tie.InvT-loop
-Inv-loop buffer kept₀ end stop line₀ i₀ kept line i = (taken line₀ kept₀ (drop i₀ (take end buffer)) ≡ taken line kept (drop i (take end buffer))) × (stop ≡ length (take end buffer)) × (i₀ ≤ i) × (i - i₀ ≤ stop - i₀) × (length kept ≡ length kept₀)
+Inv-loop buffer kept₀ end stop line₀ i₀ kept line i = (line-taken line₀ kept₀ (drop i₀ (take end buffer)) ≡ line-taken line kept (drop i (take end buffer))) × (stop ≡ length (take end buffer)) × (i₀ ≤ i) × (i - i₀ ≤ stop - i₀) × (length kept ≡ length kept₀)
 
 abbrev μ-loop : tie.MeasureT-loop
 μ-loop buffer kept₀ end stop line₀ i₀ kept line i = stop - i

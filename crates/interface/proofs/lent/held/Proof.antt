@@ -3,9 +3,9 @@ use mathlib.Core.Path.{_≡_, refl, sym, ap, _∙_}
 use Prim.Native.Nat.{_+_, _-_}
 use lib.ListN.{length, drop}
 use denote.Ref.{now}
-use Rattle.held.specs.declared.Held.{Held}
-use Rattle.held.specs.HeldLine.{pushed-all}
-use Rattle.interface.proofs.Places.{pushed-next, pushed-end}
+use Rattle.line_buffer.specs.declared.LineBuffer.{LineBuffer}
+use Rattle.line_buffer.specs.Buffer.{pushed-all}
+use Rattle.interface.proofs.LentPlaces.{pushed-next, pushed-end}
 use borrow.Author.Needs.{needs}
 use Rattle.interface.proofs.lent.held.Statement.{statement}
 use Rattle.interface.proofs.lent.held.Tie as tie
@@ -38,13 +38,13 @@ loop-again : tie.Need-loop-again Inv-loop μ-loop
 loop-again c =
     let l = c .before .before .before .loop in
     let bs = c .before .before .before .before .before .before .args .line .now in
-    (refl, ap (λ (h : Held). pushed-all h (drop (l .i + 1) bs)) (c .push .ensures) ∙ pushed-next (l .held) bs (l .i) 0 (c .before .before .loop-test .taken) ∙ l .inv .1)
+    (refl, ap (λ (h : LineBuffer). pushed-all h (drop (l .i + 1) bs)) (c .push .ensures) ∙ pushed-next (l .held) bs (l .i) 0 (c .before .before .loop-test .taken) ∙ l .inv .1)
 
 returns : tie.Need-returns Inv-loop μ-loop
 returns c =
     let l = c .before .loop in
     let bs = c .before .before .before .before .args .line .now in
-    sym (pushed-end (l .held) bs (l .i) (c .loop-test .left)) ∙ l .inv .1 ∙ ap (λ (h : Held). pushed-all h bs) (c .before .before .new .ensures)
+    sym (pushed-end (l .held) bs (l .i) (c .loop-test .left)) ∙ l .inv .1 ∙ ap (λ (h : LineBuffer). pushed-all h bs) (c .before .before .new .ensures)
 
 pub held-spec : {M : Type 1} → statement M
 held-spec =

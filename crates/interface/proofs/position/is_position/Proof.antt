@@ -4,14 +4,14 @@ use Prim.Native.Nat.{_-_, _≤_}
 use native.Mathlib.Omega.{arith}
 use lib.ListN.{length, drop}
 use denote.Ref.{now}
-use Rattle.interface.specs.Position.{most, within}
+use Rattle.interface.specs.Position.{most, all-within}
 use Rattle.interface.proofs.PositionWords.{within-short, within-over, within-under, within-end}
 use borrow.Author.Needs.{needs}
 use Rattle.interface.proofs.position.is_position.Statement.{statement}
 use Rattle.interface.proofs.position.is_position.Tie as tie
 
 abbrev Inv-loop : tie.InvT-loop
-Inv-loop words i₀ i = (12 ≤ length words) × (i ≤ 12) × (within most words ≡ within (drop i most) (drop i words))
+Inv-loop words i₀ i = (12 ≤ length words) × (i ≤ 12) × (all-within most words ≡ all-within (drop i most) (drop i words))
 
 abbrev μ-loop : tie.MeasureT-loop
 μ-loop words i₀ i = 12 - i

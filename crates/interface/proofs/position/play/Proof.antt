@@ -8,15 +8,15 @@ use denote.Ref.{now}
 use Rattle.game.specs.declared.Game.{Game}
 use Rattle.game.specs.After.{games-after}
 use Rattle.boards.proofs.Answers.{answer-most}
-use Rattle.game.proofs.Played.{games-more, games-all}
-use Rattle.interface.specs.Calls.{answers-to}
-use Rattle.interface.proofs.TriedMoves.{answers-next, answers-end}
+use Rattle.game.proofs.AfterList.{games-more, games-all}
+use Rattle.interface.specs.Calls.{answers-each}
+use Rattle.interface.proofs.CallsPlay.{answers-next, answers-end}
 use borrow.Author.Needs.{needs}
 use Rattle.interface.proofs.position.play.Statement.{statement}
 use Rattle.interface.proofs.position.play.Tie as tie
 
 abbrev Inv-loop : tie.InvT-loop
-Inv-loop moves answers₀ game₀ i₀ i-end answers game i = (i-end ≡ length moves) × (length answers ≡ length answers₀) × (games-after game (drop i moves) ≡ games-after game₀ moves) × (sets answers i (answers-to game (drop i moves)) ≡ sets answers₀ 0 (answers-to game₀ moves))
+Inv-loop moves answers₀ game₀ i₀ i-end answers game i = (i-end ≡ length moves) × (length answers ≡ length answers₀) × (games-after game (drop i moves) ≡ games-after game₀ moves) × (sets answers i (answers-each game (drop i moves)) ≡ sets answers₀ 0 (answers-each game₀ moves))
 
 abbrev μ-loop : tie.MeasureT-loop
 μ-loop moves answers₀ game₀ i₀ i-end answers game i = i-end - i

@@ -1,8 +1,8 @@
 -- Each word by its call.
 use mathlib.Core.Path.{ap, _∙_}
-use Rattle.theory.specs.Table.{word-of}
+use Rattle.theory.specs.Table.{to-word}
 use Rattle.status.specs.declared.Status.{Status}
-use Rattle.interface.proofs.ReportWords.{seven}
+use Rattle.interface.proofs.CallsReport.{seven}
 use borrow.Author.Needs.{needs}
 use mir.Facts.{toZ-ofZ}
 use Rattle.interface.proofs.report.head.Statement.{statement}
@@ -30,7 +30,7 @@ returns : tie.Need-returns
 returns c =
     let s = c .before .before .before .before .before .before .before .args .found .score in
     seven _ _ _ _ _ _ _ _ _ _ _ _ (c .before .before .before .before .before .number .ensures) (c .before .before .before .before .stopped .ensures)
-    (c .before .before .to-word .ensures ∙ ap word-of (toZ-ofZ {z = s} (record { sfits = c .before .before .before .struct-told .given .1 .1 .1 .0 .1 })))
+    (c .before .before .to-word .ensures ∙ ap to-word (toZ-ofZ {z = s} (record { sfits = c .before .before .before .struct-told .given .1 .1 .1 .0 .1 })))
     (c .before .number2 .ensures) (ap (λ (s : Status). s .bits) (c .before .before .before .before .before .before .status .ensures))
 
 pub head-spec : {M : Type 1} → statement M

@@ -5,7 +5,7 @@ use native.Mathlib.Omega.{arith}
 use lib.ListN.{length, drop, take, length-set}
 use denote.Ref.{now}
 use Rattle.minimax.specs.State.{bytes-of}
-use Rattle.interface.proofs.ReportWords.{moves-next, moves-end}
+use Rattle.interface.proofs.CallsReport.{moves-next, moves-end}
 use borrow.Author.Needs.{needs}
 use Rattle.interface.proofs.report.moves_from.Statement.{statement}
 use Rattle.interface.proofs.report.moves_from.Tie as tie

@@ -5,7 +5,7 @@ use lib.ListN.{length, length-map}
 use lib.Seq.{sets}
 use denote.Ref.{now}
 use Rattle.minimax.specs.Report.{report-of}
-use Rattle.interface.proofs.ReportWords.{report-put}
+use Rattle.interface.proofs.CallsReport.{report-put}
 use borrow.Author.Needs.{needs}
 use Rattle.interface.proofs.report.put.Statement.{statement}
 use Rattle.interface.proofs.report.put.Tie as tie
@@ -31,7 +31,7 @@ same-length c = search needs
 returns : tie.Need-returns
 returns c =
     let s = c .before .before .before .before .before .before .before .before .before .before .before .before .before .before .before .before .before in
-    let n : length (s .args .found .line) ≡ 81 = simp length-map at (s .good .1 .0 .1 .1 .1 .1 .1 .1 .1 .0 .1 .0 .1) in
+    let n : length (s .args .found .pv) ≡ 81 = simp length-map at (s .good .1 .0 .1 .1 .1 .1 .1 .1 .1 .0 .1 .0 .1) in
     let k : length (s .args .found .stats) ≡ 81 = simp length-map at (s .good .1 .0 .1 .1 .1 .1 .1 .1 .1 .1 .0 .1 .0 .1) in
     report-put (s .args .out .now) _ _ _ (report-of (s .args .found) []) _ _ (simp length-map n) (simp length-map k)
     (c .before .before .before .before .before .before .before .before .before .before .put .ensures ∙ ap (sets (s .args .out .now) 0) (c .before .before .before .before .before .before .before .before .before .before .before .before .head .ensures)) (c .before .before .before .before .before .before .put-line .ensures) (c .before .before .put-stats .ensures)

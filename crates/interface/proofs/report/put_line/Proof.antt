@@ -6,7 +6,7 @@ use lib.ListN.{length, drop, length-set, length-map, List·getD-map}
 use lib.Seq.{sets}
 use denote.Ref.{now}
 use Rattle.minimax.specs.State.{byte-of, bytes-of}
-use Rattle.interface.proofs.Places.{sets-start, sets-next, sets-end}
+use Rattle.interface.proofs.LentPlaces.{sets-start, sets-next, sets-end}
 use borrow.Author.Needs.{needs}
 use Rattle.interface.proofs.report.put_line.Statement.{statement}
 use Rattle.interface.proofs.report.put_line.Tie as tie

@@ -1,7 +1,7 @@
 -- The responses to O's moves follow those to X's.
 use lib.ListN.{length-map}
 use denote.Ref.{now}
-use Rattle.interface.proofs.ReportWords.{both-put}
+use Rattle.interface.proofs.CallsReport.{both-put}
 use borrow.Author.Needs.{needs}
 use Rattle.interface.proofs.report.put_memory.Statement.{statement}
 use Rattle.interface.proofs.report.put_memory.Tie as tie

@@ -8,7 +8,7 @@ use lib.Seq.{sets}
 use denote.Ref.{now}
 use Rattle.minimax.specs.Report.{stats-of}
 use Rattle.interface.specs.Calls.{all-stats}
-use Rattle.interface.proofs.ReportWords.{stats-start, stats-next, stats-end}
+use Rattle.interface.proofs.CallsReport.{stats-start, stats-next, stats-end}
 use borrow.Author.Needs.{needs}
 use Rattle.interface.proofs.report.put_stats.Statement.{statement}
 use Rattle.interface.proofs.report.put_stats.Tie as tie

@@ -1,6 +1,6 @@
 -- The tests are the definition's, in its order.
 use Rattle.minimax.specs.Report.{settings-of}
-use Rattle.minimax.proofs.Refusals.{no-depth, too-deep, no-allowance, too-many, not-threes, too-long, none-refused}
+use Rattle.minimax.proofs.ReportRefusals.{no-depth, too-deep, no-allowance, too-many, not-threes, too-long, none-refused}
 use Rattle.minimax.proofs.Config.check.Statement.{statement}
 use Rattle.minimax.proofs.Config.check.Tie as tie
 

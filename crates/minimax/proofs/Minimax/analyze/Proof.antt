@@ -2,7 +2,7 @@
 use mathlib.Core.Path.{sym, ap, _∙_}
 use Rattle.minimax.specs.Structs.{structs}
 use Rattle.minimax.specs.Report.{scoring-of, entry-number, settings-of}
-use Rattle.minimax.proofs.Refusals.{limits, refused-reported, accepted-reported}
+use Rattle.minimax.proofs.ReportRefusals.{limits, refused-reported, accepted-reported}
 use borrow.Author.Needs.{needs}
 use Rattle.minimax.proofs.Minimax.analyze.Statement.{statement}
 use Rattle.minimax.proofs.Minimax.analyze.Tie as tie

@@ -3,11 +3,11 @@ use mathlib.Core.Path.{ap, _∙_}
 use Prim.Native.Nat.{_-_}
 use native.Mathlib.Omega.{arith}
 use denote.Ref.{now}
-use Rattle.theory.specs.Deepening.{Whole}
+use Rattle.theory.specs.Deepening.{Completed}
 use Rattle.theory.specs.Reported.{report}
 use Rattle.minimax.specs.Structs.{structs}
 use Rattle.minimax.specs.Report.{scoring-of}
-use Rattle.minimax.proofs.Deepens.{Going, going-first, going-all, going-done, ask-asked, ask-counted, going-stopped, line-kept, going-decided, going-on}
+use Rattle.minimax.proofs.ReportDeepening.{Going, going-first, going-all, going-done, root-asked, root-counted, going-stopped, line-kept, going-decided, going-on}
 use Rattle.minimax.proofs.Minimax.deepen.Statement.{statement}
 use Rattle.minimax.proofs.Minimax.deepen.Tie as tie
 
@@ -35,8 +35,8 @@ loop-holds c =
 cast-if1 : tie.Need-cast-if1 Inv-loop μ-loop
 cast-if1 c = record { fits = omega (arith, c .before .loop .inv .empty .most) }
 
-ask-requires : tie.Need-ask-requires Inv-loop μ-loop
-ask-requires c κs = omega (arith, c .if1 .taken, c .before .before .before .before .before .before .before .before .pre .0)
+root-requires : tie.Need-root-requires Inv-loop μ-loop
+root-requires c κs = omega (arith, c .if1 .taken, c .before .before .before .before .before .before .before .before .pre .0)
 
 begin-requires-2 : tie.Need-begin-requires-2 Inv-loop μ-loop
 begin-requires-2 c κs = tt
@@ -45,18 +45,18 @@ minimax-requires : tie.Need-minimax-requires Inv-loop μ-loop
 minimax-requires c κs =
     let start = c .before .before .before .before .before .before .before .before .before .before .before in
     let turn = c .before .before .before .before .before .before in (
-      ask-asked (start .args .game) (start .args .config) (now (start .args .words)) (c .before .before .before .before .before
+      root-asked (start .args .game) (start .args .config) (now (start .args .words)) (c .before .before .before .before .before
           .before .before .before .none .result) (c .before .before .before .before .before .before .before .begin .result) (turn .loop
-          .words) (turn .loop .whole) (turn .loop .s) (turn .loop .inv) (start .pre .0) (start .pre .1) (c .before .before .before .if1
+          .words) (turn .loop .completed) (turn .loop .s) (turn .loop .inv) (start .pre .0) (start .pre .1) (c .before .before .before .if1
           .taken) (c .before .before .before .before .before .before .before .before .before .new .result) (c .before .before .before
-          .before .before .before .before .before .before .new .ensures) (c .before .before .ask .result) (c .before .before .ask
+          .before .before .before .before .before .before .new .ensures) (c .before .before .root .result) (c .before .before .root
           .ensures) (c .before .begin2 .result) (c .before .begin2 .ensures),
-      ask-counted (start .args .game) (start .args .config) (now
+      root-counted (start .args .game) (start .args .config) (now
           (start .args .words)) (c .before .before .before .before .before .before .before .before .none .result) (c .before .before
-          .before .before .before .before .before .begin .result) (turn .loop .words) (turn .loop .whole) (turn .loop .s) (turn .loop
+          .before .before .before .before .before .begin .result) (turn .loop .words) (turn .loop .completed) (turn .loop .s) (turn .loop
           .inv) (start .pre .0) (start .pre .1) (c .before .before .before .if1 .taken) (c .before .before .before .before .before
           .before .before .before .before .new .result) (c .before .before .before .before .before .before .before .before .before .new
-          .ensures) (c .before .before .ask .result) (c .before .before .ask .ensures) (c .before .begin2 .result) (c .before .begin2
+          .ensures) (c .before .before .root .result) (c .before .before .root .ensures) (c .before .begin2 .result) (c .before .begin2
           .ensures),
     )
 
@@ -76,11 +76,11 @@ returns c =
     .config))) (start .args .game)) (going-stopped (start .args .game) (start .args .config) (now (start .args .words)) (c .before
     .before .before .before .before .before .before .before .before .before .before .before .before .none .result) (c .before
     .before .before .before .before .before .before .before .before .before .before .before .begin .result) (turn .loop .words)
-    (turn .loop .whole) (turn .loop .s) (turn .loop .inv) (start .pre .0) (start .pre .1) (c .before .before .before .before
+    (turn .loop .completed) (turn .loop .s) (turn .loop .inv) (start .pre .0) (start .pre .1) (c .before .before .before .before
     .before .before .before .before .if1 .taken) (c .before .before .before .before .before .before .before .before .before
     .before .before .before .before .before .new .result) (c .before .before .before .before .before .before .before .before
-    .before .before .before .before .before .before .new .ensures) (c .before .before .before .before .before .before .before .ask
-    .result) (c .before .before .before .before .before .before .before .ask .ensures) (c .before .before .before .before .before
+    .before .before .before .before .before .before .new .ensures) (c .before .before .before .before .before .before .before .root
+    .result) (c .before .before .before .before .before .before .before .root .ensures) (c .before .before .before .before .before
     .before .begin2 .result) (c .before .before .before .before .before .before .begin2 .ensures) (c .before .before .before
     .before .minimax .result) (c .before .before .before .before .minimax .last .1 .1 .1 .0) (c .before .before .before .before
     .minimax .ensures) (c .before .before .before .before .minimax .kept .1 .1 .1 .0) (c .before .if2 .taken) ∙ going-all (start
@@ -98,11 +98,11 @@ deeper-requires c κs =
       turn .loop .inv .empty,
       line-kept (start .args .game) (start .args .config) (now (start .args .words)) (c .before .before .before .before .before
           .before .before .before .before .before .before .before .none .result) (c .before .before .before .before .before .before
-          .before .before .before .before .before .begin .result) (turn .loop .words) (turn .loop .whole) (turn .loop .s) (turn .loop
+          .before .before .before .before .before .begin .result) (turn .loop .words) (turn .loop .completed) (turn .loop .s) (turn .loop
           .inv) (start .pre .0) (start .pre .1) (c .before .before .before .before .before .before .before .if1 .taken) (c .before
           .before .before .before .before .before .before .before .before .before .before .before .before .new .result) (c .before
           .before .before .before .before .before .before .before .before .before .before .before .before .new .ensures) (c .before
-          .before .before .before .before .before .ask .result) (c .before .before .before .before .before .before .ask .ensures) (c
+          .before .before .before .before .before .root .result) (c .before .before .before .before .before .before .root .ensures) (c
           .before .before .before .before .before .begin2 .result) (c .before .before .before .before .before .begin2 .ensures) (c
           .before .before .before .minimax .result) (c .before .before .before .minimax .last .1 .1 .1 .0) (c .before .before .before
           .minimax .ensures) (c .before .before .before .minimax .kept .1 .1 .1 .0) (c .if2 .left),
@@ -127,13 +127,13 @@ returns-2 c =
     .config))) (start .args .game)) (going-decided (start .args .game) (start .args .config) (now (start .args .words)) (c .before
     .before .before .before .before .before .before .before .before .before .before .before .before .before .before .before
     .before .none .result) (c .before .before .before .before .before .before .before .before .before .before .before .before
-    .before .before .before .before .begin .result) (turn .loop .words) (turn .loop .whole) (turn .loop .s) (turn .loop .inv)
+    .before .before .before .before .begin .result) (turn .loop .words) (turn .loop .completed) (turn .loop .s) (turn .loop .inv)
     (start .pre .0) (start .pre .1) (c .before .before .before .before .before .before .before .before .before .before .before
     .before .if1 .taken) (c .before .before .before .before .before .before .before .before .before .before .before .before
     .before .before .before .before .before .before .new .result) (c .before .before .before .before .before .before .before
     .before .before .before .before .before .before .before .before .before .before .before .new .ensures) (c .before .before
-    .before .before .before .before .before .before .before .before .before .ask .result) (c .before .before .before .before
-    .before .before .before .before .before .before .before .ask .ensures) (c .before .before .before .before .before .before
+    .before .before .before .before .before .before .before .before .before .root .result) (c .before .before .before .before
+    .before .before .before .before .before .before .before .root .ensures) (c .before .before .before .before .before .before
     .before .before .before .before .begin2 .result) (c .before .before .before .before .before .before .before .before .before
     .before .begin2 .ensures) (c .before .before .before .before .before .before .before .before .minimax .result) (c .before
     .before .before .before .before .before .before .before .minimax .last .1 .1 .1 .0) (c .before .before .before .before .before
@@ -149,7 +149,7 @@ returns-2 c =
 
 loop-less : tie.Need-loop-less Inv-loop μ-loop
 loop-less c =
-    let e = ap (λ (w : Whole). w .depth) (c .before .before .before .deeper .ensures .0) in omega (
+    let e = ap (λ (w : Completed). w .depth) (c .before .before .before .deeper .ensures .0) in omega (
       arith,
       c .before .before
           .before .before .before .before .before .before .before .before .before .if1 .taken,
@@ -162,12 +162,12 @@ loop-again c =
     going-on (start .args .game) (start .args .config) (now (start .args .words)) (c .before .before .before .before .before
     .before .before .before .before .before .before .before .before .before .before .before .none .result) (c .before .before
     .before .before .before .before .before .before .before .before .before .before .before .before .before .begin .result) (turn
-    .loop .words) (turn .loop .whole) (turn .loop .s) (turn .loop .inv) (start .pre .0) (start .pre .1) (c .before .before .before
+    .loop .words) (turn .loop .completed) (turn .loop .s) (turn .loop .inv) (start .pre .0) (start .pre .1) (c .before .before .before
     .before .before .before .before .before .before .before .before .if1 .taken) (c .before .before .before .before .before
     .before .before .before .before .before .before .before .before .before .before .before .before .new .result) (c .before
     .before .before .before .before .before .before .before .before .before .before .before .before .before .before .before
-    .before .new .ensures) (c .before .before .before .before .before .before .before .before .before .before .ask .result) (c
-    .before .before .before .before .before .before .before .before .before .before .ask .ensures) (c .before .before .before
+    .before .new .ensures) (c .before .before .before .before .before .before .before .before .before .before .root .result) (c
+    .before .before .before .before .before .before .before .before .before .before .root .ensures) (c .before .before .before
     .before .before .before .before .before .before .begin2 .result) (c .before .before .before .before .before .before .before
     .before .before .begin2 .ensures) (c .before .before .before .before .before .before .before .minimax .result) (c .before
     .before .before .before .before .before .before .minimax .last .1 .1 .1 .0) (c .before .before .before .before .before .before
@@ -188,7 +188,7 @@ returns-3 c =
     c .report3 .ensures (scoring-of (start .args .config)) (start .args .game) _ ∙ ap (report (structs (scoring-of (start .args
     .config))) (start .args .game)) (going-done (start .args .game) (start .args .config) (now (start .args .words)) (c .before
     .before .before .before .before .before .none .result) (c .before .before .before .before .before .begin .result) (turn .loop
-    .words) (turn .loop .whole) (turn .loop .s) (turn .loop .inv) (c .before .if1 .left) ∙ going-all (start .args .self) (start
+    .words) (turn .loop .completed) (turn .loop .s) (turn .loop .inv) (c .before .if1 .left) ∙ going-all (start .args .self) (start
     .args .game) (start .args .config) (now (start .args .words)) (c .before .before .before .before .before .before .none
     .result) (c .before .before .before .before .before .begin .result) (c .before .before .before .before .before .before .none
     .ensures) (c .before .before .before .before .before .begin .ensures))
@@ -204,7 +204,7 @@ deepen-spec =
     begin-requires
     loop-holds
     cast-if1
-    ask-requires
+    root-requires
     begin-requires-2
     minimax-requires
     report-requires

@@ -9,12 +9,12 @@ use lib.ListN.{length, length-map}
 use mir.Syntax.{w64}
 use mir.Val.{toZ}
 use denote.Ref.{now}
-use Rattle.order.specs.Order.{walk-left}
-use Rattle.minimax.specs.declared.search.Found.{Found}
+use Rattle.order.specs.Order.{order-left}
+use Rattle.minimax.specs.declared.search.NodeResult.{NodeResult}
 use Rattle.base.proofs.Signed.{result}
-use Rattle.minimax.proofs.Scores.{told}
-use Rattle.minimax.proofs.Entering.{Begun as Entering, Looked, Knows, Goes, may-enter, may-leaf, may-hit, may-suffice, stop-gives, leaf-gives, none-goes, known-gives, some-goes, goes-gives, goes-on}
-use Rattle.minimax.proofs.Turns.{stand, Turn, Begun, Held, Met, Brought, Raised, walk-shorter, words-long, may-raise, turn-first, turn-done, may-count, may-tell-leaf, leaf-below, stop-below, by-parts, under-asked, under-counted, under-lower, turn-stopped, score-within, cut-room, turn-not, turn-better, turn-cut}
+use Rattle.minimax.proofs.StateScores.{told}
+use Rattle.minimax.proofs.StateEntering.{Begun as Entering, Looked, Knows, Goes, may-enter, may-leaf, may-hit, may-suffice, stop-gives, leaf-gives, none-goes, known-gives, some-goes, goes-gives, goes-on}
+use Rattle.minimax.proofs.StateMoves.{stand, Turn, Begun, Held, Met, Brought, Raised, walk-shorter, words-long, may-raise, turn-first, turn-done, may-count, may-tell-leaf, leaf-below, stop-below, by-parts, under-asked, under-counted, under-lower, turn-stopped, score-within, cut-room, turn-not, turn-better, turn-cut}
 use borrow.Author.Needs.{needs}
 use borrow.Fn.Kinds.{In, Out}
 use borrow.Fn.PlainCycle.{Measures, is, falls, and}
@@ -28,27 +28,27 @@ use Rattle.boards.proofs.moves.Move.is_none.Reads as is-none-reads
 use Rattle.boards.proofs.moves.Move.none.Reads as none-reads
 use Rattle.game.proofs.Game.zobrist.Reads as zobrist-reads
 use Rattle.table.proofs.lookup.Reads as lookup-reads
-use Rattle.order.proofs.Walk.next.Reads as next-reads
-use Rattle.minimax.proofs.search.Ask.below.Reads as below-reads
-use Rattle.minimax.proofs.search.Ask.best.Reads as best-reads
-use Rattle.minimax.proofs.search.Ask.cut.Reads as cut-reads
-use Rattle.minimax.proofs.search.Ask.is_cut.Reads as is-cut-reads
-use Rattle.minimax.proofs.search.Ask.evaluate.Reads as evaluate-reads
-use Rattle.minimax.proofs.search.Ask.evaluated.Reads as evaluated-reads
-use Rattle.minimax.proofs.search.Ask.is_leaf.Reads as is-leaf-reads
-use Rattle.minimax.proofs.search.Ask.leave.Reads as leave-reads
-use Rattle.minimax.proofs.search.Ask.suffices.Reads as suffices-reads
-use Rattle.minimax.proofs.search.Ask.walk.Reads as walk-reads
+use Rattle.order.proofs.MoveOrder.next.Reads as next-reads
+use Rattle.minimax.proofs.search.Node.below.Reads as below-reads
+use Rattle.minimax.proofs.search.Node.best.Reads as best-reads
+use Rattle.minimax.proofs.search.Node.cut.Reads as cut-reads
+use Rattle.minimax.proofs.search.Node.is_cut.Reads as is-cut-reads
+use Rattle.minimax.proofs.search.Node.evaluate.Reads as evaluate-reads
+use Rattle.minimax.proofs.search.Node.evaluated.Reads as evaluated-reads
+use Rattle.minimax.proofs.search.Node.is_leaf.Reads as is-leaf-reads
+use Rattle.minimax.proofs.search.Node.store.Reads as leave-reads
+use Rattle.minimax.proofs.search.Node.suffices.Reads as suffices-reads
+use Rattle.minimax.proofs.search.Node.order.Reads as walk-reads
 use Rattle.minimax.proofs.search.Best.is_below.Reads as is-below-reads
 use Rattle.minimax.proofs.search.Best.raise.Reads as raise-reads
-use Rattle.minimax.proofs.search.Found.known.Reads as known-reads
-use Rattle.minimax.proofs.search.Found.of.Reads as of-reads
-use Rattle.minimax.proofs.search.Found.stop.Reads as stop-reads
-use Rattle.minimax.proofs.search.Line.empty.Reads as empty-reads
-use Rattle.minimax.proofs.search.Search.enter.Reads as count-reads
-use Rattle.minimax.proofs.search.Search.hit.Reads as hit-reads
-use Rattle.minimax.proofs.search.Search.leaf.Reads as leaf-reads
-use Rattle.minimax.proofs.search.Search.suffice.Reads as suffice-reads
+use Rattle.minimax.proofs.search.NodeResult.known.Reads as known-reads
+use Rattle.minimax.proofs.search.NodeResult.of.Reads as of-reads
+use Rattle.minimax.proofs.search.NodeResult.stop.Reads as stop-reads
+use Rattle.minimax.proofs.search.Pv.empty.Reads as empty-reads
+use Rattle.minimax.proofs.search.SearchState.enter.Reads as count-reads
+use Rattle.minimax.proofs.search.SearchState.hit.Reads as hit-reads
+use Rattle.minimax.proofs.search.SearchState.leaf.Reads as leaf-reads
+use Rattle.minimax.proofs.search.SearchState.suffice.Reads as suffice-reads
 use Rattle.minimax.proofs.search.+minimax+moves.{statement}
 use Rattle.minimax.proofs.search.+minimax+moves.Tie.{close}
 
@@ -144,7 +144,7 @@ abbrev moves-Inv-loop : moves-lts.InvT-loop
 moves-Inv-loop a words₀ game walk₀ s₀ best₀ local₀ words walk s best local = Turn a (stand words₀ walk₀ s₀ best₀ local₀) (stand words walk s best local)
 
 abbrev moves-μ-loop : moves-lts.MeasureT-loop
-moves-μ-loop a words₀ game walk₀ s₀ best₀ local₀ words walk s best local = length (walk-left (a .game) walk)
+moves-μ-loop a words₀ game walk₀ s₀ best₀ local₀ words walk s best local = length (order-left (a .game) walk)
 
 module _ (t : ℕ) where
   -- what is known at a place of each function, and what is needed there
@@ -159,7 +159,7 @@ module _ (t : ℕ) where
   entering c = let start = c .before .before .before .before .before in record {
     a = start .args .a;
     s = start .args .state;
-    l = start .args .line;
+    l = start .args .pv;
     words = now (start .args .words);
     asked = start .pre .1 .0;
     counted = start .pre .1 .1;
@@ -202,7 +202,7 @@ module _ (t : ℕ) where
 
   minimax-returns : Minimax minimax-lts.Need-returns
   minimax-returns c = let start = c .before .before .before .before .before in
-      stop-gives (start .args .a) (start .args .state) (start .args .line) (now (start .args .words)) (c .stop .result) (c .before .if1 .taken) (c .stop .ensures)
+      stop-gives (start .args .a) (start .args .state) (start .args .pv) (now (start .args .words)) (c .stop .result) (c .before .if1 .taken) (c .stop .ensures)
 
   minimax-enter-requires : Minimax minimax-lts.Need-enter-requires
   minimax-enter-requires c κs = let start = c .before .before .before .before in may-enter (start .args .a) (start .args .state) (start .pre .1 .0) (start .pre .1 .1) (c .if1 .left)
@@ -260,37 +260,37 @@ module _ (t : ℕ) where
       let start = c .before .before .before .before .before .before .before .before .before .before .before .before .before .before in
       (omega (arith, start .pre .0), (start .pre .1 .0, goes (c .before) .ready))
 
-  minimax-leave-requires : Minimax minimax-lts.Need-leave-requires
-  minimax-leave-requires c κs =
+  minimax-store-requires : Minimax minimax-lts.Need-store-requires
+  minimax-store-requires c κs =
       let came = c .before .before .before .before .before in
       (goes came .ready .deep, entering (came .before .before .before .before .before .before .before .before) .asked .deep)
 
   minimax-same-length-2 : Minimax minimax-lts.Need-same-length-2
-  minimax-same-length-2 c = c .before .before .leave .kept .1 .1 .0 ∙ c .before .before .before .before .before .before .moves .kept .1 .1 .1 .1 .0
+  minimax-same-length-2 c = c .before .before .store .kept .1 .1 .0 ∙ c .before .before .before .before .before .before .moves .kept .1 .1 .1 .1 .0
 
   minimax-returns-4 : Minimax minimax-lts.Need-returns-4
   minimax-returns-4 c =
       let told = c .before .before in
       let searched = told .before .before .before .before in
-      goes-gives (goes (searched .before .before)) (searched .moves .ensures) (told .leave .ensures)
+      goes-gives (goes (searched .before .before)) (searched .moves .ensures) (told .store .ensures)
 
   -- ---- the search over its moves: where the loop begins and stands, the move that it meets, and what is found below that
   abbrev begun : Moves moves-lts.After-empty → Begun
   begun c = let start = c .before .before .before .before .before in record {
     a = start .args .a;
     first = start .args .first;
-    line = start .args .line;
-    from = stand (now (start .args .words)) (c .before .before .walk .result) (start .args .state) (c .before .best .result) (c .empty .result);
+    pv = start .args .pv;
+    from = stand (now (start .args .words)) (c .before .before .order .result) (start .args .state) (c .before .best .result) (c .empty .result);
     three = simp length-map at (start .good .0 .1 .1 .0 .1 .1 .1 .1 .0 .1 .1 .0 .1 .0 .1);
     asked = start .pre .1 .0;
     ready = start .pre .1 .1;
-    walk-is = c .before .before .walk .ensures (now (start .args .words));
+    walk-is = c .before .before .order .ensures (now (start .args .words));
     best-is = c .before .best .ensures;
     local-is = c .empty .ensures;
   }
 
   abbrev held : Moves moves-lts.At-loop → Held
-  held c = record { begun = begun (c .before); at = stand (c .loop .words) (c .loop .walk) (c .loop .s) (c .loop .best) (c .loop .local); turn = c .loop .inv }
+  held c = record { begun = begun (c .before); at = stand (c .loop .words) (c .loop .order) (c .loop .s) (c .loop .best) (c .loop .local); turn = c .loop .inv }
 
   abbrev met : (c : Moves moves-lts.After-below) → Met (held (c .before .before .before .before .before .before))
   met c = record {
@@ -318,7 +318,7 @@ module _ (t : ℕ) where
     words = _;
     gives = stop-below (met (c .before .before .before .before .before .before)) (c .before .if3 .taken) (c .stop .result) (c .stop .ensures);
     long = refl;
-    is-stopped = ap (λ (f : Found). f .stopped) (c .stop .ensures);
+    is-stopped = ap (λ (f : NodeResult). f .stopped) (c .stop .ensures);
   }
 
   -- by either way
@@ -326,7 +326,7 @@ module _ (t : ℕ) where
   whole c =
       let m = met (c .before .before) in
       record {
-        r = record { state = c .if2 .s; line = c .if2 .local; score = toZ w64 (c .if2 .score); stopped = false };
+        r = record { state = c .if2 .s; pv = c .if2 .local; score = toZ w64 (c .if2 .score); stopped = false };
         words = c .if2 .words;
         gives = ⊎-elim
             (λ w. by-parts _ _ refl (leaf-below m (w .3 .left) (w .4 .result) (w .4 .ensures) (w .5 .result) (w .5 .ensures) (c .before .is-leaf .result) (c .before .is-leaf .ensures) (w .0 .taken) _ (result (w .6 .ok) (w .6 .ensures)))
@@ -340,8 +340,8 @@ module _ (t : ℕ) where
   abbrev raised : (c : Moves moves-lts.After-raise) → Raised (whole (c .before .before .before))
   raised c = record { best = c .raise .result; better = sym (c .before .before .is-below .ensures) ∙ c .before .if5 .taken; raises = c .raise .ensures }
 
-  moves-walk-requires : Moves moves-lts.Need-walk-requires
-  moves-walk-requires c κs = (c .before .before .pre .1 .1 .deep, c .before .before .pre .1 .0 .deep)
+  moves-order-requires : Moves moves-lts.Need-order-requires
+  moves-order-requires c κs = (c .before .before .pre .1 .1 .deep, c .before .before .pre .1 .0 .deep)
 
   moves-best-requires : Moves moves-lts.Need-best-requires
   moves-best-requires c κs = tt
@@ -456,7 +456,7 @@ pub +minimax+moves-spec : {M : Type 1} → statement M
     (minimax-same-length t)
     (minimax-returns-3 t)
     (minimax-moves-requires t)
-    (minimax-leave-requires t)
+    (minimax-store-requires t)
     (minimax-same-length-2 t)
     (minimax-returns-4 t))
     λ t. moves-lts.spec (moves-env t)
@@ -464,7 +464,7 @@ pub +minimax+moves-spec : {M : Type 1} → statement M
     moves.Post
     moves-Inv-loop
     moves-μ-loop
-    (moves-walk-requires t)
+    (moves-order-requires t)
     (moves-best-requires t)
     (moves-empty-requires t)
     (moves-loop-holds t)

@@ -1,6 +1,6 @@
 -- The test is the definition's.
 use mathlib.Core.Path.{sym, _∙_}
-use Rattle.minimax.proofs.States.{hint-line, hint-answer}
+use Rattle.minimax.proofs.StateSteps.{hint-line, hint-answer}
 use borrow.Author.Needs.{needs}
 use Rattle.minimax.proofs.search.hint.Statement.{statement}
 use Rattle.minimax.proofs.search.hint.Tie as tie
@@ -9,10 +9,10 @@ is-none-requires : tie.Need-is-none-requires
 is-none-requires c κs = search needs
 
 returns : tie.Need-returns
-returns c = hint-line (c .before .before .args .answer) (c .before .before .args .line) (sym (c .before .is-none .ensures) ∙ c .if1 .taken)
+returns c = hint-line (c .before .before .args .answer) (c .before .before .args .pv) (sym (c .before .is-none .ensures) ∙ c .if1 .taken)
 
 returns-2 : tie.Need-returns-2
-returns-2 c = hint-answer (c .before .before .args .answer) (c .before .before .args .line) (sym (c .before .is-none .ensures) ∙ c .if1 .left)
+returns-2 c = hint-answer (c .before .before .args .answer) (c .before .before .args .pv) (sym (c .before .is-none .ensures) ∙ c .if1 .left)
 
 pub hint-spec : {M : Type 1} → statement M
 hint-spec = tie.close (tie.spec is-none-requires returns returns-2)

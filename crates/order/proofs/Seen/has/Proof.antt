@@ -3,7 +3,7 @@ use mathlib.Core.Path.{ap, _∙_}
 use Prim.Native.Nat.{ℕ, _/_, _%_, _^_}
 use lib.Bits.{bitAnd}
 use lib.Dec.{eqb}
-use Rattle.order.proofs.Marks.{mark-read}
+use Rattle.order.proofs.OrderMarks.{mark-read}
 use borrow.Author.Needs.{needs}
 use Rattle.order.proofs.Seen.has.Statement.{statement}
 use Rattle.order.proofs.Seen.has.Tie as tie

@@ -1,5 +1,5 @@
 -- No bit of 0 is set.
-use Rattle.order.proofs.Marks.{none-marked}
+use Rattle.order.proofs.OrderMarks.{none-marked}
 use Rattle.order.proofs.Seen.new.Statement.{statement}
 use Rattle.order.proofs.Seen.new.Tie as tie
 

@@ -6,7 +6,7 @@ use lib.Bits.{bitOr}
 use lib.ListN.{length, length-map, set}
 use Rattle.order.specs.declared.Seen.{Seen}
 use Rattle.order.specs.Order.{marked}
-use Rattle.order.proofs.Marks.{one-more}
+use Rattle.order.proofs.OrderMarks.{one-more}
 use borrow.Author.Needs.{needs}
 use Rattle.order.proofs.Seen.with.Statement.{statement}
 use Rattle.order.proofs.Seen.with.Tie as tie

@@ -2,7 +2,7 @@
 use mathlib.Core.Path.{_≡_}
 use native.Mathlib.Omega.{arith}
 use borrow.Author.Needs.{needs}
-use Rattle.keys.proofs.Past.{rest-is-past}
+use Rattle.keys.proofs.KeysPast.{rest-is-past}
 use Rattle.order.proofs.Seen.word.Statement.{statement}
 use Rattle.order.proofs.Seen.word.Tie as tie
 

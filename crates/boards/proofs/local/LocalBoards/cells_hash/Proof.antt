@@ -9,7 +9,7 @@ use Rattle.rules.specs.Board.{nine}
 use Rattle.rules.specs.Hash.{cell-key, xors, cells-hash}
 use Rattle.keys.specs.Keys.{cell-key-in}
 use Rattle.boards.specs.Packed.{cell-at}
-use Rattle.boards.proofs.Hashes.{one-more, key-of-cell}
+use Rattle.boards.proofs.RowsHash.{one-more, key-of-cell}
 use Rattle.boards.proofs.local.LocalBoards.cells_hash.Statement.{statement}
 use Rattle.boards.proofs.local.LocalBoards.cells_hash.Tie as tie
 

@@ -1,5 +1,5 @@
 -- Nine digits, all that the taken cells do not have.
-use Rattle.base.proofs.Numbers.{digits-le, digits-left}
+use Rattle.base.proofs.Bits.{digits-le, digits-left}
 use borrow.Author.Needs.{needs}
 use Rattle.boards.proofs.local.LocalBoards.free_squares.Statement.{statement}
 use Rattle.boards.proofs.local.LocalBoards.free_squares.Tie as tie

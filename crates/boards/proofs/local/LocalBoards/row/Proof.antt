@@ -3,7 +3,7 @@ use mathlib.Core.Path.{sym}
 use native.Mathlib.Omega.{arith}
 use lib.ListN.{List·getD-eq-default, length-map}
 use borrow.Author.Needs.{needs}
-use Rattle.keys.proofs.Past.{rest-is-past}
+use Rattle.keys.proofs.KeysPast.{rest-is-past}
 use Rattle.boards.specs.Packed.{no-row}
 use Rattle.boards.proofs.local.LocalBoards.row.Statement.{statement}
 use Rattle.boards.proofs.local.LocalBoards.row.Tie as tie

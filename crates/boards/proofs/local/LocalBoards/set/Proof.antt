@@ -1,7 +1,7 @@
 -- Over range nothing changes; else one bit more in the row of the board.
 use native.Mathlib.Omega.{arith}
-use Rattle.keys.proofs.Past.{rest-is-past}
-use Rattle.boards.proofs.Cells.{with-past-board, with-past-cell, with-row}
+use Rattle.keys.proofs.KeysPast.{rest-is-past}
+use Rattle.boards.proofs.With.{with-past-board, with-past-cell, with-row}
 use borrow.Author.Needs.{needs}
 use Rattle.boards.proofs.local.LocalBoards.set.Statement.{statement}
 use Rattle.boards.proofs.local.LocalBoards.set.Tie as tie

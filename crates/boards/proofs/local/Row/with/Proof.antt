@@ -1,5 +1,5 @@
 -- One bit more in the number of the side.
-use Rattle.base.proofs.Numbers.{shl-one}
+use Rattle.base.proofs.Bits.{shl-one}
 use native.Mathlib.Omega.{arith}
 use borrow.Author.Needs.{needs}
 use Rattle.boards.proofs.local.Row.with.Statement.{statement}

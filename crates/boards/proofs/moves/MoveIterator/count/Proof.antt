@@ -2,7 +2,7 @@
 use native.Mathlib.Omega.{arith}
 use lib.Bits.{bitAnd, mask-lt}
 use lib.Count.{ones-le}
-use Rattle.boards.proofs.Cursors.{left-length}
+use Rattle.boards.proofs.Cursor.{left-length}
 use Rattle.boards.proofs.moves.MoveIterator.count.Statement.{statement}
 use Rattle.boards.proofs.moves.MoveIterator.count.Tie as tie
 

@@ -1,6 +1,6 @@
 -- The lowest bit of the first row that has one is the next move, and it goes.
 use lib.Dec.{lit<}
-use Rattle.boards.proofs.Cursors.{lowest-place, next-top, next-middle, next-bottom, next-none}
+use Rattle.boards.proofs.Cursor.{lowest-place, next-top, next-middle, next-bottom, next-none}
 use borrow.Author.Needs.{needs}
 use Rattle.boards.proofs.moves.MoveIterator.next.Statement.{statement}
 use Rattle.boards.proofs.moves.MoveIterator.next.Tie as tie

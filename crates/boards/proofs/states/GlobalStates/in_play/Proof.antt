@@ -4,7 +4,7 @@ use mathlib.Core.Bool.{not, Bool·not-not}
 use Prim.Native.Nat.{ℕ}
 use native.Mathlib.Omega.{arith}
 use Rattle.base.specs.Bits.{bit}
-use Rattle.base.proofs.Numbers.{digit-clear, bit-digits}
+use Rattle.base.proofs.Bits.{digit-clear, bit-digits}
 use Rattle.boards.proofs.Packed.{state-past}
 use borrow.Author.Needs.{needs}
 use Rattle.boards.proofs.states.GlobalStates.in_play.Statement.{statement}

@@ -1,5 +1,5 @@
 -- Nine digits, all that the closed boards do not have.
-use Rattle.base.proofs.Numbers.{digits-le, digits-left}
+use Rattle.base.proofs.Bits.{digits-le, digits-left}
 use borrow.Author.Needs.{needs}
 use Rattle.boards.proofs.states.GlobalStates.openbits.Statement.{statement}
 use Rattle.boards.proofs.states.GlobalStates.openbits.Tie as tie

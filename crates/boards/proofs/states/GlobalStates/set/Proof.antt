@@ -2,8 +2,8 @@
 use mathlib.Core.Path.{refl, ap, _∙_}
 use Rattle.rules.specs.declared.GameState.the-variants.{Won}
 use native.Mathlib.Omega.{arith}
-use Rattle.base.proofs.Numbers.{shl-one}
-use Rattle.boards.proofs.Cells.{with-state-past, with-state-as}
+use Rattle.base.proofs.Bits.{shl-one}
+use Rattle.boards.proofs.With.{with-state-past, with-state-as}
 use borrow.Author.Needs.{needs}
 use Rattle.boards.proofs.states.GlobalStates.set.Statement.{statement}
 use Rattle.boards.proofs.states.GlobalStates.set.Tie as tie

@@ -1,7 +1,7 @@
 -- The ways of a byte.
 use denote.Ref.{now}
 use borrow.Author.Tests.{not-true, not-false}
-use Rattle.decimals.proofs.Blanks.{goes-on, nothing, room, no-room}
+use Rattle.decimals.proofs.Lists.{goes-on, nothing, room, no-room}
 use borrow.Author.Needs.{needs}
 use Rattle.decimals.proofs.list.Scan.push.Statement.{statement}
 use Rattle.decimals.proofs.list.Scan.push.Tie as tie

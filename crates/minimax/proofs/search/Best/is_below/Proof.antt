@@ -1,7 +1,7 @@
 -- The negative of a score within the window is exact.
 use mathlib.Core.Path.{ap₂}
 use lib.Signed.{ltZ}
-use Rattle.minimax.proofs.Scores.{told, minus-fits, minus-reads}
+use Rattle.minimax.proofs.StateScores.{told, minus-fits, minus-reads}
 use Rattle.minimax.proofs.search.Best.is_below.Statement.{statement}
 use Rattle.minimax.proofs.search.Best.is_below.Tie as tie
 

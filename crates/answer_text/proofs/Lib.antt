@@ -1,0 +1,4 @@
+pub mod AnswerBytes
+pub mod AnswerBytesMoves
+pub mod AnswerBytesDecimal
+pub mod AnswerBytesSigned

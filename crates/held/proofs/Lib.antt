@@ -1,3 +1,0 @@
-pub mod Depths
-pub mod HeldLine
-pub mod TakenLine

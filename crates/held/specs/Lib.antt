@@ -1,2 +1,0 @@
-pub mod HeldLine
-pub mod TakenLine

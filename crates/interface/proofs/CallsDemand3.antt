@@ -1,0 +1,71 @@
+-- From the empty board with the table off, a report has the words of what demand 3's function answers.
+use mathlib.Core.Path.{_≡_, sym, ap, _∙_}
+use mathlib.Core.Bool.{Bool}
+use mathlib.Core.List.{List, []}
+use Prim.Native.Nat.{ℕ}
+use lib.ListN.{take, drop}
+use Rattle.interface.proofs.CallsAfterPlay.{reached-is, reported-is}
+use Rattle.rules.specs.declared.DrawWinner.{DrawWinner}
+use Rattle.rules.specs.Position.{Position, start}
+use Rattle.rules.specs.Play.{reached}
+use Rattle.rules.specs.Status.{as-byte}
+use Rattle.rules.specs.Endgame.{analysis}
+use Rattle.rules.specs.Evaluation.{scoring-with}
+use Rattle.theory.specs.Memory.{Responses}
+use Rattle.theory.specs.Reported.{Reported, reported}
+use Rattle.rules_game.specs.RulesGame.{game}
+use Rattle.status.specs.declared.Status.{Status}
+use Rattle.game.specs.Meaning.{position-of}
+use Rattle.game.specs.Built.{new-game}
+use Rattle.game.specs.After.{games-after}
+use Rattle.endgame.specs.Means.{analysis-number}
+use Rattle.minimax.specs.declared.Minimax.{Minimax}
+use Rattle.minimax.specs.declared.Config.{Config}
+use Rattle.minimax.specs.State.{responses-of}
+use Rattle.minimax.specs.Report.{scoring-of, settings-of, report-of}
+use Rattle.demands.specs.declared.AfterMoves.{AfterMoves}
+use Rattle.demands.specs.Demand3.{Demand3}
+use Rattle.interface.specs.Lent.{left}
+use Rattle.interface.specs.Position.{game-from}
+use Rattle.interface.specs.Calls.{draws-from, scoring-from, responses-from, report-words, analyze-ok, found, Analyzes}
+
+module _ (p ms : List ℕ) (m : Minimax) (c : Config) (draws : ℕ) (answers report : List ℕ)
+    (new : game-from p ≡ new-game) (w-is : c .«draw_winner» ≡ draws-from draws)
+    (rs-is : responses-of (m .responses) ≡ responses-from answers)
+    (r : AfterMoves) (r-is : Demand3 ms m c r) where
+  abbrev here : Position
+  here = position-of (games-after (game-from p) ms)
+
+  abbrev rs : Responses
+  rs = responses-from answers
+
+  abbrev ok : Bool
+  ok = analyze-ok p ms (c .«max_depth») (c .allowance) draws answers [] report
+
+  here-is : here ≡ reached start ms
+  unfolding games-after
+  here-is = reached-is p [] ms (c .«max_depth») (c .allowance) draws answers report new
+
+  found-is : found p ms (c .«max_depth») (c .allowance) draws answers [] report ≡ report-of (r .report) []
+  unfolding games-after
+  found-is =
+      reported-is p [] ms (c .«max_depth») (c .allowance) draws answers report new
+      ∙ ap (λ (k : DrawWinner). reported (game (scoring-with k)) (settings-of c) (reached start ms) rs []) (sym w-is)
+      ∙ ap (λ (k : Responses). reported (game (scoring-of c)) (settings-of c) (reached start ms) k []) (sym rs-is)
+      ∙ sym (r-is .report-is)
+
+  number-is : analysis here .refusal ≡ analysis-number (r .analysis .answer)
+  number-is = ap (λ (q : Position). analysis q .refusal) here-is ∙ sym (r-is .refusal-is)
+
+  byte-is : as-byte (analysis here .status) ≡ r .analysis .proven .bits
+  byte-is = ap (λ (q : Position). as-byte (analysis q .status)) here-is ∙ sym (ap (λ (s : Status). s .bits) (r-is .status-is))
+
+  -- word by word
+  pub analyzed-after : (answers-after words-after report-after : List ℕ) (n : ℕ)
+      → Analyzes p ms (c .«max_depth») (c .allowance) draws answers [] report answers-after words-after report-after n
+      → report-after ≡ left ok (report-words (report-of (r .report) []) (analysis-number (r .analysis .answer)) (r .analysis .proven .bits)) report
+  analyzed-after answers-after words-after report-after n a =
+      a .report-is
+      ∙ ap (λ (x : Reported). left ok (report-words x (analysis here .refusal) (as-byte (analysis here .status))) report) found-is
+      ∙ ap (λ (k : ℕ). left ok (report-words (report-of (r .report) []) k (as-byte (analysis here .status))) report) number-is
+      ∙ ap (λ (k : ℕ). left ok (report-words (report-of (r .report) []) (analysis-number (r .analysis .answer)) k) report) byte-is

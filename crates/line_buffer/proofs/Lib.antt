@@ -1,0 +1,3 @@
+pub mod BufferDepth
+pub mod Buffer
+pub mod Taking

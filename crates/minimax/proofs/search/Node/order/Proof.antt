@@ -1,0 +1,24 @@
+-- The second move is the hint.
+use Rattle.minimax.proofs.StateOutcomes.{walk-candidates}
+use borrow.Author.Needs.{needs}
+use Rattle.minimax.proofs.search.Node.order.Statement.{statement}
+use Rattle.minimax.proofs.search.Node.order.Tie as tie
+
+response-to-requires : tie.Need-response-to-requires
+response-to-requires c κs = search needs
+
+first-requires : tie.Need-first-requires
+first-requires c κs = search needs
+
+hint-requires : tie.Need-hint-requires
+hint-requires c κs = search needs
+
+new-requires : tie.Need-new-requires
+new-requires c κs = search needs
+
+returns : tie.Need-returns
+returns c = λ words. walk-candidates (c .before .before .before .before .before .before .args .self) (c .before .before .before .before .before .before .args .state) words (c .before .before .before .before .before .before .args .pv) _ _ _ (c .before .before .before .before .before .before .args .first) _ (c .new .ensures) (c .before .hint .ensures) (c .before .before .before .response-to .ensures words) (c .before .before .first .ensures _ (c .before .before .before .before .before .before .pre .0))
+
+pub order-spec : {M : Type 1} → statement M
+order-spec =
+    tie.close (tie.spec response-to-requires first-requires hint-requires new-requires returns)

@@ -1,0 +1,44 @@
+-- Nothing is stored after a stop; else the entry has the score, its bound and the variation's first move.
+use mathlib.Core.Path.{refl}
+use Rattle.minimax.proofs.StateOutcomes.{told-nothing, told-found}
+use Rattle.base.proofs.Signed.{reads}
+use Rattle.minimax.proofs.StateScores.{told}
+use borrow.Author.Needs.{needs}
+use Rattle.minimax.proofs.search.Node.store.Statement.{statement}
+use Rattle.minimax.proofs.search.Node.store.Tie as tie
+
+returns : tie.Need-returns
+returns c = told-nothing (c .before .before .args .self) (c .before .before .args .found) _ (c .if1 .taken)
+
+bound-of-requires : tie.Need-bound-of-requires
+bound-of-requires c κs = search needs
+
+first-requires : tie.Need-first-requires
+first-requires c κs = search needs
+
+zobrist-requires : tie.Need-zobrist-requires
+zobrist-requires c κs = search needs
+
+store-requires : tie.Need-store-requires
+store-requires c κs = search needs
+
+same-length : tie.Need-same-length
+same-length c = search needs
+
+returns-2 : tie.Need-returns-2
+returns-2 c =
+    let s = c .before .before .before .before .before .before .before .before .before .before .before .before in
+    told-found (s .args .self) (s .args .found) _ _ _ (record { value = reads (s .args .found .score); depth = s .args .self .depth; bound = c .before .before .before .before .before .before .before .bound-of .result; pv = c .before .before .before .before .before .before .first .result }) (c .before .before .before .before .before .before .before .before .before .before .if1 .left) (c .before .before .before .zobrist .ensures) (c .before .before .store .ensures)
+    (told (s .args .found .score) (c .before .before .before .before .before .struct-told .given .1 .1 .0 .1)) refl (c .before .before .before .before .before .before .before .bound-of .ensures) (c .before .before .before .before .before .before .first .ensures _ (s .pre .0))
+
+pub store-spec : {M : Type 1} → statement M
+store-spec =
+    tie.close
+    (tie.spec
+    returns
+    bound-of-requires
+    first-requires
+    zobrist-requires
+    store-requires
+    same-length
+    returns-2)

@@ -1,0 +1,169 @@
+-- One step of a move order, and what a move order has left by all its steps.
+use mathlib.Core.Path.{_≡_, refl, sym, ap, _∙_, subst}
+use mathlib.Core.Bool.{Bool, true, false, not, _||_}
+use mathlib.Core.List.{List, [], _∷_, _++_}
+use Prim.Native.Nat.{ℕ, _<_}
+use native.Mathlib.Omega.{arith}
+use lib.Dec.{T, eqb, T-not}
+use lib.ListN.{length}
+use Rattle.base.specs.Checks.{all-pass}
+use lib.Ieee.Bits.{is-true}
+use Rattle.base.specs.Branch.{if_then_else_}
+use Rattle.base.specs.Lists.{all, elem}
+use Rattle.base.proofs.ListsAgree.{false-by}
+use Rattle.base.proofs.Branch.{if-ind, if-both}
+use Rattle.rules.specs.Position.{Position}
+use Rattle.rules.specs.Play.{accepts, no-move}
+use Rattle.rules.specs.Moves.{moves}
+use Rattle.theory.specs.Memory.{some-move}
+use Rattle.theory.specs.OrderedSearch.{fresh}
+use Rattle.boards.specs.declared.moves.Move.{Move}
+use Rattle.boards.specs.declared.moves.MoveIterator.{MoveIterator}
+use Rattle.boards.specs.declared.moves.MoveError.{MoveError}
+use Rattle.boards.specs.declared.moves.MoveError.the-variants.{WrongBoard, WonBoard, OutOfBounds, NotEmpty, GameOver}
+use Rattle.boards.specs.declared.moves.Answer.the-variants.{Accepted, Refused}
+use Rattle.boards.specs.Answers.{answer-number, move-error-number}
+use Rattle.boards.specs.Cursor.{cursor-over}
+use Rattle.game.specs.declared.Game.{Game}
+use Rattle.game.specs.declared.MoveResult.{MoveResult}
+use Rattle.game.specs.Meaning.{position-of}
+use Rattle.game.specs.After.{Plays, game-after}
+use Rattle.game.proofs.AfterRefusals.{nought-accepts, refused-not-accepts}
+use Rattle.game.proofs.MeaningMoves.{all-moves-listed}
+use Rattle.game.proofs.Meaning.{game-refused}
+use Rattle.order.specs.declared.Seen.{Seen}
+use Rattle.order.specs.declared.Candidates.{Candidates}
+use Rattle.order.specs.declared.MoveOrder.{MoveOrder}
+use Rattle.order.specs.declared.NextMove.{NextMove}
+use Rattle.order.specs.Order.{marked, candidates-left, Step, with-mark, step, step-of, NextOf, unmarked, order-left}
+
+-- ---- a new walk
+pub new-order : (g : Game) (first second : Move) (list : MoveIterator) → list ≡ cursor-over (moves (position-of g))
+    → candidates-left (record { first = first; second = second; list = list }) ≡ some-move (first .bits) ++ (some-move (second .bits) ++ moves (position-of g))
+unfolding candidates-left
+new-order g first second list e = rw (e, all-moves-listed g)
+
+-- ---- one move met
+module _ (ok : ℕ → Bool) (seen : ℕ → Bool) (m : ℕ) (ms : List ℕ) where
+  step-repeat : seen m ≡ true → step ok seen (m ∷ ms) ≡ step ok seen ms
+  unfolding step if_then_else_
+  step-repeat e = rw e
+
+  step-refused : seen m ≡ false → ok m ≡ false → step ok seen (m ∷ ms) ≡ step ok (with-mark seen m) ms
+  unfolding step if_then_else_
+  step-refused e a = rw (e, a)
+
+  step-accepted : seen m ≡ false → ok m ≡ true → step ok seen (m ∷ ms) ≡ record { found = m; marks = with-mark seen m; left = ms }
+  unfolding step if_then_else_
+  step-accepted e a = rw (e, a)
+
+abbrev ok : Game → ℕ → Bool
+ok g = accepts (position-of g)
+
+pub shorter : (ms : List ℕ) (m : ℕ) (rest : List ℕ) → ms ≡ m ∷ rest → length rest < length ms
+shorter ms m rest e = rw e (omega arith)
+
+numbered : (r : MoveError) → move-error-number r ≡ 0 → ⊥
+numbered WrongBoard e = omega arith
+numbered WonBoard e = omega arith
+numbered OutOfBounds e = omega arith
+numbered NotEmpty e = omega arith
+numbered GameOver e = omega arith
+
+-- no game accepts the empty move
+pub none-refused : (p : Position) → T (not (accepts p no-move))
+unfolding accepts all-pass all
+none-refused p = tt
+
+abbrev pub step-from : Game → Candidates → Seen → Step
+step-from g left seen = step-of g (record { left = left; seen = seen })
+
+-- what comes back, by what the step is
+next-by : (g : Game) (w : MoveOrder) (r : NextMove) (s : Step) → step-of g w ≡ s → r .m .bits ≡ s .found → r .game ≡ game-after g (s .found)
+    → ((k : ℕ) → marked (r .order .seen) k ≡ s .marks k) → candidates-left (r .order .left) ≡ s .left → NextOf g w r
+next-by g w r s e m a k l = record {
+  move-is = m ∙ sym (ap (λ (x : Step). x .found) e);
+  game-is = a ∙ sym (ap (λ (x : Step). game-after g (x .found)) e);
+  marks-are = λ n. k n ∙ sym (ap (λ (x : Step). x .marks n) e);
+  left-are = l ∙ sym (ap (λ (x : Step). x .left) e);
+}
+
+module _ (g : Game) (left : Candidates) (seen : Seen) (m : Move) (rest : Candidates) (e : candidates-left left ≡ m .bits ∷ candidates-left rest) where
+  pub repeated : (b : Bool) → b ≡ marked seen (m .bits) → b ≡ true → step-from g rest seen ≡ step-from g left seen
+  repeated b f h = sym (ap (step (ok g) (marked seen)) e ∙ step-repeat (ok g) (marked seen) (m .bits) (candidates-left rest) (sym f ∙ h))
+
+  module _ (b : Bool) (f : b ≡ marked seen (m .bits)) (h : b ≡ false) (new : Seen) (more : (k : ℕ) → marked new k ≡ (eqb k (m .bits) || marked seen k))
+      (made : MoveResult) (p : Plays g m made) where
+    pub refused : (r : MoveError) → made .answer ≡ Refused r → step-from g rest new ≡ step-from g left seen
+    refused r q =
+        let a : ok g (m .bits) ≡ false = false-by (ok g (m .bits)) (T-not (ok g (m .bits))
+        (refused-not-accepts (position-of g) (m .bits) (λ z. numbered r (sym (ap answer-number q) ∙ p .number ∙ z)))) in
+        (λ i. step (ok g) (λ k. more k i) (candidates-left rest))
+        ∙ sym (ap (step (ok g) (marked seen)) e ∙ step-refused (ok g) (marked seen) (m .bits) (candidates-left rest) (sym f ∙ h) a)
+
+    pub accepted : made .answer ≡ Accepted → (w : MoveOrder) → step-from g left seen ≡ step-of g w
+        → NextOf g w (record { m = m; game = made .game; order = record { left = rest; seen = new } })
+    accepted q w s =
+        let a : ok g (m .bits) ≡ true = is-true (ok g (m .bits)) (nought-accepts (position-of g) (m .bits) (sym (p .number) ∙ ap answer-number q)) in
+        next-by g w _ _ (sym s ∙ ap (step (ok g) (marked seen)) e ∙ step-accepted (ok g) (marked seen) (m .bits) (candidates-left rest) (sym f ∙ h) a)
+        refl (p .exact) more refl
+
+pub ended : (g : Game) (left : Candidates) (seen : Seen) (w : MoveOrder) → candidates-left left ≡ [] → step-from g left seen ≡ step-of g w → (m : Move) → m .bits ≡ no-move
+    → NextOf g w (record { m = m; game = g; order = record { left = left; seen = seen } })
+unfolding step
+ended g left seen w e s m z =
+    next-by g w _ _ (sym s ∙ ap (step (ok g) (marked seen)) e) z (sym (game-refused g no-move (none-refused (position-of g)))) (λ k. refl) e
+
+-- ---- what a move order has left
+module _ (ok : ℕ → Bool) where
+  unmarked-listed : (seen ms : List ℕ) → unmarked ok (λ k. elem k seen) ms ≡ fresh ok seen ms
+  unfolding unmarked fresh elem
+  unmarked-listed seen [] = refl
+  unmarked-listed seen (m ∷ ms) = λ i.
+      if elem m seen then (λ _. unmarked-listed seen ms i) else
+      λ _. if ok m then (λ _. m ∷ unmarked-listed (m ∷ seen) ms i) else λ _. unmarked-listed (m ∷ seen) ms i
+
+  pub left-accepted : (seen : ℕ → Bool) (ms : List ℕ) (m : ℕ) (rest : List ℕ) → unmarked ok seen ms ≡ m ∷ rest → T (ok m)
+  unfolding unmarked
+  left-accepted seen [] m rest = λ e. absurd (let z : _≡_ {A = ℕ} 0 1 = cc in omega arith)
+  left-accepted seen (x ∷ ms) m rest = if-ind (λ l. l ≡ m ∷ rest → T (ok m)) (seen x) _ _ (λ _ e. left-accepted _ ms m rest e)
+      (λ _. if-ind (λ l. l ≡ m ∷ rest → T (ok m)) (ok x) _ _ (λ t e. let q : x ≡ m = cc in subst (λ (z : ℕ). T (ok z)) q t) (λ _ e. left-accepted _ ms m rest e))
+
+  -- a step gives the first of those left, and leaves the others
+  abbrev FirstOf : List ℕ → Step → Type 0
+  FirstOf [] s = (s .found ≡ no-move) × (s .left ≡ [])
+  FirstOf (m ∷ ms) s = (s .found ≡ m) × (unmarked ok (s .marks) (s .left) ≡ ms)
+
+  step-first : (seen : ℕ → Bool) (ms : List ℕ) → FirstOf (unmarked ok seen ms) (step ok seen ms)
+  unfolding unmarked step
+  step-first seen [] = (refl, refl)
+  step-first seen (m ∷ ms) = if-both FirstOf (seen m) _ _ _ _ (λ _. step-first seen ms)
+      (λ _. if-both FirstOf (ok m) _ _ _ _ (λ _. (refl, refl)) (λ _. step-first (with-mark seen m) ms))
+
+-- with no mark, the order's moves with no repeat
+pub walk-new : (g : Game) (w : MoveOrder) (ms : List ℕ) → (candidates-left (w .left) ≡ ms) × ((k : ℕ) → marked (w .seen) k ≡ false)
+    → order-left g w ≡ fresh (accepts (position-of g)) [] ms
+unfolding elem
+walk-new g w ms e = (λ i. unmarked (ok g) (λ k. e .1 k i) (e .0 i)) ∙ unmarked-listed (ok g) [] ms
+
+-- the next of those left and the game after it, with the rest; where there is none the empty move and the game itself, with nothing left
+abbrev pub NextIs : Game → List ℕ → NextMove → Type 0
+NextIs g [] r = (r .m .bits ≡ no-move) × (r .game ≡ g) × (order-left g (r .order) ≡ [])
+NextIs g (m ∷ ms) r = (r .m .bits ≡ m) × (r .game ≡ game-after g m) × (order-left g (r .order) ≡ ms)
+
+module _ (g : Game) (w : MoveOrder) (r : NextMove) (n : NextOf g w r) where
+  by-first : (ms : List ℕ) → FirstOf (ok g) ms (step-of g w) → NextIs g ms r
+  unfolding unmarked
+  by-first [] f = (
+    n .move-is ∙ f .0,
+    n .game-is ∙ ap (game-after g) (f .0) ∙ game-refused g no-move (none-refused (position-of g)),
+    ap (unmarked (ok g) (marked (r .order .seen))) (n .left-are ∙ f .1),
+  )
+  by-first (m ∷ ms) f = (
+    n .move-is ∙ f .0,
+    n .game-is ∙ ap (game-after g) (f .0),
+    (λ i. unmarked (ok g) (λ k. n .marks-are k i) (n .left-are i)) ∙ f .1,
+  )
+
+  pub next-left : NextIs g (order-left g w) r
+  next-left = by-first (order-left g w) (step-first (ok g) (marked (w .seen)) (candidates-left (w .left)))

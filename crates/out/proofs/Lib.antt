@@ -1,4 +1,0 @@
-pub mod OutBytes
-pub mod Joined
-pub mod Decimals
-pub mod Signs

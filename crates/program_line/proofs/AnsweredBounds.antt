@@ -1,0 +1,110 @@
+-- What the program's search reports, depth after depth: no score leaves the root's window, and no count the allowance.
+use mathlib.Core.Path.{_≡_, sym}
+use mathlib.Core.Bool.{Bool}
+use mathlib.Core.List.{List, [], _∷_, _++_}
+use Prim.Native.Nat.{ℕ, zero, suc, _+_, _^_, _≤_}
+use native.Mathlib.Omega.{arith}
+use lib.Dec.{eqb→eq}
+use lib.IntN.{ℤ, natAbs}
+use lib.ListN.{length, length-append, length-replicate}
+use lib.Signed.{_≤ℤ_}
+use Rattle.base.specs.Lists.{filter, concat-map}
+use Rattle.base.specs.Checks.{first-failed}
+use Rattle.base.proofs.Branch.{if-ind}
+use Rattle.base.proofs.Integers.{hi, lo, zarith, hi-le, lo-le, within-abs}
+use Rattle.rules.specs.Position.{Position}
+use Rattle.rules.specs.Play.{no-move, accepts}
+use Rattle.rules.specs.Moves.{places, moves}
+use Rattle.rules.specs.Evaluation.{no-draw-winner}
+use Rattle.theory.specs.Limits.{console}
+use Rattle.theory.specs.Game.{Game}
+use Rattle.theory.specs.PlainMinimax.{lowest, highest}
+use Rattle.theory.specs.Memory.{Responses, no-responses, Memory, begin, fresh-memory}
+use Rattle.theory.specs.OrderedSearch.{at-most, Outcome, stopped, found}
+use Rattle.theory.specs.Deepening.{Completed, nothing-yet, one-deeper, SearchAnswer, decided, on-outcome, deepen, analyze}
+use Rattle.theory.specs.Reported.{Settings, entry-refusal, Reported, report, refused-entry, reported}
+use Rattle.theory.proofs.OrderedSearch.{Gives}
+use Rattle.theory.proofs.OrderedSearchRange.{search-range}
+use Rattle.theory.proofs.OrderedSearchGrowth.{Ends, search-allowed}
+use Rattle.theory.proofs.OrderedSearchPlaces.{analyze-places}
+use Rattle.rules_game.specs.RulesGame.{game}
+use Rattle.minimax.proofs.ReportRefusals.{limits}
+use Rattle.minimax.proofs.StateMoves.{value-within}
+use Rattle.program_line.specs.Answered.{settings, program-search}
+
+-- ---- there are 81 moves at most
+keep-short : (f : ℕ → Bool) (xs : List ℕ) → length (filter f xs) ≤ length xs
+unfolding filter
+keep-short f [] = omega arith
+keep-short f (x ∷ xs) = if-ind (λ (l : List ℕ). length l ≤ suc (length xs)) (f x) _ _ (λ _. omega (arith, keep-short f xs)) (λ _. omega (arith, keep-short f xs))
+
+pub moves-short : (p : Position) → length (moves p) ≤ 81
+unfolding moves places concat-map
+moves-short p = keep-short (accepts p) places
+
+-- ---- the whole depths and the count
+pub record Bounded (limit n : ℕ) (x : SearchAnswer) : Type 0 where
+  pub deep : x .completed .depth ≤ limit
+  pub low : lowest ≤ℤ x .completed .score
+  pub high : x .completed .score ≤ℤ highest
+  pub counted : x .memory .count ≤ n
+
+on-outcome-both : (P : ℤ → Type 0) (M : Memory → Type 0) (Q : SearchAnswer → Type 0) (o : Outcome) (f : Memory → SearchAnswer) (g : ℤ → List ℕ → Memory → SearchAnswer) →
+    Gives (λ r _ _. P r) o → Ends M o → ((s : Memory) → M s → Q (f s)) → ((r : ℤ) (line : List ℕ) (s : Memory) → P r → M s → Q (g r line s)) → Q (on-outcome o f g)
+unfolding on-outcome Gives Ends
+on-outcome-both P M Q (stopped s) f g h k i j = i s k
+on-outcome-both P M Q (found r line s) f g h k i j = j r line s h k
+
+module _ (G : Game) (values : (p : G .Pos) → (lowest ≤ℤ G .value p) × (G .value p ≤ℤ highest)) (n : ℕ) (p : G .Pos) where
+  deepen-bounded : (limit k : ℕ) (w : Completed) (s : Memory) → k + w .depth ≤ limit → lowest ≤ℤ w .score → w .score ≤ℤ highest → s .count ≤ n → Bounded limit n (deepen G (at-most n) k p w s)
+  unfolding deepen begin hi lo
+  deepen-bounded limit zero w s d a b c = record { deep = omega arith; low = a; high = b; counted = c }
+  deepen-bounded limit (suc k) w s d a b c = on-outcome-both (λ r. (lowest ≤ℤ r) × (r ≤ℤ highest)) (λ z. z .count ≤ n) (Bounded limit n) _ _ _
+      (search-range G values (at-most n) (suc (w .depth)) p lowest highest (w .pv ++ (no-move ∷ [])) no-move (begin s) (omega zarith) (omega zarith) (omega zarith) (omega zarith))
+      (search-allowed G n (suc (w .depth)) p lowest highest (w .pv ++ (no-move ∷ [])) no-move (begin s) c)
+      (λ _ e. record { deep = omega arith; low = a; high = b; counted = e })
+      (λ r line s' h e. if-ind (Bounded limit n) (decided r) _ _
+      (λ _. record { deep = omega arith; low = h .0; high = h .1; counted = e })
+      (λ _. deepen-bounded limit k (one-deeper w r line (s' .tally)) s' (omega arith) (h .0) (h .1) e))
+
+  analyze-bounded : (limit : ℕ) (s : Memory) → s .count ≤ n → Bounded limit n (analyze G (at-most n) limit p s)
+  unfolding analyze hi lo
+  analyze-bounded limit s c = deepen-bounded limit limit nothing-yet s (omega arith) (omega zarith) (omega zarith) c
+
+-- ---- what is reported
+pub record Small (r : Reported) : Type 0 where
+  pub number-small : r .number ≤ 18
+  pub depth-small : r .depth ≤ console .deepest
+  pub score-small : natAbs (r .score) ≤ 2 ^ 60 + 1
+  pub count-small : r .count ≤ 1000000
+  pub line-long : length (r .pv) ≡ console .deepest
+
+module _ (c : Settings) (words : ℕ) where
+  entry-small : entry-refusal c words ≤ 18
+  unfolding entry-refusal first-failed
+  entry-small = if-ind (λ (n : ℕ). n ≤ 18) _ _ _
+      (λ _. if-ind (λ (n : ℕ). n ≤ 18) _ _ _
+      (λ _. if-ind (λ (n : ℕ). n ≤ 18) _ _ _ (λ _. omega arith) (λ _. omega arith)) (λ _. omega arith)) (λ _. omega arith)
+
+report-small : (G : Game) (p : G .Pos) (x : SearchAnswer) → Bounded (console .deepest) 1000000 x → length (x .completed .pv) ≡ x .completed .depth
+    → Small (report G p x)
+report-small G p x b e = record {
+  number-small = if-ind (λ (n : ℕ). n ≤ 18) _ _ _ (λ _. omega arith) (λ _. omega arith);
+  depth-small = b .deep;
+  score-small = within-abs (2 ^ 60 + 1) (x .completed .score) (hi-le (x .completed .score) _ (b .high), lo-le (x .completed .score) _ (b .low));
+  count-small = b .counted;
+  line-long = simp (length-append, length-replicate) (omega (arith, b .deep));
+}
+
+refused-small : (n : ℕ) (rs : Responses) (words : List ℕ) → n ≤ 18 → Small (refused-entry n rs words)
+refused-small n rs words h = record { number-small = h; depth-small = omega arith; score-small = omega arith; count-small = omega arith; line-long = length-replicate (console .deepest) no-move }
+
+pub searched-small : (depth : ℕ) (p : Position) → Small (program-search depth p)
+unfolding reported
+searched-small depth p =
+    if-ind Small _ _ _
+    (λ t. let l = limits (settings depth) 0 (sym (eqb→eq _ 0 t)) in
+    let s = fresh-memory no-responses [] in
+    let a = analyze-bounded (game no-draw-winner) (value-within no-draw-winner) 1000000 p (settings depth .max-depth) s (omega arith) in
+    report-small (game no-draw-winner) p (analyze (game no-draw-winner) (at-most 1000000) (settings depth .max-depth) p s) (record { deep = omega arith; low = a .low; high = a .high; counted = a .counted }) (analyze-places (game no-draw-winner) (at-most 1000000) (settings depth .max-depth) p s))
+    (λ _. refused-small _ no-responses [] (entry-small (settings depth) 0))

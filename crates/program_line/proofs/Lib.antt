@@ -1,0 +1,2 @@
+pub mod AnsweredBounds
+pub mod Answered

@@ -1,3 +1,0 @@
-pub mod Reference
-pub mod Answers
-pub mod Truth

@@ -1,0 +1,3 @@
+pub mod RulesGame
+pub mod Answers
+pub mod Truth
