@@ -43,7 +43,8 @@ digits-in-places (suc (suc k)) (suc f) n h l =
     let q = pow-suc 10 k in
     let a = above k in
     let low : 10 ^ suc k ≤ n = at-least (suc k) n h (omega arith) in
-    ap₂ (λ (ds : List ℕ) (d : ℕ). ds ++ (d ∷ [])) (digits-in-places (suc k) f (n / 10) (omega arith, omega (arith, h .1), λ _. subst (λ (m : ℕ). 10 ^ m ≤ n / 10) (less-one k) (omega arith)) (omega arith))
+    ap₂ (λ (ds : List ℕ) (d : ℕ). ds ++ (d ∷ [])) (digits-in-places (suc k) f (n / 10)
+    (omega arith, omega (arith, h .1), λ _. subst (λ (m : ℕ). 10 ^ m ≤ n / 10) (less-one k) (omega arith)) (omega arith))
     (glyph-of (n % 10) (omega arith))
     ∙ sym (more-places f n (omega arith))
 

@@ -33,14 +33,18 @@ module _ (o : AnswerText) (line : List Move) (d : Move) where
   from-here : (i : ℕ) → i < length line → drop i (move-bytes line) ≡ at i ∷ drop (i + 1) (move-bytes line)
   from-here i h =
       let n : i < length (move-bytes line) = omega (arith, length-map line (λ (m : Move). m .bits)) in
-      rw (add-one i) (drop-cons (move-bytes line) i (d .bits) n ∙ ap (λ (m : ℕ). m ∷ drop (suc i) (move-bytes line)) (List·getD-map (λ (m : Move). m .bits) line i d))
+      rw (add-one i) (drop-cons (move-bytes line) i (d .bits) n ∙ ap (λ (m : ℕ). m ∷ drop (suc i) (move-bytes line))
+      (List·getD-map (λ (m : Move). m .bits) line i d))
 
   -- an empty move is first: `-`
-  pub joined-none : (r : AnswerText) (t : Bool) → 0 < length line → t ≡ eqb (at 0) no-move → t ≡ true → r ≡ added o 45 → r ≡ added-all o (moves-text (move-bytes line))
-  joined-none r t h e f g = g ∙ sym (ap (λ (ms : List ℕ). added-all o (or-minus ms)) (ap move-letters (from-here 0 h) ∙ none-first (at 0) _ (sym e ∙ f)))
+  pub joined-none : (r : AnswerText) (t : Bool) → 0 < length line → t ≡ eqb (at 0) no-move → t ≡ true → r ≡ added o 45 →
+      r ≡ added-all o (moves-text (move-bytes line))
+  joined-none r t h e f g =
+      g ∙ sym (ap (λ (ms : List ℕ). added-all o (or-minus ms)) (ap move-letters (from-here 0 h) ∙ none-first (at 0) _ (sym e ∙ f)))
 
   -- otherwise all is left
-  pub joined-some : (t : Bool) → 0 < length line → t ≡ eqb (at 0) no-move → t ≡ false → added-all o (move-letters (move-bytes line)) ≡ added-all o (moves-text (move-bytes line))
+  pub joined-some : (t : Bool) → 0 < length line → t ≡ eqb (at 0) no-move → t ≡ false →
+      added-all o (move-letters (move-bytes line)) ≡ added-all o (moves-text (move-bytes line))
   joined-some t h e f =
       let l = ap move-letters (from-here 0 h) ∙ some-first (at 0) _ (sym e ∙ f) in
       ap (added-all o) (l ∙ sym (ap or-minus l))
@@ -48,13 +52,16 @@ module _ (o : AnswerText) (line : List Move) (d : Move) where
   -- ---- a move of the line
   pub left-end : (i : ℕ) → i ≡ length line → added-all o (move-letters (drop i (move-bytes line))) ≡ o
   unfolding move-letters
-  left-end i h = ap (λ (ms : List ℕ). added-all o (move-letters ms)) (let n : length (move-bytes line) ≤ i = omega (arith, length-map line (λ (m : Move). m .bits)) in drop-of-length-le (move-bytes line) n)
+  left-end i h =
+      ap (λ (ms : List ℕ). added-all o (move-letters ms)) (let n : length (move-bytes line) ≤ i = omega
+      (arith, length-map line (λ (m : Move). m .bits)) in drop-of-length-le (move-bytes line) n)
 
   module _ (i : ℕ) (h : i < length line) (t : Bool) (e : t ≡ eqb (at i) no-move) where
     pub left-none : t ≡ true → added-all o (move-letters (drop i (move-bytes line))) ≡ o
     left-none f = ap (added-all o) (ap move-letters (from-here i h) ∙ none-first (at i) _ (sym e ∙ f))
 
-    pub left-some : t ≡ false → (r : AnswerText) → r ≡ added-all o (move-text (at i)) → added-all r (move-letters (drop (i + 1) (move-bytes line))) ≡ added-all o (move-letters (drop i (move-bytes line)))
+    pub left-some : t ≡ false → (r : AnswerText) → r ≡ added-all o (move-text (at i)) →
+        added-all r (move-letters (drop (i + 1) (move-bytes line))) ≡ added-all o (move-letters (drop i (move-bytes line)))
     left-some f r g =
         ap (λ (p : AnswerText). added-all p (move-letters (drop (i + 1) (move-bytes line)))) g
         ∙ sym (added-append o (move-text (at i)) (move-letters (drop (i + 1) (move-bytes line))))

@@ -36,10 +36,14 @@ joined : (a b : ℕ) → a / 2 ≡ b / 2 → a % 2 ≡ b % 2 → a ≡ b
 joined a b h l = omega arith
 
 zero-ext : (b : ℕ) → ((k : ℕ) → bit 0 k ≡ bit b k) → 0 ≡ b
-zero-ext = bin-ind (λ (b : ℕ). ((k : ℕ) → bit 0 k ≡ bit b k) → 0 ≡ b) (λ e. refl) (λ b ih e. joined 0 b (ih (halved 0 b e)) (low 0 b (e 0)))
+zero-ext =
+    bin-ind (λ (b : ℕ). ((k : ℕ) → bit 0 k ≡ bit b k) → 0 ≡ b) (λ e. refl)
+    (λ b ih e. joined 0 b (ih (halved 0 b e)) (low 0 b (e 0)))
 
 pub bit-ext : (a b : ℕ) → ((k : ℕ) → bit a k ≡ bit b k) → a ≡ b
-bit-ext = bin-ind (λ (a : ℕ). (b : ℕ) → ((k : ℕ) → bit a k ≡ bit b k) → a ≡ b) zero-ext (λ a ih b e. joined a b (ih (b / 2) (halved a b e)) (low a b (e 0)))
+bit-ext =
+    bin-ind (λ (a : ℕ). (b : ℕ) → ((k : ℕ) → bit a k ≡ bit b k) → a ≡ b) zero-ext
+    (λ a ih b e. joined a b (ih (b / 2) (halved a b e)) (low a b (e 0)))
 
 -- a number below 2 ^ w has no digit from w on
 pub bit-above : (w n k : ℕ) → n < 2 ^ w → w ≤ k → bit n k ≡ false
@@ -106,7 +110,9 @@ digits-le f w n e = omega (arith, digits-lt f w)
 
 -- the low w digits of a number
 ones-bit : (w k : ℕ) → k < w → bit (2 ^ w - 1) k ≡ true
-ones-bit w k h = let e : 2 ^ w - 1 - 0 ≡ 2 ^ w - 1 = omega arith in ap (λ (m : ℕ). bit m k) (sym e) ∙ bit-not w 0 k (pow-pos w) h ∙ ap not (bit-nought k)
+ones-bit w k h =
+    let e : 2 ^ w - 1 - 0 ≡ 2 ^ w - 1 = omega arith in ap (λ (m : ℕ). bit m k) (sym e) ∙ bit-not w 0 k (pow-pos w) h
+    ∙ ap not (bit-nought k)
 
 pub bit-masked : (w n k : ℕ) → k < w → bit (bitAnd n (2 ^ w - 1)) k ≡ bit n k
 bit-masked w n k h = bit-and n (2 ^ w - 1) k ∙ rw (ones-bit w k h) (and-true (bit n k))
@@ -159,7 +165,9 @@ none-set w n h = same-by (eqb n 0) (all (λ k. not (bit n k)) (from 0 w)) there 
     there t = each-all (λ k. not (bit n k)) (from 0 w) (λ k i. rw (eqb→eq n 0 t, bit-nought k) tt)
 
     clear : T (all (λ k. not (bit n k)) (from 0 w)) → (k : ℕ) → k < w → bit n k ≡ bit 0 k
-    clear t k l = false-by (bit n k) (T-not (bit n k) (all-each (λ k. not (bit n k)) k (from 0 w) t (in-from 0 w k (omega arith) (omega arith)))) ∙ sym (bit-nought k)
+    clear t k l =
+        false-by (bit n k) (T-not (bit n k) (all-each (λ k. not (bit n k)) k (from 0 w) t (in-from 0 w k (omega arith) (omega arith))))
+        ∙ sym (bit-nought k)
 
     back : T (all (λ k. not (bit n k)) (from 0 w)) → T (eqb n 0)
     back t = rw (bit-ext-below w n 0 h (pow-pos w) (clear t)) tt

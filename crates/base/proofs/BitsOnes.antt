@@ -23,7 +23,9 @@ set-digits w n = filter (bit n) (from 0 w)
 -- ---- the lowest digit, and those of the half
 module _ (w n : ℕ) where
   halves : filter (bit n) (from 1 w) ≡ map suc (set-digits w (n / 2))
-  halves = ap (filter (bit n)) (from-suc 0 w) ∙ filter-map (bit n) suc (from 0 w) ∙ ap (map suc) (filter-same (λ k. bit n (suc k)) (bit (n / 2)) (from 0 w) (λ k i. bit-suc n k))
+  halves =
+      ap (filter (bit n)) (from-suc 0 w) ∙ filter-map (bit n) suc (from 0 w)
+      ∙ ap (map suc) (filter-same (λ k. bit n (suc k)) (bit (n / 2)) (from 0 w) (λ k i. bit-suc n k))
 
   odd : n % 2 ≡ 1 → set-digits (suc w) n ≡ 0 ∷ map suc (set-digits w (n / 2))
   unfolding filter if_then_else_
@@ -77,7 +79,8 @@ under-odd n t e = rw e
 under-even : (n t : ℕ) → n % 2 ≡ 0 → under (n % 2) t ≡ suc t
 under-even n t e = rw e
 
-pub lowest-first : (w v n : ℕ) → w ≤ v → n < 2 ^ w → (n ≡ 0 → ⊥) → set-digits w n ≡ trailingZeros v n ∷ set-digits w (bitAnd n (n - 1))
+pub lowest-first : (w v n : ℕ) → w ≤ v → n < 2 ^ w → (n ≡ 0 → ⊥) → set-digits w n ≡ trailingZeros v n ∷
+    set-digits w (bitAnd n (n - 1))
 unfolding trailingZeros
 lowest-first zero v n l h z = absurd (z (lt-one h))
 lowest-first (suc w) zero n l h z = absurd (omega arith)
@@ -85,9 +88,11 @@ lowest-first (suc w) (suc v) n l h z =
     let p = pow-suc 2 w in
     let m = bitAnd n (n - 1) in
     parity n (set-digits (suc w) n ≡ under (n % 2) (trailingZeros v (n / 2)) ∷ set-digits (suc w) m)
-    (λ e. odd w n e ∙ ap₂ _∷_ (sym (under-odd n (trailingZeros v (n / 2)) e)) (ap (λ (k : ℕ). map suc (set-digits w k)) (sym (odd-half n e)) ∙ sym (even w m (cleared n))))
+    (λ e. odd w n e ∙ ap₂ _∷_ (sym (under-odd n (trailingZeros v (n / 2)) e))
+    (ap (λ (k : ℕ). map suc (set-digits w k)) (sym (odd-half n e)) ∙ sym (even w m (cleared n))))
     (λ e. even w n e ∙ ap (map suc) (lowest-first w v (n / 2) (omega arith) (omega arith) (λ q. z (omega arith)))
-    ∙ ap₂ _∷_ (sym (under-even n (trailingZeros v (n / 2)) e)) (ap (λ (k : ℕ). map suc (set-digits w k)) (sym (even-half n e z)) ∙ sym (even w m (cleared n))))
+    ∙ ap₂ _∷_ (sym (under-even n (trailingZeros v (n / 2)) e)) (ap (λ (k : ℕ). map suc (set-digits w k)) (sym (even-half n e z))
+    ∙ sym (even w m (cleared n))))
 
 pub lowest-lt : (w v n : ℕ) → w ≤ v → n < 2 ^ w → (n ≡ 0 → ⊥) → trailingZeros v n < w
 unfolding trailingZeros
@@ -97,4 +102,9 @@ lowest-lt (suc w) (suc v) n l h z =
     let p = pow-suc 2 w in
     parity n (under (n % 2) (trailingZeros v (n / 2)) < suc w)
     (λ e. omega (arith, under-odd n (trailingZeros v (n / 2)) e))
-    (λ e. omega (arith, under-even n (trailingZeros v (n / 2)) e, lowest-lt w v (n / 2) (omega arith) (omega arith) (λ q. z (omega arith))))
+    (λ e. omega (
+      arith,
+      under-even n (trailingZeros v (n / 2)) e,
+      lowest-lt w v (n / 2) (omega arith) (omega arith)
+          (λ q. z (omega arith)),
+    ))

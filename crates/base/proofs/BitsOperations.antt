@@ -41,7 +41,8 @@ module _ (op f : ℕ → ℕ → ℕ) (g : Bool → Bool → Bool)
       ∙ d .1
 
 -- what is computed at the four pairs of digits
-module _ (f : ℕ → ℕ → ℕ) (g : Bool → Bool → Bool) (c : (p q : Bool) → T (ltb (f (digit p) (digit q)) 2) × (eqb (f (digit p) (digit q)) 1 ≡ g p q)) where
+module _ (f : ℕ → ℕ → ℕ) (g : Bool → Bool → Bool) (c : (p q : Bool) → T (ltb (f (digit p) (digit q)) 2) ×
+    (eqb (f (digit p) (digit q)) 1 ≡ g p q)) where
   two-digits : (p q : ℕ) → p < 2 → q < 2 → (f p q < 2) × (eqb (f p q) 1 ≡ g (eqb p 1) (eqb q 1))
   two-digits zero zero h k = (ltb→lt (f 0 0) 2 (c false false .0), c false false .1)
   two-digits zero (suc zero) h k = (ltb→lt (f 0 1) 2 (c false true .0), c false true .1)
@@ -52,10 +53,14 @@ module _ (f : ℕ → ℕ → ℕ) (g : Bool → Bool → Bool) (c : (p q : Bool
   two-digits (suc (suc p)) q h k = absurd (omega arith)
 
 pub bit-or : (a b k : ℕ) → bit (bitOr a b) k ≡ (bit a k || bit b k)
-bit-or = bit-op bitOr max _||_ or-shr or-step (two-digits max _||_ λ p q. elim p [ true ↦ elim q [ true ↦ (tt, refl) | false ↦ (tt, refl) ] | false ↦ elim q [ true ↦ (tt, refl) | false ↦ (tt, refl) ] ])
+bit-or =
+    bit-op bitOr max _||_ or-shr or-step (two-digits max _||_ λ p q. elim p
+    [ true ↦ elim q [ true ↦ (tt, refl) | false ↦ (tt, refl) ] | false ↦ elim q [ true ↦ (tt, refl) | false ↦ (tt, refl) ] ])
 
 pub bit-and : (a b k : ℕ) → bit (bitAnd a b) k ≡ (bit a k && bit b k)
-bit-and = bit-op bitAnd min _&&_ and-shr and-step (two-digits min _&&_ λ p q. elim p [ true ↦ elim q [ true ↦ (tt, refl) | false ↦ (tt, refl) ] | false ↦ elim q [ true ↦ (tt, refl) | false ↦ (tt, refl) ] ])
+bit-and =
+    bit-op bitAnd min _&&_ and-shr and-step (two-digits min _&&_ λ p q. elim p
+    [ true ↦ elim q [ true ↦ (tt, refl) | false ↦ (tt, refl) ] | false ↦ elim q [ true ↦ (tt, refl) | false ↦ (tt, refl) ] ])
 
 abbrev pub xor : Bool → Bool → Bool
 xor true true = false
@@ -64,7 +69,9 @@ xor false true = true
 xor false false = false
 
 pub bit-xor : (a b k : ℕ) → bit (bitXor a b) k ≡ xor (bit a k) (bit b k)
-bit-xor = bit-op bitXor differ xor xor-shr xor-step (two-digits differ xor λ p q. elim p [ true ↦ elim q [ true ↦ (tt, refl) | false ↦ (tt, refl) ] | false ↦ elim q [ true ↦ (tt, refl) | false ↦ (tt, refl) ] ])
+bit-xor =
+    bit-op bitXor differ xor xor-shr xor-step (two-digits differ xor λ p q. elim p
+    [ true ↦ elim q [ true ↦ (tt, refl) | false ↦ (tt, refl) ] | false ↦ elim q [ true ↦ (tt, refl) | false ↦ (tt, refl) ] ])
 
 -- one more digit
 pub bit-suc : (n k : ℕ) → bit n (suc k) ≡ bit (n / 2) k
@@ -84,7 +91,8 @@ pub bit-pow : (k j : ℕ) → bit (2 ^ k) j ≡ eqb j k
 unfolding bit
 bit-pow zero zero = refl
 bit-pow zero (suc j) = bit-suc 1 j ∙ bit-nought j ∙ sym (eqb·suc-zero j)
-bit-pow (suc k) zero = ap (λ (n : ℕ). eqb (n / 1 % 2) 1) (pow-suc 2 k) ∙ ne-eqb (2 ^ k * 2 / 1 % 2) 1 (λ e. omega arith) ∙ sym (eqb·zero-suc k)
+bit-pow (suc k) zero =
+    ap (λ (n : ℕ). eqb (n / 1 % 2) 1) (pow-suc 2 k) ∙ ne-eqb (2 ^ k * 2 / 1 % 2) 1 (λ e. omega arith) ∙ sym (eqb·zero-suc k)
 bit-pow (suc k) (suc j) = bit-suc (2 ^ suc k) j ∙ ap (λ (n : ℕ). bit n j) (pow-half k) ∙ bit-pow k j ∙ sym (eqb·suc-suc j k)
 
 -- `n >> s` moves the digits down
@@ -109,8 +117,10 @@ pub bit-not : (w n k : ℕ) → n < 2 ^ w → k < w → bit (2 ^ w - 1 - n) k �
 bit-not zero n k h l = absurd (omega arith)
 bit-not (suc w) n zero h l =
     let e = pow-suc 2 w in
-    bit-low (2 ^ suc w - 1 - n) ∙ turned ((2 ^ suc w - 1 - n) % 2) (n % 2) (mod-lt (2 ^ suc w - 1 - n) two-pos) (mod-lt n two-pos) (omega arith) ∙ ap not (sym (bit-low n))
+    bit-low (2 ^ suc w - 1 - n) ∙ turned ((2 ^ suc w - 1 - n) % 2) (n % 2) (mod-lt (2 ^ suc w - 1 - n) two-pos) (mod-lt n two-pos)
+    (omega arith) ∙ ap not (sym (bit-low n))
 bit-not (suc w) n (suc k) h l =
     let e = pow-suc 2 w in
     let half : (2 ^ suc w - 1 - n) / 2 ≡ 2 ^ w - 1 - n / 2 = omega arith in
-    bit-suc (2 ^ suc w - 1 - n) k ∙ ap (λ (m : ℕ). bit m k) half ∙ bit-not w (n / 2) k (omega arith) (omega arith) ∙ ap not (sym (bit-suc n k))
+    bit-suc (2 ^ suc w - 1 - n) k ∙ ap (λ (m : ℕ). bit m k) half ∙ bit-not w (n / 2) k (omega arith) (omega arith)
+    ∙ ap not (sym (bit-suc n k))

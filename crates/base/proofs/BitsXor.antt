@@ -18,7 +18,8 @@ xor-assoc-digit false false true = refl
 xor-assoc-digit false false false = refl
 
 pub xor-assoc : (a b c : ℕ) → bitXor (bitXor a b) c ≡ bitXor a (bitXor b c)
-xor-assoc a b c = bit-ext (bitXor (bitXor a b) c) (bitXor a (bitXor b c)) (λ k. simp bit-xor (xor-assoc-digit (bit a k) (bit b k) (bit c k)))
+xor-assoc a b c =
+    bit-ext (bitXor (bitXor a b) c) (bitXor a (bitXor b c)) (λ k. simp bit-xor (xor-assoc-digit (bit a k) (bit b k) (bit c k)))
 
 pub xor-cancel : (x r : ℕ) → bitXor x (bitXor x r) ≡ r
 xor-cancel x r = sym (xor-assoc x x r) ∙ ap (λ (z : ℕ). bitXor z r) (xor-self x) ∙ xor-zero-l r
@@ -28,4 +29,6 @@ xor-left-comm x y r = sym (xor-assoc x y r) ∙ ap (λ (z : ℕ). bitXor z r) (x
 
 -- y for x
 pub xor-swap : (x y r : ℕ) → bitXor (bitXor x y) (bitXor x r) ≡ bitXor y r
-xor-swap x y r = ap (λ (z : ℕ). bitXor z (bitXor x r)) (xor-comm x y) ∙ xor-assoc y x (bitXor x r) ∙ ap (λ (z : ℕ). bitXor y z) (xor-cancel x r)
+xor-swap x y r =
+    ap (λ (z : ℕ). bitXor z (bitXor x r)) (xor-comm x y) ∙ xor-assoc y x (bitXor x r)
+    ∙ ap (λ (z : ℕ). bitXor y z) (xor-cancel x r)

@@ -52,7 +52,11 @@ Always (suc n) f = (b : Bool) → Always n (f b)
 
 pub always : (n : ℕ) (f : Law n) → T (law n f) → Always n f
 always zero f t = t
-always (suc n) f t = λ b. elim b [ true ↦ always n (f true) (and→ (law n (f true)) _ t .0) | false ↦ always n (f false) (and→ (law n (f true)) _ t .1) ]
+always (suc n) f t =
+    λ b. elim b [
+      | true ↦ always n (f true) (and→ (law n (f true)) _ t .0)
+      | false ↦ always n (f false) (and→ (law n (f true)) _ t .1)
+    ]
 
 infixr 20 _⇒_
 abbrev pub _⇒_ : Bool → Bool → Bool

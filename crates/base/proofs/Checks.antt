@@ -27,7 +27,8 @@ pub some-failed : (cs : Checks) → (first-failed cs ≡ 0 → ⊥) → T (not (
 some-failed cs h = not-T (all-pass cs) (λ t. h (all-pass-0 cs t))
 
 -- what holds of each check's number holds of that of the first that fails
-pub failed-number : (f : ℕ → Bool) (cs : Checks) → T (all (λ (t : Bool × ℕ). f (t .1)) cs) → T (not (all-pass cs)) → T (f (first-failed cs))
+pub failed-number : (f : ℕ → Bool) (cs : Checks) → T (all (λ (t : Bool × ℕ). f (t .1)) cs) → T (not (all-pass cs)) →
+    T (f (first-failed cs))
 unfolding all-pass all first-failed if_then_else_
 failed-number f [] a t = absurd t
 failed-number f ((true, n) ∷ cs) a t = failed-number f cs (and→ (f n) _ a .1) t
@@ -43,7 +44,8 @@ pub 0-all-pass : (cs : Checks) → T (numbered cs) → first-failed cs ≡ 0 →
 0-all-pass cs a e = elim (is (all-pass cs)) [ inl t ↦ t | inr t ↦ absurd (failed-not-0 cs a t e) ]
 
 -- ---- else it is that of the first that fails: all before it pass
-pub failed-at : (before rest : Checks) (a : Bool) (n : ℕ) → T (all-pass before) → T (not a) → first-failed (before ++ ((a, n) ∷ rest)) ≡ n
+pub failed-at : (before rest : Checks) (a : Bool) (n : ℕ) → T (all-pass before) → T (not a) →
+    first-failed (before ++ ((a, n) ∷ rest)) ≡ n
 unfolding all-pass all first-failed if_then_else_
 failed-at [] rest true n t u = absurd u
 failed-at [] rest false n t u = refl
@@ -105,7 +107,8 @@ pub record InOrder (k : ℕ) (cs : Checks) : Type 0 where
 rising-over : (n : ℕ) (cs : Checks) → T (rising n cs) → (t : Bool × ℕ) → In t cs → n < t .1
 unfolding rising
 rising-over n [] r t i = absurd i
-rising-over n (c ∷ cs) r t (inl e) = let h = ltb→lt n (c .1) (and→ (ltb n (c .1)) _ r .0) in omega (arith, h, ap (λ (u : Bool × ℕ). u .1) e)
+rising-over n (c ∷ cs) r t (inl e) =
+    let h = ltb→lt n (c .1) (and→ (ltb n (c .1)) _ r .0) in omega (arith, h, ap (λ (u : Bool × ℕ). u .1) e)
 rising-over n (c ∷ cs) r t (inr i) =
     let h = ltb→lt n (c .1) (and→ (ltb n (c .1)) _ r .0) in
     let k = rising-over (c .1) cs (and→ (ltb n (c .1)) _ r .1) t i in omega (arith, h, k)

@@ -145,7 +145,8 @@ lo-le (pos a) n h = omega arith
 lo-le (negsuc a) n h = omega zarith
 
 -- the sum, as omega needs it: list `sm a b` for each `a +ℤ b` in sight
-sub-of : (c : Bool) (a b : ℕ) → (T c → a < b) → (T (not c) → b ≤ a) → hi (cond c (negsuc (b - suc a)) (pos (a - b))) + b ≡ lo (cond c (negsuc (b - suc a)) (pos (a - b))) + a
+sub-of : (c : Bool) (a b : ℕ) → (T c → a < b) → (T (not c) → b ≤ a) → hi (cond c (negsuc (b - suc a)) (pos (a - b))) + b
+    ≡ lo (cond c (negsuc (b - suc a)) (pos (a - b))) + a
 unfolding hi lo
 sub-of true a b f g = omega (arith, f tt)
 sub-of false a b f g = omega (arith, g tt)

@@ -15,7 +15,8 @@ module _ {A : Type 0} where
   pub any-some : (f : A → Bool) (xs : List A) → T (any f xs) → (x : A) × In x xs × T (f x)
   unfolding any
   any-some f [] t = absurd t
-  any-some f (x ∷ xs) t = elim (or→ (f x) _ t) [ inl u ↦ (x, inl refl, u) | inr u ↦ (let r = any-some f xs u in (r .0, inr (r .1), r .2)) ]
+  any-some f (x ∷ xs) t =
+      elim (or→ (f x) _ t) [ inl u ↦ (x, inl refl, u) | inr u ↦ (let r = any-some f xs u in (r .0, inr (r .1), r .2)) ]
 
   pub some-any : (f : A → Bool) (x : A) (xs : List A) → In x xs → T (f x) → T (any f xs)
   unfolding any
@@ -48,13 +49,17 @@ pub filter-in : (f : ℕ → Bool) (x : ℕ) (xs : List ℕ) → In x (filter f 
 unfolding filter
 filter-in f x [] h = absurd h
 filter-in f x (y ∷ xs) h = if-ind (λ l. In x l → In x (y ∷ xs) × T (f x)) (f y) _ _
-    (λ t k. elim k [ inl e ↦ (inl e, subst (λ (z : ℕ). T (f z)) (sym e) t) | inr k ↦ (let r = filter-in f x xs k in (inr (r .0), r .1)) ])
+    (λ t k. elim k [
+      | inl e ↦ (inl e, subst (λ (z : ℕ). T (f z)) (sym e) t)
+      | inr k ↦ (let r = filter-in f x xs k in (inr (r .0), r .1))
+    ])
     (λ _ k. let r = filter-in f x xs k in (inr (r .0), r .1)) h
 
 pub in-filter : (f : ℕ → Bool) (x : ℕ) (xs : List ℕ) → In x xs → T (f x) → In x (filter f xs)
 unfolding filter
 in-filter f x [] h t = absurd h
-in-filter f x (y ∷ xs) (inl e) t = if-ind (λ l. In x l) (f y) _ _ (λ _. inl e) (λ u. absurd (T-not (f y) u (subst (λ (z : ℕ). T (f z)) e t)))
+in-filter f x (y ∷ xs) (inl e) t =
+    if-ind (λ l. In x l) (f y) _ _ (λ _. inl e) (λ u. absurd (T-not (f y) u (subst (λ (z : ℕ). T (f z)) e t)))
 in-filter f x (y ∷ xs) (inr h) t = if-ind (λ l. In x l) (f y) _ _ (λ _. inr (in-filter f x xs h t)) (λ _. in-filter f x xs h t)
 
 pub in-elem : (x : ℕ) (xs : List ℕ) → In x xs → T (elem x xs)
@@ -74,7 +79,8 @@ unique-filter f [] t = tt
 unique-filter f (x ∷ xs) t =
     let r = unique-filter f xs (and→ (not (elem x xs)) _ t .1) in
     if-ind (λ l. T (unique l)) (f x) _ _
-    (λ _. →and (not (elem x (filter f xs))) _ (not-T (elem x (filter f xs)) (λ u. T-not (elem x xs) (and→ (not (elem x xs)) _ t .0) (in-elem x xs (filter-in f x xs (elem-in x (filter f xs) u) .0)))) r)
+    (λ _. →and (not (elem x (filter f xs))) _ (not-T (elem x (filter f xs))
+    (λ u. T-not (elem x xs) (and→ (not (elem x xs)) _ t .0) (in-elem x xs (filter-in f x xs (elem-in x (filter f xs) u) .0)))) r)
     (λ _. r)
 
 eq-or : (i x : ℕ) → i ≤ x → (x ≡ i) ⊎ (suc i ≤ x)

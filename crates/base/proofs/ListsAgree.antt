@@ -31,4 +31,5 @@ module _ {A : Type 0} (f g : A → Bool) where
   pub filter-same : (xs : List A) → ((x : A) → In x xs → f x ≡ g x) → filter f xs ≡ filter g xs
   unfolding filter
   filter-same [] e = refl
-  filter-same (x ∷ xs) e = ap₂ (λ (p : Bool) (ys : List A). if p then (λ _. x ∷ ys) else λ _. ys) (e x (inl refl)) (filter-same xs (λ y i. e y (inr i)))
+  filter-same (x ∷ xs) e =
+      ap₂ (λ (p : Bool) (ys : List A). if p then (λ _. x ∷ ys) else λ _. ys) (e x (inl refl)) (filter-same xs (λ y i. e y (inr i)))

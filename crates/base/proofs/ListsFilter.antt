@@ -10,7 +10,8 @@ use Rattle.base.specs.Lists.{filter, In, elem, from}
 use Rattle.base.proofs.ListsAgree.{same-by}
 use Rattle.base.proofs.Lists.{filter-in, in-filter, in-elem, elem-in}
 
-choice-of {ℓ κ} : {A : Type ℓ} {B : Type κ} (f : A → B) (c : Bool) (x y : Unit {0} → A) → (if c then (λ u. f (x u)) else λ u. f (y u)) ≡ f (if c then x else y)
+choice-of {ℓ κ} : {A : Type ℓ} {B : Type κ} (f : A → B) (c : Bool) (x y : Unit {0} → A) →
+    (if c then (λ u. f (x u)) else λ u. f (y u)) ≡ f (if c then x else y)
 unfolding if_then_else_
 choice-of f true x y = refl
 choice-of f false x y = refl
@@ -51,4 +52,6 @@ elem-join x [] ys = refl
 elem-join x (y ∷ xs) ys = ap (_||_ (eqb x y)) (elem-join x xs ys) ∙ sym (or-assoc (eqb x y) (elem x xs) (elem x ys))
 
 pub elem-filter : (f : ℕ → Bool) (x : ℕ) (xs : List ℕ) → In x xs → elem x (filter f xs) ≡ f x
-elem-filter f x xs h = same-by (elem x (filter f xs)) (f x) (λ t. filter-in f x xs (elem-in x (filter f xs) t) .1) (λ t. in-elem x (filter f xs) (in-filter f x xs h t))
+elem-filter f x xs h =
+    same-by (elem x (filter f xs)) (f x) (λ t. filter-in f x xs (elem-in x (filter f xs) t) .1)
+    (λ t. in-elem x (filter f xs) (in-filter f x xs h t))

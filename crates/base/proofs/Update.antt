@@ -6,7 +6,8 @@ use Rattle.base.specs.Update.{update}
 use Rattle.base.proofs.Branch.{if-ind, if-both}
 
 module _ {A : Type 0} where
-  pub update-ind {κ} : (P : A → Type κ) (f : ℕ → A) (i : ℕ) (a : A) (j : ℕ) → (i ≡ j → P a) → P (f j) → P (update f i a j)
+  pub update-ind {κ} : (P : A → Type κ) (f : ℕ → A) (i : ℕ) (a : A) (j : ℕ) → (i ≡ j → P a) → P (f j) →
+      P (update f i a j)
   unfolding update
   update-ind P f i a j x y = if-ind P (eqb i j) _ _ (λ t. x (eqb→eq i j t)) (λ _. y)
 
@@ -14,10 +15,12 @@ module _ {A : Type 0} where
   unfolding update
   update-at P f i a x = if-ind P (eqb i i) _ _ (λ _. x) (λ t. absurd (T-not (eqb i i) t (eqb-refl i)))
 
-  pub update-off {κ} : (P : A → Type κ) (f : ℕ → A) (i : ℕ) (a : A) (j : ℕ) → (i ≡ j → ⊥) → P (f j) → P (update f i a j)
+  pub update-off {κ} : (P : A → Type κ) (f : ℕ → A) (i : ℕ) (a : A) (j : ℕ) → (i ≡ j → ⊥) → P (f j) →
+      P (update f i a j)
   update-off P f i a j n y = update-ind P f i a j (λ e. absurd (n e)) y
 
 -- two functions changed at one place
-pub update-ind₂ {κ} : {A B : Type 0} (P : A → B → Type κ) (f : ℕ → A) (g : ℕ → B) (i : ℕ) (a : A) (b : B) (j : ℕ) → (i ≡ j → P a b) → P (f j) (g j) → P (update f i a j) (update g i b j)
+pub update-ind₂ {κ} : {A B : Type 0} (P : A → B → Type κ) (f : ℕ → A) (g : ℕ → B) (i : ℕ) (a : A) (b : B) (j : ℕ) →
+    (i ≡ j → P a b) → P (f j) (g j) → P (update f i a j) (update g i b j)
 unfolding update
 update-ind₂ P f g i a b j x y = if-both P (eqb i j) _ _ _ _ (λ t. x (eqb→eq i j t)) (λ _. y)

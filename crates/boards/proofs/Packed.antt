@@ -47,7 +47,9 @@ module _ (l : LocalBoards) (b c : ℕ) where
     where
       go : Dec (b < 9) → cell-at l b c ≡ row-cell (row-of l b) (place b c)
       go (yes h) = cell-in h k
-      go (no h) = let g : 9 ≤ b = omega (arith, h) in cell-past-board g ∙ sym (ap (λ (r : Row). row-cell r (place b c)) (row-past g n) ∙ rw (bit-nought (place b c)))
+      go (no h) =
+          let g : 9 ≤ b = omega (arith, h) in
+          cell-past-board g ∙ sym (ap (λ (r : Row). row-cell r (place b c)) (row-past g n) ∙ rw (bit-nought (place b c)))
 
 -- the row that was read, and what its two digits say
 module _ (l : LocalBoards) (b c : ℕ) (r : Row) (n : length (l .rows) ≡ 3) (h : c < 9) (e : r ≡ row-of l b) where
@@ -60,7 +62,8 @@ module _ (l : LocalBoards) (b c : ℕ) (r : Row) (n : length (l .rows) ≡ 3) (h
   pub reads-o : (bitAnd (r .x / 2 ^ place b c) 1 ≡ 1 → ⊥) → bitAnd (r .o / 2 ^ place b c) 1 ≡ 1 → Played O ≡ cell-at l b c
   reads-o x o = rw (bit-no (r .x) (place b c) x, bit-yes (r .o) (place b c) o) at read
 
-  pub reads-none : (bitAnd (r .x / 2 ^ place b c) 1 ≡ 1 → ⊥) → (bitAnd (r .o / 2 ^ place b c) 1 ≡ 1 → ⊥) → Empty ≡ cell-at l b c
+  pub reads-none : (bitAnd (r .x / 2 ^ place b c) 1 ≡ 1 → ⊥) → (bitAnd (r .o / 2 ^ place b c) 1 ≡ 1 → ⊥) →
+      Empty ≡ cell-at l b c
   reads-none x o = rw (bit-no (r .x) (place b c) x, bit-no (r .o) (place b c) o) at read
 
 x-mine : (p q : Bool) → p ≡ mine X (cell-of-bits p q)
@@ -103,13 +106,15 @@ module _ (l : LocalBoards) (b : ℕ) (r : Row) (h : length (l .rows) ≡ 3) (e :
   pub x-cells : bitAnd (r .x / 2 ^ (9 * (b % 3))) 511 ≡ digits (λ c. mine X (cell-at l b c)) 9
   x-cells = nine-cells (mine X) (r .x) (λ k i. x-mine (bit (r .x) k) (bit (r .o) k))
 
-  pub o-cells : r .x < 2 ^ 32 → bitAnd (bitAnd (r .o) (4294967295 - r .x) / 2 ^ (9 * (b % 3))) 511 ≡ digits (λ c. mine O (cell-at l b c)) 9
+  pub o-cells : r .x < 2 ^ 32 → bitAnd (bitAnd (r .o) (4294967295 - r .x) / 2 ^ (9 * (b % 3))) 511
+      ≡ digits (λ c. mine O (cell-at l b c)) 9
   o-cells s =
       nine-cells (mine O) (bitAnd (r .o) (4294967295 - r .x))
       (λ k i. bit-without 32 (r .o) (r .x) k s (omega arith) ∙ o-mine (bit (r .x) k) (bit (r .o) k))
 
   pub taken-cells : bitAnd (bitOr (r .o) (r .x) / 2 ^ (9 * (b % 3))) 511 ≡ digits (λ c. not (blank (cell-at l b c))) 9
-  taken-cells = nine-cells (λ s. not (blank s)) (bitOr (r .o) (r .x)) (λ k i. bit-or (r .o) (r .x) k ∙ taken (bit (r .x) k) (bit (r .o) k))
+  taken-cells =
+      nine-cells (λ s. not (blank s)) (bitOr (r .o) (r .x)) (λ k i. bit-or (r .o) (r .x) k ∙ taken (bit (r .x) k) (bit (r .o) k))
 
 -- ---- a state
 module _ (s : GlobalStates) (b : ℕ) where
@@ -122,7 +127,8 @@ module _ (s : GlobalStates) (b : ℕ) where
   state-past h = rw (le-ltb b 9 h)
 
   -- what the two digits that were read say
-  pub reads-state : (p q : Bool) → b < 9 → eqb (bitAnd (s .x / 2 ^ b) 1) 1 ≡ p → eqb (bitAnd (s .o / 2 ^ b) 1) 1 ≡ q → state-of-bits p q ≡ state-at s b
+  pub reads-state : (p q : Bool) → b < 9 → eqb (bitAnd (s .x / 2 ^ b) 1) 1 ≡ p → eqb (bitAnd (s .o / 2 ^ b) 1) 1 ≡ q →
+      state-of-bits p q ≡ state-at s b
   reads-state p q h x o = rw (state-in h, sym (digit-test (s .x) b) ∙ x, sym (digit-test (s .o) b) ∙ o)
 
 -- ---- the nine states

@@ -49,7 +49,8 @@ module _ (n : ℕ) where
 
   pub all-cells : bitAnd n 1 * 511 + bitAnd (n / 2) 1 * 261632 + bitAnd (n / 4) 1 * 133955584 ≡ digits (λ k. bit n (k / 9)) 27
   all-cells =
-      rw (ap (λ (m : ℕ). bitAnd m 1) (sym whole) ∙ digit-read n 0, digit-read n 1, digit-read n 2) (cells-number (bit n 0) (bit n 1) (bit n 2))
+      rw (ap (λ (m : ℕ). bitAnd m 1) (sym whole) ∙ digit-read n 0, digit-read n 1, digit-read n 2)
+      (cells-number (bit n 0) (bit n 1) (bit n 2))
       ∙ digits-same (λ k. third (bit n 0) (bit n 1) (bit n 2) (k / 9)) (λ k. bit n (k / 9)) 27 (λ k h. third-at (k / 9) (omega arith))
 
 -- ---- the empty ones
@@ -59,7 +60,8 @@ module _ (r : Row) (boards m : ℕ) (hx : r .x < 2 ^ 32) (ho : r .o < 2 ^ 32) (e
   empty-cells = is-digits (λ k. bit boards (k / 9) && blank (row-cell r k)) 27 _
       (lt-of-le-of-lt (and-le-l m (4294967295 - bitOr (r .x) (r .o))) (rw e (digits-lt (λ k. bit boards (k / 9)) 27)))
       (λ k h. bit-without 32 m (bitOr (r .x) (r .o)) k (or-lt 32 (r .x) (r .o) hx ho) (omega arith)
-      ∙ ap₂ _&&_ (ap (λ (i : ℕ). bit i k) e ∙ bit-digits (λ k. bit boards (k / 9)) 27 k h) (ap not (bit-or (r .x) (r .o) k) ∙ not-taken (bit (r .x) k) (bit (r .o) k)))
+      ∙ ap₂ _&&_ (ap (λ (i : ℕ). bit i k) e ∙ bit-digits (λ k. bit boards (k / 9)) 27 k h)
+      (ap not (bit-or (r .x) (r .o) k) ∙ not-taken (bit (r .x) k) (bit (r .o) k)))
 
 -- ---- those in which two rows differ
 abbrev differs : Bool → Bool → Bool → Bool → Bool → Bool
@@ -90,11 +92,20 @@ module _ (r q : Row) (boards m : ℕ) (hr : r .x < 2 ^ 32) (hq : q .x < 2 ^ 32) 
   digit : (k : ℕ) → k < 27 → bit apart k ≡ differs (bit boards (k / 9)) (bit (r .x) k) (bit (r .o) k) (bit (q .x) k) (bit (q .o) k)
   unfolding apart os
   digit k h =
-      simp (bit-or, bit-and, bit-xor, bit-not 32 (r .x) k hr (omega arith), bit-not 32 (q .x) k hq (omega arith), ap (λ (i : ℕ). bit i k) e ∙ bit-digits (λ k. bit boards (k / 9)) 27 k h)
+      simp (
+        bit-or,
+        bit-and,
+        bit-xor,
+        bit-not 32 (r .x) k hr (omega arith),
+        bit-not 32 (q .x) k hq (omega arith),
+        ap (λ (i : ℕ). bit i k) e ∙ bit-digits (λ k. bit boards (k / 9)) 27 k h,
+      )
 
-  pub same-row : eqb (bitOr (bitAnd (bitXor (r .x) (q .x)) m) (bitAnd (bitXor (bitAnd (r .o) (4294967295 - r .x)) (bitAnd (q .o) (4294967295 - q .x))) m)) 0 ≡ row-same r q boards
+  pub same-row : eqb (bitOr (bitAnd (bitXor (r .x) (q .x)) m)
+      (bitAnd (bitXor (bitAnd (r .o) (4294967295 - r .x)) (bitAnd (q .o) (4294967295 - q .x))) m)) 0 ≡ row-same r q boards
   unfolding row-same apart os
   same-row =
       none-set 27 apart small
       ∙ all-same (λ k. not (bit apart k)) (λ k. not (bit boards (k / 9)) || same-cell (row-cell r k) (row-cell q k)) (from 0 27)
-      (λ k i. ap not (digit k (from-in 0 27 k i .1)) ∙ one-cell-holds (bit boards (k / 9)) (bit (r .x) k) (bit (r .o) k) (bit (q .x) k) (bit (q .o) k))
+      (λ k i. ap not (digit k (from-in 0 27 k i .1)) ∙ one-cell-holds (bit boards (k / 9)) (bit (r .x) k) (bit (r .o) k) (bit (q .x) k)
+      (bit (q .o) k))

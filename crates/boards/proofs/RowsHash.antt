@@ -23,7 +23,8 @@ module _ (f : ℕ → ℕ) (i : ℕ) (h : i < 9) where
   unfolding xors
   first = ap (xors f) (drop-cons nine i 0 h) ∙ rw (nine-at i h, add-one i)
 
-  pub one-more : (a k t : ℕ) → k ≡ f i → bitXor a (xors f (drop i nine)) ≡ t → bitXor (bitXor a k) (xors f (drop (i + 1) nine)) ≡ t
+  pub one-more : (a k t : ℕ) → k ≡ f i → bitXor a (xors f (drop i nine)) ≡ t →
+      bitXor (bitXor a k) (xors f (drop (i + 1) nine)) ≡ t
   one-more a k t e p = rw e (xor-assoc a (f i) (xors f (drop (i + 1) nine)) ∙ ap (bitXor a) (sym first) ∙ p)
 
 -- a board over 8 has no played cell, and so no key

@@ -1,5 +1,5 @@
--- What the packed numbers mean, whatever they hold: a bit that no board uses is not looked at, a cell with both bits is X's, and a board or cell
--- over 8 reads as open and empty.
+-- What the packed numbers mean, whatever they hold: a bit that no board uses is not looked at, a cell with both bits is X's, and a board or
+-- cell over 8 reads as open and empty.
 use mathlib.Core.Bool.{Bool, true, false, _&&_}
 use Prim.Native.Nat.{ℕ, _+_, _*_, _/_, _%_}
 use lib.Dec.{ltb}

@@ -1,4 +1,5 @@
--- The cells of several boards at once, three boards to a row: which are empty, whether two games have the same; and the hash of a board that closes.
+-- The cells of several boards at once, three boards to a row: which are empty, whether two games have the same; and the hash of a board
+-- that closes.
 use mathlib.Core.Bool.{Bool, not, _&&_, _||_}
 use Prim.Native.Nat.{ℕ, _/_, _^_}
 use lib.Bits.{bitXor}

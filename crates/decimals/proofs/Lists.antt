@@ -25,7 +25,8 @@ module _ (s : Scan) (b : ℕ) (words : List ℕ) where
   unfolding scanned written if_then_else_
   nothing t h a e = rw (eq-eqb b 32 h, a) (e, refl)
 
-  pub room : b ≡ 32 → s .any ≡ true → s .count < length words → After s b words (record { value = 0; any = false; count = s .count + 1; good = s .good }) (set words (s .count) (s .value))
+  pub room : b ≡ 32 → s .any ≡ true → s .count < length words → After s b words
+      (record { value = 0; any = false; count = s .count + 1; good = s .good }) (set words (s .count) (s .value))
   unfolding scanned written if_then_else_
   room h a l = rw (eq-eqb b 32 h, a, lt-ltb (s .count) (length words) l) (refl, refl)
 
@@ -35,10 +36,12 @@ module _ (s : Scan) (b : ℕ) (words : List ℕ) where
 
 -- ---- all bytes of a text
 module _ (text : List ℕ) (s : Scan) (words : List ℕ) (i : ℕ) where
-  pub scan-next : i < length text → scanned-all s words (drop i text) ≡ scanned-all (scanned s (getD text i 0) (length words)) (written s (getD text i 0) words) (drop (i + 1) text)
+  pub scan-next : i < length text → scanned-all s words (drop i text) ≡ scanned-all (scanned s (getD text i 0) (length words))
+      (written s (getD text i 0) words) (drop (i + 1) text)
   unfolding scanned-all
   scan-next h = rw (drop-cons text i 0 h, add-one i)
 
-  pub scan-end : length text ≤ i → scanned-all s words (drop i text) ≡ record { scan = scanned s 32 (length words); words = written s 32 words }
+  pub scan-end : length text ≤ i → scanned-all s words (drop i text) ≡ record
+      { scan = scanned s 32 (length words); words = written s 32 words }
   unfolding scanned-all
   scan-end h = rw (drop-of-length-le text h)

@@ -47,7 +47,8 @@ module _ (text : List ℕ) (value i : ℕ) where
   next-byte : i < length text → drop i text ≡ getD text i 0 ∷ drop (i + 1) text
   next-byte h = drop-cons text i 0 h ∙ rw (add-one i)
 
-  pub digits-next : (more : ℕ) → i < length text → with-digit value (getD text i 0) ≡ Is more → digits-after value (drop i text) ≡ digits-after more (drop (i + 1) text)
+  pub digits-next : (more : ℕ) → i < length text → with-digit value (getD text i 0) ≡ Is more →
+      digits-after value (drop i text) ≡ digits-after more (drop (i + 1) text)
   unfolding digits-after
   digits-next more h e = rw (next-byte h, e)
 
@@ -65,12 +66,15 @@ unfolding read-signed
 signed-none [] h = refl
 signed-none (b ∷ bs) h = absurd (omega arith)
 
-pub signed-minus : (text : List ℕ) → (length text ≡ 0 → ⊥) → getD text 0 0 ≡ 45 → negative-of (read-number (take (length text - 1) (drop 1 text))) ≡ read-signed text
+pub signed-minus : (text : List ℕ) → (length text ≡ 0 → ⊥) → getD text 0 0 ≡ 45 →
+    negative-of (read-number (take (length text - 1) (drop 1 text))) ≡ read-signed text
 unfolding read-signed if_then_else_
 signed-minus [] h e = absurd (h refl)
-signed-minus (b ∷ bs) h e = let fits : length bs ≤ length (b ∷ bs) - 1 = omega arith in rw (eq-eqb b 45 e, take-all (length (b ∷ bs) - 1) bs fits)
+signed-minus (b ∷ bs) h e =
+    let fits : length bs ≤ length (b ∷ bs) - 1 = omega arith in rw (eq-eqb b 45 e, take-all (length (b ∷ bs) - 1) bs fits)
 
-pub signed-plus : (text : List ℕ) → (length text ≡ 0 → ⊥) → (getD text 0 0 ≡ 45 → ⊥) → positive-of (read-number text) ≡ read-signed text
+pub signed-plus : (text : List ℕ) → (length text ≡ 0 → ⊥) → (getD text 0 0 ≡ 45 → ⊥) →
+    positive-of (read-number text) ≡ read-signed text
 unfolding read-signed if_then_else_
 signed-plus [] h e = absurd (h refl)
 signed-plus (b ∷ bs) h e = rw (ne-eqb b 45 e)

@@ -15,7 +15,8 @@ between b low high = leb low b && leb b high
 
 -- a digit more; none if the byte is no digit, or if the number is 2^64 or more
 unfoldable pub with-digit : ℕ → ℕ → Number
-with-digit value b = if between b 0x30 0x39 && ltb (value * 10 + (b - 0x30)) (2 ^ 64) then (λ _. Is (value * 10 + (b - 0x30))) else λ _. Bad
+with-digit value b =
+    if between b 0x30 0x39 && ltb (value * 10 + (b - 0x30)) (2 ^ 64) then (λ _. Is (value * 10 + (b - 0x30))) else λ _. Bad
 
 abbrev pub and-then : Number → (ℕ → Number) → Number
 and-then (Is n) f = f n

@@ -55,7 +55,8 @@ impl Scan {
 
     // A digit makes the number longer; a blank ends it, and it is written at its place.
     pub fn push(self, b: u8, words: &mut [u64]) -> Scan
-        ensures { λ r. ⌜ (r ≡ scanned self b (length (now (words .entry)))) × (now (words .exit) ≡ written self b (now (words .entry))) ⌝ }
+        ensures { λ r. ⌜ (r ≡ scanned self b (length (now (words .entry)))) ×
+            (now (words .exit) ≡ written self b (now (words .entry))) ⌝ }
     {
         if b != b' ' {
             return self.longer(b);
@@ -89,7 +90,8 @@ fn counted(scan: Scan) -> Count
 
 // How many numbers a text holds, which are written from the first word on.
 pub fn numbers(text: &[u8], words: &mut [u64]) -> Count
-    ensures { λ r. ⌜ (r ≡ counted (scanned-all new-scan (now (words .entry)) (now (text .entry)) .scan)) × (now (words .exit) ≡ scanned-all new-scan (now (words .entry)) (now (text .entry)) .words) ⌝ }
+    ensures { λ r. ⌜ (r ≡ counted (scanned-all new-scan (now (words .entry)) (now (text .entry)) .scan)) ×
+        (now (words .exit) ≡ scanned-all new-scan (now (words .entry)) (now (text .entry)) .words) ⌝ }
 {
     let mut scan = Scan::NEW;
     let mut i: usize = 0;

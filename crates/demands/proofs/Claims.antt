@@ -33,15 +33,21 @@ use Rattle.minimax.proofs.ReportRefusals.{some-depth, accepted-reported, turned
 use Rattle.demands.specs.Claims.{NotStopped, MarkSays, ReportsMinimax, StatusHolds}
 
 -- ---- a variation and what is appended to it
-walk-longer : (G : Game) (d : ℕ) (p : G .Pos) (line rest : List ℕ) → length line ≡ d → play-out G d p (line ++ rest) ≡ play-out G d p line
+walk-longer : (G : Game) (d : ℕ) (p : G .Pos) (line rest : List ℕ) → length line ≡ d →
+    play-out G d p (line ++ rest) ≡ play-out G d p line
 unfolding play-out
 walk-longer G zero p line rest e = refl
 walk-longer G (suc d) p [] rest e = absurd (omega arith)
-walk-longer G (suc d) p (m ∷ line) rest e = ap (λ (w : Playout (G .Pos)). if G .over p then (λ _. record { accepted = true; end = p; odd = false }) else λ _. record { accepted = G .accepts p m && w .accepted; end = w .end; odd = not (w .odd) }) (walk-longer G d (G .play p m) line rest (omega arith))
+walk-longer G (suc d) p (m ∷ line) rest e =
+    ap (λ (w : Playout (G .Pos)). if G .over p then (λ _. record { accepted = true; end = p; odd = false })
+    else λ _. record { accepted = G .accepts p m && w .accepted; end = w .end; odd = not (w .odd) })
+    (walk-longer G d (G .play p m) line rest (omega arith))
 
-ends-longer : (G : Game) (d : ℕ) (p : G .Pos) (line rest : List ℕ) → length line ≡ d → ends-on G d p (line ++ rest) ≡ ends-on G d p line
+ends-longer : (G : Game) (d : ℕ) (p : G .Pos) (line rest : List ℕ) → length line ≡ d →
+    ends-on G d p (line ++ rest) ≡ ends-on G d p line
 unfolding ends-on
-ends-longer G d p line rest e = ap (λ (w : Playout (G .Pos)). cond (w .odd) (negℤ (G .value (w .end))) (G .value (w .end))) (walk-longer G d p line rest e)
+ends-longer G d p line rest e =
+    ap (λ (w : Playout (G .Pos)). cond (w .odd) (negℤ (G .value (w .end))) (G .value (w .end))) (walk-longer G d p line rest e)
 
 -- the first move of a variation that begins so
 module _ (sc : Scoring) (k : ℕ) (p : Position) where
@@ -49,7 +55,8 @@ module _ (sc : Scoring) (k : ℕ) (p : Position) where
   first-legal [] rest r b = absurd b
   first-legal (m ∷ line) rest r b = moves-are-accepted p m .0 (b .0)
 
-  first-attains : (line rest : List ℕ) (r : ℤ) → FirstAttains (game sc) k p line r → negℤ (plain-minimax sc k (tried p (getD (line ++ rest) 0 no-move))) ≡ r
+  first-attains : (line rest : List ℕ) (r : ℤ) → FirstAttains (game sc) k p line r →
+      negℤ (plain-minimax sc k (tried p (getD (line ++ rest) 0 no-move))) ≡ r
   first-attains [] rest r b = absurd b
   first-attains (m ∷ line) rest r b = b .1
 
@@ -80,23 +87,30 @@ module _ (ms : List ℕ) (t : T (unfinished (reached start ms))) (sc : Scoring) 
     depth-is = let h = some-depth c 0 (sym e) in omega arith
 
   module _ (n : NotStopped sc c rs p) where
-    whole-by : (d k : ℕ) → d ≡ suc k → entries sc d p s ≤ c .allowance → AnswersWhole sc k p (analyze (game sc) (at-most (c .allowance)) d p s)
-    whole-by d k q = subst (λ (y : ℕ). entries sc y p s ≤ c .allowance → AnswersWhole sc k p (analyze (game sc) (at-most (c .allowance)) y p s)) (sym q) (unstopped-right ms t s table-off refl k sc (c .allowance))
+    whole-by : (d k : ℕ) → d ≡ suc k → entries sc d p s ≤ c .allowance →
+        AnswersWhole sc k p (analyze (game sc) (at-most (c .allowance)) d p s)
+    whole-by d k q =
+        subst (λ (y : ℕ). entries sc y p s ≤ c .allowance → AnswersWhole sc k p (analyze (game sc) (at-most (c .allowance)) y p s))
+        (sym q) (unstopped-right ms t s table-off refl k sc (c .allowance))
 
     whole : AnswersWhole sc (c .max-depth - 1) p answer
     whole = whole-by (c .max-depth) (c .max-depth - 1) (depth-is (n .accepted)) (n .enough)
 
     report-right : ReportsMinimax sc c rs p (report (game sc) p answer)
-    report-right = let places = analyze-places (game sc) (at-most (c .allowance)) (c .max-depth) p s in let r = whole .right in let d = depth-is (n .accepted) in record {
-      score = r .score-is ∙ ap (λ (y : ℕ). plain-minimax sc y p) (sym d);
-      first-legal = first-legal sc (c .max-depth - 1) p (answer .completed .pv) _ (answer .completed .score) (whole .first-attains);
-      first-attains = first-attains sc (c .max-depth - 1) p (answer .completed .pv) _ (answer .completed .score) (whole .first-attains);
-      some-depth = r .some-depth;
-      no-deeper = omega (arith, r .no-deeper);
-      deep = elim (r .deep) [ inl q ↦ inl (q ∙ sym d) | inr q ↦ inr q ];
-      line-legal = subst (λ (w : Playout Position). T (w .accepted)) (sym (walk-longer (game sc) (answer .completed .depth) p (answer .completed .pv) _ places)) (r .accepted);
-      line-ends = r .ends ∙ sym (ends-longer (game sc) (answer .completed .depth) p (answer .completed .pv) _ places);
-    }
+    report-right =
+        let places = analyze-places (game sc) (at-most (c .allowance)) (c .max-depth) p s in let r = whole .right in
+        let d = depth-is (n .accepted) in record {
+          score = r .score-is ∙ ap (λ (y : ℕ). plain-minimax sc y p) (sym d);
+          first-legal = first-legal sc (c .max-depth - 1) p (answer .completed .pv) _ (answer .completed .score) (whole .first-attains);
+          first-attains = first-attains sc (c .max-depth - 1) p (answer .completed .pv) _ (answer .completed .score) (whole .first-attains);
+          some-depth = r .some-depth;
+          no-deeper = omega (arith, r .no-deeper);
+          deep = elim (r .deep) [ inl q ↦ inl (q ∙ sym d) | inr q ↦ inr q ];
+          line-legal =
+              subst (λ (w : Playout Position). T (w .accepted))
+              (sym (walk-longer (game sc) (answer .completed .depth) p (answer .completed .pv) _ places)) (r .accepted);
+          line-ends = r .ends ∙ sym (ends-longer (game sc) (answer .completed .depth) p (answer .completed .pv) _ places);
+        }
 
     pub reported-right : ReportsMinimax sc c rs p x
     reported-right = subst (ReportsMinimax sc c rs p) (is-report (n .accepted)) report-right
@@ -107,21 +121,26 @@ module _ (ms : List ℕ) (t : T (unfinished (reached start ms))) (sc : Scoring) 
     unmarked-number false d u = refl
 
     number-none : x .number ≡ 0
-    number-none = subst (λ (y : Reported). y .number ≡ 0) (is-report (n .accepted)) (unmarked-number (answer .is-stopped) (answer .completed .depth) (whole .unmarked))
+    number-none =
+        subst (λ (y : Reported). y .number ≡ 0) (is-report (n .accepted))
+        (unmarked-number (answer .is-stopped) (answer .completed .depth) (whole .unmarked))
 
     not-marked : T (not (x .is-stopped))
     not-marked = subst (λ (y : Reported). T (not (y .is-stopped))) (is-report (n .accepted)) (whole .unmarked)
 
   only-then : x .number ≡ 0 → T (not (x .is-stopped)) → NotStopped sc c rs p
-  only-then h u = elim (refusal-none (eqb (entry-refusal c 0) 0) refl) [ inl e ↦ record { accepted = e; enough = enough e } | inr e ↦ absurd e ]
+  only-then h u =
+      elim (refusal-none (eqb (entry-refusal c 0) 0) refl) [ inl e ↦ record { accepted = e; enough = enough e } | inr e ↦ absurd e ]
     where
       refusal-none : (b : Bool) → eqb (entry-refusal c 0) 0 ≡ b → (entry-refusal c 0 ≡ 0) ⊎ ⊥
       refusal-none true q = inl (eqb-true (entry-refusal c 0) 0 q)
-      refusal-none false q = inr (eqb-false (entry-refusal c 0) 0 q (sym (ap (λ (y : Reported). y .number) (turned-reported (game sc) c p rs [] q)) ∙ h))
+      refusal-none false q =
+          inr (eqb-false (entry-refusal c 0) 0 q (sym (ap (λ (y : Reported). y .number) (turned-reported (game sc) c p rs [] q)) ∙ h))
 
       enough : entry-refusal c 0 ≡ 0 → entries sc (c .max-depth) p s ≤ c .allowance
       enough e = elim (lt-or (c .allowance) (entries sc (c .max-depth) p s)) [
-        | inl q ↦ absurd (T-not (answer .is-stopped) (subst (λ (y : Reported). T (not (y .is-stopped))) (sym (is-report e)) u) (spent-means-mark (game sc) (c .allowance) (c .max-depth) p s (omega arith) q))
+        | inl q ↦ absurd (T-not (answer .is-stopped) (subst (λ (y : Reported). T (not (y .is-stopped))) (sym (is-report e)) u)
+            (spent-means-mark (game sc) (c .allowance) (c .max-depth) p s (omega arith) q))
         | inr q ↦ q
       ]
 
@@ -130,25 +149,40 @@ module _ (ms : List ℕ) (t : T (unfinished (reached start ms))) (sc : Scoring) 
 
 -- ---- with no draw winner
 module _ (ms : List ℕ) (t : T (unfinished (reached start ms))) (c : Settings) (rs : Responses) where
-  alone-by : (w : Player) → T (alone (analysis (reached start ms) .status) w) → NotStopped no-draw-winner c rs (reached start ms) → 3 ≤ c .max-depth → reported (game no-draw-winner) c (reached start ms) rs [] .score ≡ win-for w (reached start ms)
+  alone-by : (w : Player) → T (alone (analysis (reached start ms) .status) w) → NotStopped no-draw-winner c rs (reached start ms) →
+      3 ≤ c .max-depth → reported (game no-draw-winner) c (reached start ms) rs [] .score ≡ win-for w (reached start ms)
   alone-by w a n three = sym (ap (λ (y : Reported). y .score) (is-report ms t no-draw-winner c rs (n .accepted)))
       ∙ by-depth (c .max-depth) (n .enough) (depth-is ms t no-draw-winner c rs (n .accepted)) three
     where
-      by-depth : (d : ℕ) → entries no-draw-winner d (reached start ms) (fresh-memory rs []) ≤ c .allowance → d ≡ suc (c .max-depth - 1) → 3 ≤ d → analyze (game no-draw-winner) (at-most (c .allowance)) d (reached start ms) (fresh-memory rs []) .completed .score ≡ win-for w (reached start ms)
-      by-depth d h e k = subst (λ (y : ℕ). entries no-draw-winner y (reached start ms) (fresh-memory rs []) ≤ c .allowance → analyze (game no-draw-winner) (at-most (c .allowance)) y (reached start ms) (fresh-memory rs []) .completed .score ≡ win-for w (reached start ms)) (sym e)
-          (λ i. alone-scores ms t (fresh-memory rs []) (table-off ms t no-draw-winner c rs) refl (c .max-depth - 1) (c .allowance) i (omega arith) w a) h
+      by-depth : (d : ℕ) → entries no-draw-winner d (reached start ms) (fresh-memory rs []) ≤ c .allowance →
+          d ≡ suc (c .max-depth - 1) → 3 ≤ d → analyze (game no-draw-winner) (at-most (c .allowance)) d (reached start ms)
+          (fresh-memory rs []) .completed .score ≡ win-for w (reached start ms)
+      by-depth d h e k =
+          subst (λ (y : ℕ). entries no-draw-winner y (reached start ms) (fresh-memory rs []) ≤ c .allowance →
+          analyze (game no-draw-winner) (at-most (c .allowance)) y (reached start ms) (fresh-memory rs []) .completed .score
+          ≡ win-for w (reached start ms)) (sym e)
+          (λ i. alone-scores ms t (fresh-memory rs []) (table-off ms t no-draw-winner c rs) refl (c .max-depth - 1) (c .allowance) i
+          (omega arith) w a) h
 
-  never-by : (w : Player) → T (not (allows (analysis (reached start ms) .status) w)) → reported (game no-draw-winner) c (reached start ms) rs [] .score ≡ win-for w (reached start ms) → ⊥
+  never-by : (w : Player) → T (not (allows (analysis (reached start ms) .status) w)) →
+      reported (game no-draw-winner) c (reached start ms) rs [] .score ≡ win-for w (reached start ms) → ⊥
   never-by w out h = by-refusal (eqb (entry-refusal c 0) 0) refl
     where
-      searched-never : (d k : ℕ) → d ≡ suc k → analyze (game no-draw-winner) (at-most (c .allowance)) d (reached start ms) (fresh-memory rs []) .completed .score ≡ win-for w (reached start ms) → ⊥
-      searched-never d k e = subst (λ (y : ℕ). analyze (game no-draw-winner) (at-most (c .allowance)) y (reached start ms) (fresh-memory rs []) .completed .score ≡ win-for w (reached start ms) → ⊥) (sym e)
+      searched-never : (d k : ℕ) → d ≡ suc k → analyze (game no-draw-winner) (at-most (c .allowance)) d (reached start ms)
+          (fresh-memory rs []) .completed .score ≡ win-for w (reached start ms) → ⊥
+      searched-never d k e =
+          subst (λ (y : ℕ). analyze (game no-draw-winner) (at-most (c .allowance)) y (reached start ms)
+          (fresh-memory rs []) .completed .score ≡ win-for w (reached start ms) → ⊥) (sym e)
           (left-out-never-scores ms t (fresh-memory rs []) (table-off ms t no-draw-winner c rs) refl k w out (at-most (c .allowance)))
 
       by-refusal : (b : Bool) → eqb (entry-refusal c 0) 0 ≡ b → ⊥
       by-refusal true q = let e = eqb-true (entry-refusal c 0) 0 q in
-          searched-never (c .max-depth) (c .max-depth - 1) (depth-is ms t no-draw-winner c rs e) (ap (λ (y : Reported). y .score) (is-report ms t no-draw-winner c rs e) ∙ h)
-      by-refusal false q = not-nothing (reached start ms .turn) w (sym (ap (λ (y : Reported). y .score) (turned-reported (game no-draw-winner) c (reached start ms) rs [] q)) ∙ h)
+          searched-never (c .max-depth) (c .max-depth - 1) (depth-is ms t no-draw-winner c rs e)
+          (ap (λ (y : Reported). y .score) (is-report ms t no-draw-winner c rs e) ∙ h)
+      by-refusal false q =
+          not-nothing (reached start ms .turn) w
+          (sym (ap (λ (y : Reported). y .score) (turned-reported (game no-draw-winner) c (reached start ms) rs [] q)) ∙ h)
 
-  pub reported-holds : StatusHolds c rs (reached start ms) (reported (game no-draw-winner) c (reached start ms) rs []) (analysis (reached start ms) .status)
+  pub reported-holds : StatusHolds c rs (reached start ms) (reported (game no-draw-winner) c (reached start ms) rs [])
+      (analysis (reached start ms) .status)
   reported-holds = record { alone-wins = alone-by; left-out-never = never-by }

@@ -60,7 +60,8 @@ use Rattle.minimax.specs.declared.Report.{Report}
 use Rattle.minimax.specs.Structs.{structs}
 use Rattle.minimax.specs.State.{responses-of}
 use Rattle.minimax.specs.Report.{settings-of, report-of, answer-of, reported-of, scoring-of}
-use Rattle.demands.specs.Demand1.{Playing, depth-1-enters, searching, NothingReported, Searching, line-of-boards, broken-board, unsound, analysing, Analysing, JudgingMove, LookingCell, LookingBoard, Building, Demand1}
+use Rattle.demands.specs.Demand1.{Playing, depth-1-enters, searching, NothingReported, Searching, line-of-boards, broken-board}
+use Rattle.demands.specs.Demand1.{unsound, analysing, Analysing, JudgingMove, LookingCell, LookingBoard, Building, Demand1}
 
 -- ---- a list of one check
 one-passes : (t : Bool) (n : ℕ) → T t → T (all-pass ((t, n) ∷ []))
@@ -189,7 +190,8 @@ module _ (g : Game) where
   here = position-of g
 
   broken-is : (b : ℕ) →
-      (not (open-board here b) || (any (free-cell here b) nine && all (λ w. not (has-line (has here w b))) sides)) ≡ not (broken-board g b)
+      (not (open-board here b) || (any (free-cell here b) nine && all (λ w. not (has-line (has here w b))) sides))
+      ≡ not (broken-board g b)
   unfolding all
   broken-is b =
       let x = has-line (has here X b) in let o = has-line (has here O b) in

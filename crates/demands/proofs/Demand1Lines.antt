@@ -10,7 +10,8 @@ use borrow.Author.Tests.{eqb-false, ne-eqb}
 use Rattle.base.specs.Branch.{if_then_else_}
 use Rattle.base.specs.Lists.{elem}
 use Rattle.base.proofs.ListsAgree.{same-by}
-use Rattle.text.specs.ProgramLine.{Parted, no-blank, around, parted, parted-with, depth-of, no-depth, asks-with, asked-by, is-digit, line-refusal}
+use Rattle.text.specs.ProgramLine.{Parted, no-blank, around, parted, parted-with, depth-of, no-depth, asks-with, asked-by, is-digit}
+use Rattle.text.specs.ProgramLine.{line-refusal}
 use Rattle.program_line.specs.Answered.{asked-text}
 use Rattle.demands.specs.Demand1.{digit, one-or-two-digits, AskingLine}
 
@@ -19,7 +20,9 @@ eqb-turned : (c : ℕ) → eqb 0x20 c ≡ false → eqb c 0x20 ≡ false
 eqb-turned c e = ne-eqb c 0x20 (λ q. eqb-false 0x20 c e (sym q))
 
 le-is-not-lt : (a b : ℕ) → leb a b ≡ not (ltb b a)
-le-is-not-lt a b = same-by (leb a b) (not (ltb b a)) (λ t. not-T (ltb b a) (λ u. le-not-lt (leb→le a b t) (ltb→lt b a u))) (λ t. le→leb a b (nltb→le b a t))
+le-is-not-lt a b =
+    same-by (leb a b) (not (ltb b a)) (λ t. not-T (ltb b a) (λ u. le-not-lt (leb→le a b t) (ltb→lt b a u)))
+    (λ t. le→leb a b (nltb→le b a t))
   where
     le-not-lt : a ≤ b → b < a → ⊥
     le-not-lt h k = omega arith
@@ -64,6 +67,10 @@ depth-accepted text (c ∷ d ∷ e ∷ cs) t = absurd t
 pub asking-line-holds : (line : List ℕ) → AskingLine line
 asking-line-holds line = record {
   no-blank = λ t. ap (λ (p : Parted). asked-text (asked-by p)) (parted-none line t);
-  no-depth = λ text rest e t u. ap (λ (l : List ℕ). asked-text (asked-by (parted l))) e ∙ ap (λ (p : Parted). asked-text (asked-by p)) (parted-last text rest t) ∙ ap asked-text (depth-refused text rest u);
-  accepted = λ text rest e t u. ap (λ (l : List ℕ). line-refusal (asked-by (parted l))) e ∙ ap (λ (p : Parted). line-refusal (asked-by p)) (parted-last text rest t) ∙ depth-accepted text rest u;
+  no-depth =
+      λ text rest e t u. ap (λ (l : List ℕ). asked-text (asked-by (parted l))) e
+      ∙ ap (λ (p : Parted). asked-text (asked-by p)) (parted-last text rest t) ∙ ap asked-text (depth-refused text rest u);
+  accepted =
+      λ text rest e t u. ap (λ (l : List ℕ). line-refusal (asked-by (parted l))) e
+      ∙ ap (λ (p : Parted). line-refusal (asked-by p)) (parted-last text rest t) ∙ depth-accepted text rest u;
 }

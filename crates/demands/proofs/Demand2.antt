@@ -41,7 +41,8 @@ neat-fresh-same g p n f e = record {
   endgame-is = ap analysis e;
   move-status-is = λ m. ap (λ (q : Position). evaluate-move q m) e;
   search-is = λ m c words. let rs = responses-of (m .responses) in
-      reported-rules (scoring-of c) (settings-of c) g n f rs words ∙ ap (λ (q : Position). reported (game (scoring-of c)) (settings-of c) q rs words) e;
+      reported-rules (scoring-of c) (settings-of c) g n f rs words ∙ ap
+      (λ (q : Position). reported (game (scoring-of c)) (settings-of c) q rs words) e;
   bound-depth-is = ap bound-depth e;
   open-boards-are = ap open-boards e;
   equivalent-first = λ q. ap (λ (x : Position). equivalent x q) e;
@@ -67,7 +68,9 @@ module _ (text : List ℕ) (r : Parsed) (h : Parses text r) (p : Position) (e : 
 
   -- and all play from it
   pub read-played-same : (ms : List ℕ) → SameAs (games-after (r .game) ms) (reached p ms)
-  read-played-same ms = neat-fresh-same (games-after (r .game) ms) (reached p ms) (played-neat (r .game) ms is-neat) (played-hash (r .game) ms is-neat is-fresh)
+  read-played-same ms =
+      neat-fresh-same (games-after (r .game) ms) (reached p ms) (played-neat (r .game) ms is-neat)
+      (played-hash (r .game) ms is-neat is-fresh)
       (played-means (r .game) ms is-neat ∙ ap (λ (q : Position). reached q ms) means)
 
 pub demand-2 : Demand2

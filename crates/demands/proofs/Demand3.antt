@@ -1,4 +1,5 @@
--- After every list of tried moves the game means the position that the rules reach, with its fresh hash, so each answer is the rules' own there.
+-- After every list of tried moves the game means the position that the rules reach, with its fresh hash, so each answer is the rules' own
+-- there.
 use mathlib.Core.Path.{_≡_, refl, sym, ap, _∙_, subst}
 use mathlib.Core.List.{List, [], _∷_}
 use Prim.Native.Nat.{ℕ}
@@ -40,7 +41,8 @@ pub none-long : (words : List ℕ) → length words ≡ 0 → words ≡ []
 none-long [] e = refl
 none-long (w ∷ words) e = absurd (omega arith)
 
-module _ (ms : List ℕ) (m : Minimax) (c : Config) (g : Game) (a : Analysis) (rep : Report) (g-is : g ≡ games-after new-game ms) (a-is : Analyses g a) (rep-is : report-of rep [] ≡ reported-of m g c []) where
+module _ (ms : List ℕ) (m : Minimax) (c : Config) (g : Game) (a : Analysis) (rep : Report) (g-is : g ≡ games-after new-game ms)
+    (a-is : Analyses g a) (rep-is : report-of rep [] ≡ reported-of m g c []) where
   abbrev rs : Responses
   rs = responses-of (m .responses)
 
@@ -57,7 +59,9 @@ module _ (ms : List ℕ) (m : Minimax) (c : Config) (g : Game) (a : Analysis) (r
   is-neat = subst (λ (x : Game). T (neat x)) (sym g-is) (new-played-neat ms)
 
   report-is : report-of rep [] ≡ reported (game (scoring-of c)) (settings-of c) p rs []
-  report-is = rep-is ∙ reported-rules (scoring-of c) (settings-of c) g is-neat fresh rs [] ∙ ap (λ (q : Position). reported (game (scoring-of c)) (settings-of c) q rs []) means
+  report-is =
+      rep-is ∙ reported-rules (scoring-of c) (settings-of c) g is-neat fresh rs []
+      ∙ ap (λ (q : Position). reported (game (scoring-of c)) (settings-of c) q rs []) means
 
   pub demand-3 : Demand3 ms m c (record { game = g; analysis = a; report = rep })
   demand-3 = record {
@@ -68,8 +72,16 @@ module _ (ms : List ℕ) (m : Minimax) (c : Config) (g : Game) (a : Analysis) (r
     status-is = a-is .status ∙ ap (λ (q : Position). status-of (analysis q .status)) means;
     counts-are = a-is .stats ∙ ap (λ (q : Position). analysis q .stats) means;
     report-is = report-is;
-    answered = λ t. a-is .refusal ∙ ap (λ (q : Position). analysis q .refusal) means ∙ ap (λ (y : Found). y .refusal) (analysis-sound p t (good-is-sound p (reached-good start start-is-good ms) t) .2);
-    mark-says = λ t. subst (MarkSays (scoring-of c) (settings-of c) rs p) (sym report-is) (reported-marks ms t (scoring-of c) (settings-of c) rs);
-    right = λ t n. subst (ReportsMinimax (scoring-of c) (settings-of c) rs p) (sym report-is) (reported-right ms t (scoring-of c) (settings-of c) rs n);
-    status-holds = λ t e. subst (λ (x : Reported). StatusHolds (settings-of c) rs p x (analysis p .status)) (sym (report-is ∙ ap (λ (w : DrawWinner). reported (game (scoring-with w)) (settings-of c) p rs []) e)) (reported-holds ms t (settings-of c) rs);
+    answered =
+        λ t. a-is .refusal ∙ ap (λ (q : Position). analysis q .refusal) means
+        ∙ ap (λ (y : Found). y .refusal) (analysis-sound p t (good-is-sound p (reached-good start start-is-good ms) t) .2);
+    mark-says =
+        λ t. subst (MarkSays (scoring-of c) (settings-of c) rs p) (sym report-is) (reported-marks ms t (scoring-of c) (settings-of c) rs);
+    right =
+        λ t n. subst (ReportsMinimax (scoring-of c) (settings-of c) rs p) (sym report-is)
+        (reported-right ms t (scoring-of c) (settings-of c) rs n);
+    status-holds =
+        λ t e. subst (λ (x : Reported). StatusHolds (settings-of c) rs p x (analysis p .status))
+        (sym (report-is ∙ ap (λ (w : DrawWinner). reported (game (scoring-with w)) (settings-of c) p rs []) e))
+        (reported-holds ms t (settings-of c) rs);
   }

@@ -19,9 +19,11 @@ use Rattle.rules.specs.declared.CellState.the-variants.{Empty}
 use Rattle.rules.specs.declared.GameState.the-variants.{InPlay, Drawn}
 use Rattle.rules.specs.Position.{Position}
 use Rattle.rules.specs.Play.{no-move, move-of}
-use Rattle.text.specs.Reading.{Reading, reads, refuses, side-of, won-mark, overall-mark, played-mark, cell-mark, known, sections, one-on, first-bad, fault-at, first-fault, lone-side, read}
+use Rattle.text.specs.Reading.{Reading, reads, refuses, side-of, won-mark, overall-mark, played-mark, cell-mark, known, sections, one-on}
+use Rattle.text.specs.Reading.{first-bad, fault-at, first-fault, lone-side, read}
 use Rattle.text.specs.MoveText.{MoveReading, reads-move, bad-length, bad-character, move-refusal, coordinate, read-letters, read-move}
-use Rattle.text.proofs.Reading.{Parted, Sided, Marked, Answer as Answered, too-long, not-three, bad-side, not-nine, bad-mark, bad-cells, good, read-answers}
+use Rattle.text.proofs.Reading.{Parted, Sided, Marked, Answer as Answered, too-long, not-three, bad-side, not-nine, bad-mark, bad-cells}
+use Rattle.text.proofs.Reading.{good, read-answers}
 use Rattle.game.specs.declared.Game.{Game}
 use Rattle.game.specs.Built.{new-game}
 use Rattle.notation.specs.declared.ParseError.{ParseError}
@@ -32,7 +34,8 @@ use Rattle.notation.specs.declared.MoveTextAnswer.{MoveTextAnswer}
 use Rattle.notation.specs.declared.MoveTextAnswer.the-variants.{Read, BadLength, BadCharacter}
 use Rattle.notation.specs.declared.ParsedMove.{ParsedMove}
 use Rattle.notation.specs.Parsed.{parse-number, reading-of, game-for, Parses, move-reading-of, move-for, move-number, Parses-move}
-use Rattle.demands.specs.Demand1.{letters, ReadingMove, side-letter, good-mark, good-cell, marks-from, cell-checks, text-checks, numbers, offsets, lengths, ReadingPosition}
+use Rattle.demands.specs.Demand1.{letters, ReadingMove, side-letter, good-mark, good-cell, marks-from, cell-checks, text-checks}
+use Rattle.demands.specs.Demand1.{numbers, offsets, lengths, ReadingPosition}
 
 -- ---- reading a move
 -- what is claimed of a reading, by its checks and those that give the byte: its number, its byte, and its move
@@ -67,9 +70,11 @@ unfolding read-letters
 reads-so [] = reads-length _ _ _ _ tt
 reads-so (b ∷ []) = reads-length _ _ _ _ tt
 reads-so (b ∷ c ∷ []) = reads-letters (coordinate b) (coordinate c) b c _
-reads-so (b ∷ c ∷ d ∷ cs) = let n = length (b ∷ c ∷ d ∷ cs) in reads-length _ _ _ _ (not-T (eqb n 2) (λ t. omega (arith, eqb→eq n 2 t)))
+reads-so (b ∷ c ∷ d ∷ cs) =
+    let n = length (b ∷ c ∷ d ∷ cs) in reads-length _ _ _ _ (not-T (eqb n 2) (λ t. omega (arith, eqb→eq n 2 t)))
 
-answers-byte : (a : MoveTextAnswer) (m byte : ℕ) → move-number a ≡ 8 → move-reading-of a m ≡ bad-character byte → a ≡ BadCharacter byte
+answers-byte : (a : MoveTextAnswer) (m byte : ℕ) → move-number a ≡ 8 → move-reading-of a m ≡ bad-character byte →
+    a ≡ BadCharacter byte
 answers-byte Read m byte e q = absurd (omega (arith, e))
 answers-byte BadLength m byte e q = absurd (omega (arith, e))
 answers-byte (BadCharacter c) m byte e q = cc
@@ -162,7 +167,8 @@ Fits : List (Bool × ℕ × ℕ × ℕ) → Reading → Type 0
 Fits cs (reads p) = first-failed (numbers cs) ≡ 0
 Fits cs (refuses n o l) = (first-failed (numbers cs) ≡ n) × (first-failed (offsets cs) ≡ o) × (first-failed (lengths cs) ≡ l)
 
-passes : (t : Bool) (n o l : ℕ) (cs : List (Bool × ℕ × ℕ × ℕ)) (x : Reading) → T t → Fits cs x → Fits ((t, n, o, l) ∷ cs) x
+passes : (t : Bool) (n o l : ℕ) (cs : List (Bool × ℕ × ℕ × ℕ)) (x : Reading) → T t → Fits cs x →
+    Fits ((t, n, o, l) ∷ cs) x
 unfolding Fits first-failed if_then_else_
 passes true n o l cs (reads p) t h = h
 passes true n o l cs (refuses n' o' l') t h = h

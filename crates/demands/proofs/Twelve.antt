@@ -14,14 +14,17 @@ use Rattle.rules.specs.Moves.{places, moves}
 use Rattle.rules.specs.Sound.{sound, proper}
 use Rattle.rules.specs.Hash.{cell-key, board-key, next-board-key, xors, cells-hash, board-hash, hash, with-turn, zobrist, hash-after}
 use Rattle.rules.specs.Evaluation.{places-in, unless-both, board-line, board-score, overall-line, score, evaluate}
-use Rattle.rules.specs.Endgame.{completes, winning, critical, has-critical, suits, all-suit, lure, attack, prove-attacker, forced, forced-loss, winnable, proven, narrow, combine, merged, endgame-stats, or-unproven, analysis}
+use Rattle.rules.specs.Endgame.{completes, winning, critical, has-critical, suits, all-suit, lure, attack, prove-attacker, forced}
+use Rattle.rules.specs.Endgame.{forced-loss, winnable, proven, narrow, combine, merged, endgame-stats, or-unproven, analysis}
 use Rattle.rules.specs.Status.{from-byte, merge}
-use Rattle.text.specs.Reading.{Reading, reads, side-of, overall-mark, cell-mark, sections, first-bad, last-at, fault-at, first-fault, cell-in, state-in, said, read-cells, read-overall, read}
+use Rattle.text.specs.Reading.{Reading, reads, side-of, overall-mark, cell-mark, sections, first-bad, last-at, fault-at, first-fault}
+use Rattle.text.specs.Reading.{cell-in, state-in, said, read-cells, read-overall, read}
 use Rattle.text.specs.ProgramLine.{parted, depth-of, in-places, decimal, signed, move-letters}
 use Rattle.text.specs.MoveText.{read-letters}
 use Rattle.theory.specs.Table.{from-word, entry-of, off, begins, look-up, store, suffices, bound-of}
 use Rattle.theory.specs.Memory.{begin, enter, leaf, hit, answered, cut, some-move, hints}
-use Rattle.theory.specs.OrderedSearch.{unless-stopped, entering, probed, on-probe, with-stored, set-first, fresh, candidates, over-moves, search}
+use Rattle.theory.specs.OrderedSearch.{unless-stopped, entering, probed, on-probe, with-stored, set-first, fresh, candidates, over-moves}
+use Rattle.theory.specs.OrderedSearch.{search}
 use Rattle.theory.specs.Deepening.{on-outcome, deepen, analyze}
 use Rattle.theory.specs.Reported.{entry-refusal, reported}
 use Rattle.program_line.specs.Answered.{reading-text, answer-line, report-text, position-text}
@@ -33,7 +36,14 @@ unfolding parted depth-of quoted e9 empty-position if_then_else_
 asking = tt
 
 computing : Unit {0}
-unfolding if_then_else_ any all filter elem concat-map update sum has-line result first-failed accepts all-pass after play left-by tried places moves sound proper cell-key board-key next-board-key xors cells-hash board-hash hash with-turn zobrist hash-after places-in unless-both board-line board-score overall-line score evaluate completes winning critical has-critical suits all-suit lure attack prove-attacker forced forced-loss winnable proven narrow combine merged endgame-stats or-unproven analysis from-byte merge side-of overall-mark cell-mark sections first-bad last-at fault-at first-fault cell-in state-in said read-cells read-overall read parted depth-of in-places decimal signed move-letters read-letters from-word entry-of off begins look-up store suffices bound-of begin enter leaf hit answered cut some-move hints unless-stopped entering probed on-probe with-stored set-first fresh candidates over-moves search on-outcome deepen analyze entry-refusal reported report-text position-text quoted e9 c9 empty-position
+unfolding if_then_else_ any all filter elem concat-map update sum has-line result first-failed accepts all-pass after play left-by tried
+    places moves sound proper cell-key board-key next-board-key xors cells-hash board-hash hash with-turn zobrist hash-after places-in
+    unless-both board-line board-score overall-line score evaluate completes winning critical has-critical suits all-suit lure attack
+    prove-attacker forced forced-loss winnable proven narrow combine merged endgame-stats or-unproven analysis from-byte merge side-of
+    overall-mark cell-mark sections first-bad last-at fault-at first-fault cell-in state-in said read-cells read-overall read parted
+    depth-of in-places decimal signed move-letters read-letters from-word entry-of off begins look-up store suffices bound-of begin enter
+    leaf hit answered cut some-move hints unless-stopped entering probed on-probe with-stored set-first fresh candidates over-moves search
+    on-outcome deepen analyze entry-refusal reported report-text position-text quoted e9 c9 empty-position
 computing = tt
 
 -- the empty board's text, as the worked examples have it

@@ -44,8 +44,8 @@ module _ (sc : Scoring) (c : Settings) (rs : Responses) (p : Position) where
       pub some-depth : 1 ≤ x .depth
       pub no-deeper : x .depth ≤ c .max-depth
       pub deep : (x .depth ≡ c .max-depth) ⊎ T (decided (x .score))
-      -- its moves up to that depth, or to the game's end if sooner, are each accepted, and the evaluation of the position reached, negated if the
-      -- other side is then to move, is the score
+      -- its moves up to that depth, or to the game's end if sooner, are each accepted, and the evaluation of the position reached, negated
+      -- if the other side is then to move, is the score
       pub line-legal : T (play-out (game sc) (x .depth) p (x .pv) .accepted)
       pub line-ends : x .score ≡ ends-on (game sc) (x .depth) p (x .pv)
 

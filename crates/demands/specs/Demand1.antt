@@ -135,7 +135,8 @@ pub record Analysing (g : Game) (a : Analysis) : Type 0 where
 
 -- a move's status: 14 first, then what playing refuses
 pub record JudgingMove (g : Game) (m : Move) (r : MoveStatus) : Type 0 where
-  pub number : move-status-number (r .answer) ≡ first-failed (analysing g ++ checks (position-of g) (board-of (m .bits)) (cell-of (m .bits)))
+  pub number : move-status-number (r .answer) ≡ first-failed (analysing g ++
+      checks (position-of g) (board-of (m .bits)) (cell-of (m .bits)))
   pub refused : (move-status-number (r .answer) ≡ 0 → ⊥) → r .status ≡ status-of unproven
 
 -- ---- looking at a cell or a board, and building a move
@@ -235,7 +236,8 @@ one-or-two-digits (c ∷ d ∷ e ∷ cs) = false
 -- 19 where there is no blank, or what follows the last one is not one or two digits; it comes before all other numbers
 pub record AskingLine (line : List ℕ) : Type 0 where
   pub no-blank : T (not (elem 0x20 line)) → answer-line line ≡ refusal-text 19
-  pub no-depth : (text rest : List ℕ) → line ≡ text ++ (0x20 ∷ rest) → T (not (elem 0x20 rest)) → T (not (one-or-two-digits rest)) →
+  pub no-depth : (text rest : List ℕ) → line ≡ text ++ (0x20 ∷ rest) → T (not (elem 0x20 rest)) →
+      T (not (one-or-two-digits rest)) →
       answer-line line ≡ refusal-text 19
   pub accepted : (text rest : List ℕ) → line ≡ text ++ (0x20 ∷ rest) → T (not (elem 0x20 rest)) → T (one-or-two-digits rest) →
       line-refusal (asked line) ≡ 0

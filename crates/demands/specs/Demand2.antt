@@ -1,5 +1,5 @@
--- Demand 2: of a position that was read and of all play from it, the engine's struct answers as the written rules, Zobrist's hash and the ordered
--- search do.
+-- Demand 2: of a position that was read and of all play from it, the engine's struct answers as the written rules, Zobrist's hash and the
+-- ordered search do.
 use mathlib.Core.Path.{_≡_}
 use mathlib.Core.List.{List}
 use Prim.Native.Nat.{ℕ}
@@ -56,7 +56,9 @@ pub record SameAs (g : Game) (p : Position) : Type 0 where
   pub equivalent-first : (q : Position) → equivalent (position-of g) q ≡ equivalent p q
   pub equivalent-second : (q : Position) → equivalent q (position-of g) ≡ equivalent q p
 
--- "For ASCII positions of at most 256 bytes, all play from them, and accepted settings": for every text that reads as a position, whatever `parse`'s
--- promise lets it give for the text, and every list of moves tried from there, refused ones included
+-- "For ASCII positions of at most 256 bytes, all play from them, and accepted settings": for every text that reads as a position, whatever
+-- `parse`'s promise lets it give for the text, and every list of moves tried from there, refused ones included
 abbrev pub Demand2 : Type 0
-Demand2 = (text : List ℕ) (r : Parsed) → Parses text r → (p : Position) → read text ≡ reads p → (ms : List ℕ) → SameAs (games-after (r .game) ms) (reached p ms)
+Demand2 =
+    (text : List ℕ) (r : Parsed) → Parses text r → (p : Position) → read text ≡ reads p → (ms : List ℕ) →
+    SameAs (games-after (r .game) ms) (reached p ms)

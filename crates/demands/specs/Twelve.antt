@@ -41,8 +41,10 @@ pub record Twelve : Type 0 where
   pub fourth : answer-line (quoted "X 3") ≡ quoted "E 2"
   pub empty-text : text-refusal (read []) ≡ 2
   pub one-short : (length (take 100 empty-position) ≡ 100) × (text-refusal (read (take 100 empty-position)) ≡ 6)
-  pub longest : (length (empty-position ++ replicate 155 0x2e) ≡ 256) × (text-refusal (read (empty-position ++ replicate 155 0x2e)) ≡ 0)
-  pub too-long : (length (empty-position ++ replicate 156 0x2e) ≡ 257) × (text-refusal (read (empty-position ++ replicate 156 0x2e)) ≡ 1)
+  pub longest : (length (empty-position ++ replicate 155 0x2e) ≡ 256) ×
+      (text-refusal (read (empty-position ++ replicate 155 0x2e)) ≡ 0)
+  pub too-long : (length (empty-position ++ replicate 156 0x2e) ≡ 257) ×
+      (text-refusal (read (empty-position ++ replicate 156 0x2e)) ≡ 1)
   pub last-move : read-move (quoted "ii") ≡ reads-move 0x88
   pub no-move-text : move-refusal (read-move (quoted "ij")) ≡ 8
   pub empty-key : zobrist start ≡ 5407203028010692663

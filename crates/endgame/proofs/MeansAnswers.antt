@@ -30,7 +30,8 @@ analysis-made p t u = analysis-cases p (λ a. a ≡ record { refusal = 0; status
 
 -- ---- what the code returns, against a case of the analysis
 pub analyses-as : (g : Game) (r : Analysis) (a : Analysed) → analysis (position-of g) ≡ a →
-    analysis-number (r .answer) ≡ a .refusal → r .proven ≡ status-of (a .status) → endgame-stats-of (r .stats) ≡ a .stats → Analyses g r
+    analysis-number (r .answer) ≡ a .refusal → r .proven ≡ status-of (a .status) → endgame-stats-of (r .stats) ≡ a .stats →
+    Analyses g r
 analyses-as g r a e n s c = record {
   refusal = n ∙ sym (ap (λ (x : Analysed). x .refusal) e);
   status = s ∙ sym (ap (λ (x : Analysed). status-of (x .status)) e);
@@ -54,12 +55,16 @@ module _ (p : Position) (m : ℕ) where
     fine = rw e tt
 
     pub may-judge : refusal (play p m) ≡ 0 → T (sound p) × (cell-of m < 9)
-    may-judge z = let l = accepts→ p m (nought-accepts p m z) in
-        (not-not (sound p) (not-T (not (sound p)) (λ n. T-not (unfinished p && not (sound p)) fine (→and (unfinished p) _ (l .unfinished) n))), l .cell)
+    may-judge z = let l = accepts→ p m (nought-accepts p m z) in (
+      not-not (sound p) (not-T (not (sound p)) (λ n. T-not (unfinished p && not (sound p)) fine
+          (→and (unfinished p) _ (l .unfinished) n))),
+      l .cell,
+    )
 
     pub judged-played : refusal (play p m) ≡ 0 → evaluate-move p m ≡ record { refusal = 0; status = judge p m }
     judged-played z = evaluate-judged p m fine (nought-accepts p m z)
 
-    pub judged-refused : (n : ℕ) → 0 < n → n ≡ refusal (play p m) → evaluate-move p m ≡ record { refusal = n; status = unproven }
+    pub judged-refused : (n : ℕ) → 0 < n → n ≡ refusal (play p m) → evaluate-move p m
+        ≡ record { refusal = n; status = unproven }
     judged-refused n h q = evaluate-refused p m fine (refused-not-accepts p m (λ z. omega (arith, q ∙ z)))
         ∙ ap (λ (k : ℕ). record { refusal = k; status = unproven }) (first-is-refusal p m ∙ sym q)

@@ -11,7 +11,8 @@ use Rattle.rules.specs.declared.Player.the-variants.{X, O}
 use Rattle.rules.specs.Board.{other}
 use Rattle.rules.specs.Status.{Status as Set, unproven, for-player, from-byte}
 use Rattle.rules.specs.Position.{Position}
-use Rattle.rules.specs.Endgame.{has-critical, prove-attacker, forced-loss, winnable, proven, narrow, combine, merged, endgame-stats, or-unproven}
+use Rattle.rules.specs.Endgame.{has-critical, prove-attacker, forced-loss, winnable, proven, narrow, combine, merged, endgame-stats}
+use Rattle.rules.specs.Endgame.{or-unproven}
 use Rattle.rules.proofs.Endgame.{merged-is-a-set}
 use Rattle.status.specs.declared.Status.{Status}
 use Rattle.status.specs.declared.Read.the-variants.{Set as IsSet, Nothing}
@@ -51,11 +52,13 @@ module _ (can : Bool) (t : Set) (s : Option Set) where
       go (some s) = refl
 
 module _ (can : Bool) (left : Status) (t : Set) (s : Option Set) (l : left ≡ status-of t) where
-  pub narrow-set : can ≡ false → (a : Status) → IsSet a ≡ read-of s → read-of (from-byte (bitAnd (a .bits) (left .bits))) ≡ read-of (narrow can t s)
+  pub narrow-set : can ≡ false → (a : Status) → IsSet a ≡ read-of s → read-of (from-byte (bitAnd (a .bits) (left .bits)))
+      ≡ read-of (narrow can t s)
   unfolding narrow if_then_else_
   narrow-set e a q = rw (e, l) (go s q)
     where
-      go : (s : Option Set) → IsSet a ≡ read-of s → read-of (from-byte (bitAnd (a .bits) (status-of t .bits))) ≡ read-of (narrow false t s)
+      go : (s : Option Set) → IsSet a ≡ read-of s → read-of (from-byte (bitAnd (a .bits) (status-of t .bits)))
+          ≡ read-of (narrow false t s)
       go none q = absurd (let z : _≡_ {A = ℕ} 0 1 = cc in omega arith)
       go (some s) q = let h : a ≡ status-of s = cc in rw (h, merge-is-common s t)
 
@@ -80,10 +83,13 @@ never-none (some s) a q = let z : _≡_ {A = ℕ} 0 1 = cc in omega arith
 
 -- as they do at every position: the rules' law of the merges
 module _ (p : Position) (t : Player) (wins loses x o : Bool)
-    (et : t ≡ p .turn) (ew : wins ≡ prove-attacker p) (el : loses ≡ (not (prove-attacker p) && forced-loss p)) (ex : x ≡ winnable p X) (eo : o ≡ winnable p O) where
+    (et : t ≡ p .turn) (ew : wins ≡ prove-attacker p) (el : loses ≡ (not (prove-attacker p) && forced-loss p))
+    (ex : x ≡ winnable p X) (eo : o ≡ winnable p O) where
   pub combined-is-merged : combine t wins loses x o ≡ merged p
   unfolding merged
-  combined-is-merged = (λ i. combine (et i) (ew i) (el i) (ex i) (eo i)) ∙ loss-after-win (p .turn) (prove-attacker p) (forced-loss p) (winnable p X) (winnable p O)
+  combined-is-merged =
+      (λ i. combine (et i) (ew i) (el i) (ex i) (eo i)) ∙ loss-after-win (p .turn) (prove-attacker p) (forced-loss p) (winnable p X)
+      (winnable p O)
 
   pub sets-agree : Agrees (combine t wins loses x o)
   sets-agree = let r = merged-is-a-set p in (r .0, combined-is-merged ∙ r .1)
@@ -99,10 +105,12 @@ not-so : (b : Bool) → if-so (not b) ≡ if-not b
 not-so true = refl
 not-so false = refl
 
-pub counts : (p : Position) (s : EndgameStats) (a d wins loses x o : Bool) → a ≡ has-critical p (p .turn) → d ≡ has-critical p (other (p .turn)) →
+pub counts : (p : Position) (s : EndgameStats) (a d wins loses x o : Bool) → a ≡ has-critical p (p .turn) →
+    d ≡ has-critical p (other (p .turn)) →
     wins ≡ prove-attacker p → loses ≡ (not (prove-attacker p) && forced-loss p) → x ≡ winnable p X → o ≡ winnable p O →
     s .«attacker_critical» ≡ if-so a → s .«defender_critical» ≡ if-so d → s .«both_critical» ≡ if-so (a && d) →
-    s .unwinnable ≡ if-so (not x) + if-so (not o) → s .«prove_attacker» ≡ if-so wins → s .«prove_defender» ≡ if-so loses → endgame-stats-of s ≡ endgame-stats p
+    s .unwinnable ≡ if-so (not x) + if-so (not o) → s .«prove_attacker» ≡ if-so wins → s .«prove_defender» ≡ if-so loses →
+    endgame-stats-of s ≡ endgame-stats p
 unfolding endgame-stats
 counts p s a d wins loses x o ea ed ew el ex eo sa sd sb su sw sl = λ i. record {
   attacker-critical = (sa ∙ ap if-so ea) i;

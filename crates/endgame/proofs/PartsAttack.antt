@@ -1,5 +1,5 @@
--- The proofs of the side to move's win and loss: a critical set holds no board over 8, as no side of a sound position has a line yet, and the sets of boards
--- say what the written tests say of each board.
+-- The proofs of the side to move's win and loss: a critical set holds no board over 8, as no side of a sound position has a line yet, and
+-- the sets of boards say what the written tests say of each board.
 use mathlib.Core.Path.{_≡_, refl, sym, ap, ap₂, _∙_}
 use mathlib.Core.Bool.{Bool, true, false, not, _||_, _&&_}
 use Prim.Native.Nat.{ℕ, _≤_, _<_}
@@ -21,7 +21,8 @@ use Rattle.rules.specs.Position.{Position, open-board, won-boards, free-cell}
 use Rattle.rules.specs.Play.{board-of, cell-of}
 use Rattle.rules.specs.Sound.{sound}
 use Rattle.rules.specs.Status.{unproven, for-player}
-use Rattle.rules.specs.Endgame.{completes, critical, has-critical, suits, all-suit, lure, attack, prove-attacker, forced, forced-loss, judge}
+use Rattle.rules.specs.Endgame.{completes, critical, has-critical, suits, all-suit, lure, attack, prove-attacker, forced, forced-loss}
+use Rattle.rules.specs.Endgame.{judge}
 use Rattle.rules.proofs.Board.{nine-in}
 use Rattle.rules.proofs.Endgame.{crit→}
 use Rattle.rules.proofs.Sound.{sound→}
@@ -37,7 +38,8 @@ pub critical-past : (p : Position) → T (sound p) → (w : Player) (b : ℕ) �
 unfolding completes
 critical-past p s w b h = false-by (critical p w b) (λ t.
     T-not (has-line (won-boards p w)) (sound→ p s .no-line w)
-    (rw (line-same (update (won-boards p w) b true) (won-boards p w) (λ k l. update-else (won-boards p w) b k (λ e. omega arith))) at (crit→ p w b t .boards)))
+    (rw (line-same (update (won-boards p w) b true) (won-boards p w) (λ k l. update-else (won-boards p w) b k (λ e. omega arith))) at
+    (crit→ p w b t .boards)))
 
 -- the set of a side that is known otherwise
 pub set-of-side : (p : Position) (w v : Player) (n : ℕ) → n ≡ digits (critical p w) 9 → w ≡ v → n ≡ digits (critical p v) 9
@@ -97,12 +99,16 @@ unfolding regrouped
 regroup a b c d e f = sameB-eq _ _ (always 6 regrouped tt a b c d e f)
 
 module _ (p : Position) (w : Player) (mine others done dests b : ℕ)
-    (e : mine ≡ digits (critical p w) 9) (d : others ≡ digits (critical p (other w)) 9) (c : done ≡ digits (λ b. not (open-board p b)) 9)
+    (e : mine ≡ digits (critical p w) 9) (d : others ≡ digits (critical p (other w)) 9)
+    (c : done ≡ digits (λ b. not (open-board p b)) 9)
     (g : dests ≡ digits (λ i. free-cell p b i && (open-board p i && (not (bit (bitOr mine others) i) && not (eqb i b)))) 9) where
   pub lures : any (λ i. bit dests i && all (λ k. not (free-cell p i k) || bit (bitOr done mine) k) nine) nine ≡ any (lure p w b) nine
   unfolding lure
-  lures = any-same (λ i. bit dests i && all (λ k. not (free-cell p i k) || bit (bitOr done mine) k) nine) (lure p w b) nine (λ i m. let h = nine-in i m in
-      ap₂ _&&_ (set-bit _ dests g i h ∙ ap (λ (x : Bool). free-cell p b i && (open-board p i && (not x && not (eqb i b)))) (joined-bit (critical p w) (critical p (other w)) mine others e d i h))
+  lures =
+      any-same (λ i. bit dests i && all (λ k. not (free-cell p i k) || bit (bitOr done mine) k) nine) (lure p w b) nine
+      (λ i m. let h = nine-in i m in
+      ap₂ _&&_ (set-bit _ dests g i h ∙ ap (λ (x : Bool). free-cell p b i && (open-board p i && (not x && not (eqb i b))))
+      (joined-bit (critical p w) (critical p (other w)) mine others e d i h))
       (sends-suit p w mine e done c i)
       ∙ regroup (free-cell p b i) (open-board p i) (critical p w i) (critical p (other w) i) (eqb i b) (all-suit p w i))
 
@@ -141,7 +147,8 @@ module _ (p : Position) (m : ℕ) where
   unfolding judge if_then_else_
   judged-blocking c = go (has-critical p v)
     where
-      go : (a : Bool) → unproven ≡ (if a && (not (critical p v (board-of m)) && suits p v (cell-of m)) then (λ _. for-player v) else λ _. unproven)
+      go : (a : Bool) → unproven ≡ (if a && (not (critical p v (board-of m)) && suits p v (cell-of m)) then (λ _. for-player v)
+          else λ _. unproven)
       go true = rw c
       go false = refl
 

@@ -1,4 +1,5 @@
--- Critical boards line by line: what a line lacks is one place, so the lines' boards together are the Rust's, which of a sound position are the written ones.
+-- Critical boards line by line: what a line lacks is one place, so the lines' boards together are the Rust's, which of a sound position are
+-- the written ones.
 use mathlib.Core.Path.{_≡_, refl, sym, ap, ap₂, _∙_, subst}
 use mathlib.Core.Bool.{Bool, true, false, not, cond, _||_, _&&_, and-true, and-false}
 use mathlib.Core.Logic.{inl, inr}
@@ -47,7 +48,8 @@ low-test : Line → Bool
 low-test l = ltb (l .i) 9 && (ltb (l .j) 9 && ltb (l .k) 9)
 
 -- a line with one empty place has it among the nine
-lone-place : (empty : ℕ → Bool) (l : Line) → In l lines → T (eqb (places-in empty l) 1) → (c : ℕ) × (c < 9) × T (empty c) × T (on c l)
+lone-place : (empty : ℕ → Bool) (l : Line) → In l lines → T (eqb (places-in empty l) 1) → (c : ℕ) × (c < 9) × T (empty c) ×
+    T (on c l)
 unfolding low-test all places-in
 lone-place empty l i t =
     let r = and→ (ltb (l .i) 9) _ (all-each low-test l lines tt i) in let s = and→ (ltb (l .j) 9) _ (r .1) in
@@ -89,13 +91,16 @@ module _ (own empty : ℕ → Bool) where
       let r = any-some (λ c. empty c && rust-critical own empty c) nine t in
       let s = any-some (sole-empty own empty (r .0)) lines (and→ (empty (r .0)) _ (r .2) .1) in let l = s .0 in
       let u = and→ (all-three (λ i. own i || empty i) l) _ (s .2) in
-      some-any (lacks-one own empty) l lines (s .1) (→and (all-three (λ i. own i || empty i) l) _ (u .0) (and→ (eqb (places-in empty l) 1) _ (u .1) .0))
+      some-any (lacks-one own empty) l lines (s .1) (→and (all-three (λ i. own i || empty i) l) _ (u .0)
+      (and→ (eqb (places-in empty l) 1) _ (u .1) .0))
 
 -- ---- the lines' boards together
 module _ (p : Position) (f : Fair p) (w : Player) where
   pub by-lines : (b : ℕ) → b < 9 → any (λ l. critical-by p w l b) lines ≡ critical p w b
   unfolding critical-by lacks-one rust-critical-board rust-critical sole-empty
-  by-lines b h = same-by (any (λ l. critical-by p w l b) lines) (critical p w b) (λ t. critical-is-rusts p f w b h .0 (there t)) (λ t. back (critical-is-rusts p f w b h .1 t))
+  by-lines b h =
+      same-by (any (λ l. critical-by p w l b) lines) (critical p w b) (λ t. critical-is-rusts p f w b h .0 (there t))
+      (λ t. back (critical-is-rusts p f w b h .1 t))
     where
       covered : Line → Bool
       covered l = all-three (λ i. won-boards p w i || open-board p i) l
@@ -109,7 +114,8 @@ module _ (p : Position) (f : Fair p) (w : Player) where
           let v = and→ (covered l) _ (u .0) in
           →and (open-board p b) _ (o .0) (→and (rust-critical (won-boards p w) (open-board p) b) _
           (some-any (sole-empty (won-boards p w) (open-board p) b) l lines (r .1)
-          (→and (covered l) _ (v .0) (→and (eqb (places-in (open-board p) l) 1) _ (v .1) (subst (λ (x : Bool). T x) (on-line l b (r .1) h) (o .1)))))
+          (→and (covered l) _ (v .0) (→and (eqb (places-in (open-board p) l) 1) _ (v .1)
+          (subst (λ (x : Bool). T x) (on-line l b (r .1) h) (o .1)))))
           (lacking-found (has p w b) (free-cell p b) (u .1)))
 
       back : T (rust-critical-board p w b) → T (any (λ l. critical-by p w l b) lines)
@@ -119,8 +125,10 @@ module _ (p : Position) (f : Fair p) (w : Player) where
           let r = any-some (sole-empty (won-boards p w) (open-board p) b) lines (q .0) in let l = r .0 in
           let u = and→ (covered l) _ (r .2) in let v = and→ (eqb (places-in (open-board p) l) 1) _ (u .1) in
           some-any (λ l. critical-by p w l b) l lines (r .1)
-          (→and (open-board p b && bit (mask-of l) b) _ (→and (open-board p b) _ (o .0) (subst (λ (x : Bool). T x) (sym (on-line l b (r .1) h)) (v .1)))
-          (→and (covered l && eqb (places-in (open-board p) l) 1) _ (→and (covered l) _ (u .0) (v .0)) (found-lacking (has p w b) (free-cell p b) (q .1))))
+          (→and (open-board p b && bit (mask-of l) b) _ (→and (open-board p b) _ (o .0)
+          (subst (λ (x : Bool). T x) (sym (on-line l b (r .1) h)) (v .1)))
+          (→and (covered l && eqb (places-in (open-board p) l) 1) _ (→and (covered l) _ (u .0) (v .0))
+          (found-lacking (has p w b) (free-cell p b) (q .1))))
 
   pub all-lines : digits (λ b. any (λ l. critical-by p w l b) lines) 9 ≡ digits (critical p w) 9
   all-lines = digits-same (λ b. any (λ l. critical-by p w l b) lines) (critical p w) 9 by-lines
@@ -131,14 +139,17 @@ module _ (p : Position) (w : Player) where
   unfolding any
   no-lines = no-digits (λ b. any (λ l. critical-by p w l b) (take 0 lines)) (λ _ _. refl)
 
-  pub one-line-more : (i out one : ℕ) → i < 8 → out ≡ digits (λ b. any (λ l. critical-by p w l b) (take i lines)) 9 → one ≡ digits (critical-by p w (line-at i)) 9 →
+  pub one-line-more : (i out one : ℕ) → i < 8 → out ≡ digits (λ b. any (λ l. critical-by p w l b) (take i lines)) 9 →
+      one ≡ digits (critical-by p w (line-at i)) 9 →
       bitOr out one ≡ digits (λ b. any (λ l. critical-by p w l b) (take (i + 1) lines)) 9
   one-line-more i out one h e d =
       joined (λ b. any (λ l. critical-by p w l b) (take i lines)) (critical-by p w (line-at i)) out one e d
-      ∙ digits-same _ (λ b. any (λ l. critical-by p w l b) (take (i + 1) lines)) 9 (λ b _. sym (any-so-far (λ l. critical-by p w l b) lines _ i h))
+      ∙ digits-same _ (λ b. any (λ l. critical-by p w l b) (take (i + 1) lines)) 9
+      (λ b _. sym (any-so-far (λ l. critical-by p w l b) lines _ i h))
 
 -- ---- one line
-module _ (p : Position) (w : Player) (i own opens : ℕ) (h : i < 8) (e : own ≡ digits (won-boards p w) 9) (d : opens ≡ digits (open-board p) 9) where
+module _ (p : Position) (w : Player) (i own opens : ℕ) (h : i < 8) (e : own ≡ digits (won-boards p w) 9)
+    (d : opens ≡ digits (open-board p) 9) where
   abbrev lacked : ℕ
   lacked = bitAnd opens (mask-at i)
 
@@ -148,10 +159,12 @@ module _ (p : Position) (w : Player) (i own opens : ℕ) (h : i < 8) (e : own �
   lacks : lacks-one (bit own) (bit opens) (line-at i) ≡ lacks-one (won-boards p w) (open-board p) (line-at i)
   lacks = lacks-low (won-boards p w) (open-board p) own opens (set-bit (won-boards p w) own e) (set-bit (open-board p) opens d) i h
 
-  pub line-lacks-none : (r : Bool) → r ≡ lacks-one (bit own) (bit opens) (line-at i) → r ≡ false → 0 ≡ digits (critical-by p w (line-at i)) 9
+  pub line-lacks-none : (r : Bool) → r ≡ lacks-one (bit own) (bit opens) (line-at i) → r ≡ false →
+      0 ≡ digits (critical-by p w (line-at i)) 9
   unfolding critical-by
   line-lacks-none r a f = no-digits (critical-by p w (line-at i)) (λ b _.
-      ap (λ (x : Bool). (open-board p b && bit (mask-of (line-at i)) b) && (x && found b)) (sym lacks ∙ sym a ∙ f) ∙ and-false (open-board p b && bit (mask-of (line-at i)) b))
+      ap (λ (x : Bool). (open-board p b && bit (mask-of (line-at i)) b) && (x && found b)) (sym lacks ∙ sym a ∙ f)
+      ∙ and-false (open-board p b && bit (mask-of (line-at i)) b))
 
   -- the line lacks one board: it is the lowest bit, and it counts if a line of its cells lacks one
   module _ (r : Bool) (a : r ≡ lacks-one (bit own) (bit opens) (line-at i)) (t : r ≡ true) where
@@ -159,15 +172,20 @@ module _ (p : Position) (w : Player) (i own opens : ℕ) (h : i < 8) (e : own �
     lacked-lt = omega (arith, set-lt (open-board p) opens d, and-le-l opens (mask-at i))
 
     lacked-bit : (b : ℕ) → b < 9 → bit lacked b ≡ (open-board p b && bit (mask-of (line-at i)) b)
-    lacked-bit b l = bit-and opens (mask-at i) b ∙ ap₂ _&&_ (set-bit (open-board p) opens d b l) (ap (λ (m : ℕ). bit m b) (mask-is i h))
+    lacked-bit b l =
+        bit-and opens (mask-at i) b ∙ ap₂ _&&_ (set-bit (open-board p) opens d b l) (ap (λ (m : ℕ). bit m b) (mask-is i h))
 
     lacked-is : (b : ℕ) → b < 9 → (open-board p b && bit (mask-of (line-at i)) b) ≡ eqb b (trailingZeros 32 lacked)
-    lacked-is b l = sym (lacked-bit b l) ∙ lone-bit lacked b lacked-lt l (lacks-counted own opens i (set-lt (won-boards p w) own e) (set-lt (open-board p) opens d) h (sym a ∙ t))
+    lacked-is b l =
+        sym (lacked-bit b l) ∙ lone-bit lacked b lacked-lt l (lacks-counted own opens i (set-lt (won-boards p w) own e)
+        (set-lt (open-board p) opens d) h (sym a ∙ t))
 
     module _ (c : Bool) (g : c ≡ found (trailingZeros 32 lacked)) where
       each : (b : ℕ) → b < 9 → critical-by p w (line-at i) b ≡ (eqb b (trailingZeros 32 lacked) && c)
       unfolding critical-by
-      each b l = ap₂ (λ (x y : Bool). x && (y && found b)) (lacked-is b l) (sym lacks ∙ sym a ∙ t) ∙ go (eqb b (trailingZeros 32 lacked)) refl
+      each b l =
+          ap₂ (λ (x y : Bool). x && (y && found b)) (lacked-is b l) (sym lacks ∙ sym a ∙ t)
+          ∙ go (eqb b (trailingZeros 32 lacked)) refl
         where
           go : (x : Bool) → eqb b (trailingZeros 32 lacked) ≡ x → (x && found b) ≡ (x && c)
           go true q = ap found (eqb-true b (trailingZeros 32 lacked) q) ∙ sym g
@@ -175,7 +193,10 @@ module _ (p : Position) (w : Player) (i own opens : ℕ) (h : i < 8) (e : own �
 
       pub line-found : c ≡ true → lacked ≡ digits (critical-by p w (line-at i)) 9
       line-found u = is-digits (critical-by p w (line-at i)) 9 lacked lacked-lt (λ b l.
-          lacked-bit b l ∙ lacked-is b l ∙ sym (and-true (eqb b (trailingZeros 32 lacked))) ∙ ap (_&&_ (eqb b (trailingZeros 32 lacked))) (sym u) ∙ sym (each b l))
+          lacked-bit b l ∙ lacked-is b l ∙ sym (and-true (eqb b (trailingZeros 32 lacked)))
+          ∙ ap (_&&_ (eqb b (trailingZeros 32 lacked))) (sym u) ∙ sym (each b l))
 
       pub line-missed : c ≡ false → 0 ≡ digits (critical-by p w (line-at i)) 9
-      line-missed u = no-digits (critical-by p w (line-at i)) (λ b l. each b l ∙ ap (_&&_ (eqb b (trailingZeros 32 lacked))) u ∙ and-false (eqb b (trailingZeros 32 lacked)))
+      line-missed u =
+          no-digits (critical-by p w (line-at i)) (λ b l. each b l ∙ ap (_&&_ (eqb b (trailingZeros 32 lacked))) u
+          ∙ and-false (eqb b (trailingZeros 32 lacked)))

@@ -63,18 +63,24 @@ lone-test n = eqb (ones n) 1 ⇒ upTo (λ k. sameB (bit n k) (eqb k (trailingZer
 
 pub lone-bit : (n k : ℕ) → n < 512 → k < 9 → T (eqb (ones n) 1) → bit n k ≡ eqb k (trailingZeros 32 n)
 unfolding lone-test bit ones lib.Count.onesIn trailingZeros
-lone-bit n k h l t = sameB-eq _ _ (upTo-at (λ k. sameB (bit n k) (eqb k (trailingZeros 32 n))) 9 (⇒→ (eqb (ones n) 1) _ (upTo-at lone-test 512 tt n h) t) k l)
+lone-bit n k h l t =
+    sameB-eq _ _ (upTo-at (λ k. sameB (bit n k) (eqb k (trailingZeros 32 n))) 9
+    (⇒→ (eqb (ones n) 1) _ (upTo-at lone-test 512 tt n h) t) k l)
 
 -- ---- line i, by the code's two tests
 module _ (player empty i : ℕ) (p : player < 512) (e : empty < 512) (h : i < 8) where
   covered : covers (bitOr player empty) (mask-at i) ≡ all-three (λ k. bit player k || bit empty k) (line-at i)
-  covered = covers-line i (bitOr player empty) h (or-lt 9 player empty p e) ∙ rw (bit-or player empty (line-at i .i), bit-or player empty (line-at i .j), bit-or player empty (line-at i .k))
+  covered =
+      covers-line i (bitOr player empty) h (or-lt 9 player empty p e) ∙ rw
+      (bit-or player empty (line-at i .i), bit-or player empty (line-at i .j), bit-or player empty (line-at i .k))
 
-  pub line-blocked : (bitAnd (bitOr player empty) (mask-at i) ≡ mask-at i → ⊥) → false ≡ lacks-one (bit player) (bit empty) (line-at i)
+  pub line-blocked : (bitAnd (bitOr player empty) (mask-at i) ≡ mask-at i → ⊥) →
+      false ≡ lacks-one (bit player) (bit empty) (line-at i)
   unfolding lacks-one
   line-blocked q = rw (sym covered, ne-eqb (bitAnd (bitOr player empty) (mask-at i)) (mask-at i) q)
 
-  pub line-counted : bitAnd (bitOr player empty) (mask-at i) ≡ mask-at i → eqb (ones (bitAnd empty (mask-at i))) 1 ≡ lacks-one (bit player) (bit empty) (line-at i)
+  pub line-counted : bitAnd (bitOr player empty) (mask-at i) ≡ mask-at i →
+      eqb (ones (bitAnd empty (mask-at i))) 1 ≡ lacks-one (bit player) (bit empty) (line-at i)
   unfolding lacks-one
   line-counted q = rw (sym covered, eq-eqb (bitAnd (bitOr player empty) (mask-at i)) (mask-at i) q) (one-there i empty h e)
 
@@ -91,12 +97,20 @@ any-line : (f g : Line → Bool) → ((i : ℕ) → i < 8 → f (line-at i) ≡ 
 unfolding any
 any-line f g e = rw (e 0 (lit< tt), e 1 (lit< tt), e 2 (lit< tt), e 3 (lit< tt), e 4 (lit< tt), e 5 (lit< tt), e 6 (lit< tt), e 7 (lit< tt))
 
-module _ (own empty : ℕ → Bool) (n m : ℕ) (e : (k : ℕ) → k < 9 → bit n k ≡ own k) (d : (k : ℕ) → k < 9 → bit m k ≡ empty k) where
+module _ (own empty : ℕ → Bool) (n m : ℕ) (e : (k : ℕ) → k < 9 → bit n k ≡ own k)
+    (d : (k : ℕ) → k < 9 → bit m k ≡ empty k) where
   pub lacks-low : (i : ℕ) → i < 8 → lacks-one (bit n) (bit m) (line-at i) ≡ lacks-one own empty (line-at i)
   unfolding lacks-one places-in
   lacks-low i h =
       let l = low i h in
-      rw (e (line-at i .i) (l .0), e (line-at i .j) (l .1), e (line-at i .k) (l .2), d (line-at i .i) (l .0), d (line-at i .j) (l .1), d (line-at i .k) (l .2))
+      rw (
+        e (line-at i .i) (l .0),
+        e (line-at i .j) (l .1),
+        e (line-at i .k) (l .2),
+        d (line-at i .i) (l .0),
+        d (line-at i .j) (l .1),
+        d (line-at i .k) (l .2),
+      )
 
   pub any-lacks : any (lacks-one (bit n) (bit m)) lines ≡ any (lacks-one own empty) lines
   any-lacks = any-line (lacks-one (bit n) (bit m)) (lacks-one own empty) lacks-low

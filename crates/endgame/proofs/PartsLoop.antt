@@ -25,7 +25,9 @@ module _ {A : Type 0} (f : A → Bool) where
     -- the elements up to i
     pub any-so-far : any f (take (i + 1) xs) ≡ (any f (take i xs) || f (getD xs i d))
     unfolding any
-    any-so-far = rw (add-one, take-suc xs i d h) (any-join (take i xs) (getD xs i d ∷ []) ∙ ap (_||_ (any f (take i xs))) (or-false (f (getD xs i d))))
+    any-so-far =
+        rw (add-one, take-suc xs i d h) (any-join (take i xs) (getD xs i d ∷ [])
+        ∙ ap (_||_ (any f (take i xs))) (or-false (f (getD xs i d))))
 
     -- and those from i on
     any-from : any f (drop i xs) ≡ (f (getD xs i d) || any f (drop (i + 1) xs))

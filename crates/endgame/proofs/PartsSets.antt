@@ -37,7 +37,9 @@ module _ (f : ℕ → Bool) (n : ℕ) (e : n ≡ digits f 9) where
 
   -- `n == 0` asks that the set is empty
   pub none-in : eqb n 0 ≡ not (any f nine)
-  none-in = none-set 9 n set-lt ∙ all-same (λ k. not (bit n k)) (λ k. not (f k)) nine (λ k i. ap not (set-bit k (nine-in k i))) ∙ all-fail f nine
+  none-in =
+      none-set 9 n set-lt ∙ all-same (λ k. not (bit n k)) (λ k. not (f k)) nine (λ k i. ap not (set-bit k (nine-in k i)))
+      ∙ all-fail f nine
 
 pub no-digits : (f : ℕ → Bool) → ((k : ℕ) → k < 9 → f k ≡ false) → 0 ≡ digits f 9
 no-digits f e = is-digits f 9 0 (omega arith) (λ k h. bit-nought k ∙ sym (e k h))
@@ -72,7 +74,8 @@ module _ (f : ℕ → Bool) (n want : ℕ) (e : n ≡ digits f 9) (w : want < 2 
   pub all-wanted : eqb rest 0 ≡ all (λ k. not (f k) || bit want k) nine
   all-wanted =
       none-set 9 rest rest-lt
-      ∙ all-same (λ k. not (bit rest k)) (λ k. not (f k) || bit want k) nine (λ k i. ap not (rest-bit k (nine-in k i)) ∙ turned (f k) (bit want k))
+      ∙ all-same (λ k. not (bit rest k)) (λ k. not (f k) || bit want k) nine
+      (λ k i. ap not (rest-bit k (nine-in k i)) ∙ turned (f k) (bit want k))
     where
       turned : (a b : Bool) → not (a && not b) ≡ (not a || b)
       turned true true = refl
@@ -88,7 +91,9 @@ module _ (f g : ℕ → Bool) (n m but board : ℕ) (e : n ≡ digits f 9) (d : 
   left = bitAnd (bitAnd n m) (4294967295 - but)
 
   in-both : bitAnd n m ≡ digits (λ i. f i && g i) 9
-  in-both = is-digits (λ i. f i && g i) 9 (bitAnd n m) (omega (arith, set-lt f n e, and-le-l n m)) (λ k h. bit-and n m k ∙ ap₂ _&&_ (set-bit f n e k h) (set-bit g m d k h))
+  in-both =
+      is-digits (λ i. f i && g i) 9 (bitAnd n m) (omega (arith, set-lt f n e, and-le-l n m))
+      (λ k h. bit-and n m k ∙ ap₂ _&&_ (set-bit f n e k h) (set-bit g m d k h))
 
   left-bit : (k : ℕ) → k < 9 → bit left k ≡ ((f k && g k) && not (bit but k))
   left-bit = rest-bit (λ i. f i && g i) (bitAnd n m) but in-both w
@@ -104,7 +109,8 @@ module _ (f g : ℕ → Bool) (n m but board : ℕ) (e : n ≡ digits f 9) (d : 
   -- over 8 the board is none of them
   pub chosen-past : 9 ≤ board → left ≡ digits chosen 9
   chosen-past h = is-digits chosen 9 left left-lt (λ k l.
-      left-bit k l ∙ sym (and-true _) ∙ ap (λ (q : Bool). ((f k && g k) && not (bit but k)) && not q) (sym (ne-eqb k board (λ x. omega arith)))
+      left-bit k l ∙ sym (and-true _) ∙ ap (λ (q : Bool). ((f k && g k) && not (bit but k)) && not q)
+      (sym (ne-eqb k board (λ x. omega arith)))
       ∙ regroup (f k) (g k) (not (bit but k)) (not (eqb k board)))
 
   pub chosen-in : board < 9 → bitAnd left (4294967295 - 1 * 2 ^ board % 2 ^ 32) ≡ digits chosen 9

@@ -1,6 +1,7 @@
 // What the boards of a position alone say of its result.
-// Ported from src/lib/endgame.rs of nelhage/ultimattt at commit 87ef0d9c7c (Apache-2.0, see NOTICE), changed: an unfinished position that is not
-// sound is refused, and so is a move that play refuses; the counts come back with the analysis; sums of counts and printing are left out.
+// Ported from src/lib/endgame.rs of nelhage/ultimattt at commit 87ef0d9c7c (Apache-2.0, see NOTICE), changed: an unfinished position that
+// is not sound is refused, and so is a move that play refuses; the counts come back with the analysis; sums of counts and printing are left
+// out.
 ghost use mathlib.Core.Path.{_≡_};
 ghost use mathlib.Core.Bool.{not, cond, _||_, _&&_};
 ghost use Prim.Native.Nat.{_<_};
@@ -13,7 +14,8 @@ ghost use Rattle.rules.specs.Position.{unfinished, open-board, free-cell};
 ghost use Rattle.rules.specs.Play.{cell-of};
 ghost use Rattle.rules.specs.Sound.{sound};
 ghost use Rattle.rules.specs.Status.{unproven};
-ghost use Rattle.rules.specs.Endgame.{critical, prove-attacker, forced-loss, winnable, proven, combine, no-endgame-stats, or-unproven, judge};
+ghost use Rattle.rules.specs.Endgame.{critical, prove-attacker, forced-loss, winnable, proven, combine, no-endgame-stats, or-unproven};
+ghost use Rattle.rules.specs.Endgame.{judge};
 ghost use Rattle.status.specs.Sets.{status-of};
 ghost use Rattle.game.specs.Meaning.{position-of};
 ghost use Rattle.lines.specs.Masks.{line-at};
@@ -160,7 +162,8 @@ fn count(found: bool) -> usize
 }
 
 fn unanalysed(answer: AnalysisAnswer) -> Analysis
-    ensures { λ r. ⌜ (r .answer ≡ answer) × (r .proven ≡ status-of unproven) × (endgame-stats-of (r .stats) ≡ no-endgame-stats) ⌝ }
+    ensures { λ r. ⌜ (r .answer ≡ answer) × (r .proven ≡ status-of unproven) ×
+        (endgame-stats-of (r .stats) ≡ no-endgame-stats) ⌝ }
 {
     Analysis {
         answer,
@@ -334,7 +337,8 @@ fn sends_to(pos: Game, board: usize, want: u32) -> bool
 
 // The other boards in play to which a board's empty cells send, but for the critical ones.
 fn dests_of(pos: Game, board: usize, critical: u32) -> u32
-    ensures { λ r. ⌜ r ≡ digits (λ i. free-cell (position-of pos) board i && (open-board (position-of pos) i && (not (bit critical i) && not (eqb i board)))) 9 ⌝ }
+    ensures { λ r. ⌜ r ≡ digits (λ i. free-cell (position-of pos) board i &&
+        (open-board (position-of pos) i && (not (bit critical i) && not (eqb i board)))) 9 ⌝ }
 {
     let boards = pos.local_boards;
     let states = pos.global_states;
@@ -359,7 +363,8 @@ fn any_sends_to(pos: Game, dests: u32, want: u32) -> bool
 }
 
 fn prove_attacker(pos: Game, attacker_critical: u32, defender_critical: u32) -> bool
-    requires { ⌜ T (sound (position-of pos)) × («attacker_critical» ≡ digits (critical (position-of pos) (position-of pos .turn)) 9) × («defender_critical» ≡ digits (critical (position-of pos) (other (position-of pos .turn))) 9) ⌝ }
+    requires { ⌜ T (sound (position-of pos)) × («attacker_critical» ≡ digits (critical (position-of pos) (position-of pos .turn)) 9)
+        × («defender_critical» ≡ digits (critical (position-of pos) (other (position-of pos .turn))) 9) ⌝ }
     ensures { λ r. ⌜ r ≡ prove-attacker (position-of pos) ⌝ }
 {
     if attacker_critical == 0 {
@@ -374,8 +379,8 @@ fn prove_attacker(pos: Game, attacker_critical: u32, defender_critical: u32) -> 
     if holds(attacker_critical, board) {
         return true;
     }
-    // Can the defender be made to send the attacker where she wins? Not from a board in which the defender wins, blocks or takes, nor from this one, which
-    // the attacker's move could close, leaving the defender free.
+    // Can the defender be made to send the attacker where she wins? Not from a board in which the defender wins, blocks or takes, nor from
+    // this one, which the attacker's move could close, leaving the defender free.
     let dests = dests_of(pos, board, attacker_critical | defender_critical);
     let states = pos.global_states;
     let want = states.donebits() | attacker_critical;
@@ -383,7 +388,8 @@ fn prove_attacker(pos: Game, attacker_critical: u32, defender_critical: u32) -> 
 }
 
 fn forced_loss(pos: Game, defender_critical: u32) -> bool
-    requires { ⌜ T (sound (position-of pos)) × («defender_critical» ≡ digits (critical (position-of pos) (other (position-of pos .turn))) 9) ⌝ }
+    requires { ⌜ T (sound (position-of pos)) ×
+        («defender_critical» ≡ digits (critical (position-of pos) (other (position-of pos .turn))) 9) ⌝ }
     ensures { λ r. ⌜ r ≡ forced-loss (position-of pos) ⌝ }
 {
     if defender_critical == 0 {

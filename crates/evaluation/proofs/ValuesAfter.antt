@@ -53,7 +53,8 @@ module _ (f g : ℕ → ℤ) (b : ℕ) (same : (d : ℕ) → (d ≡ b → ⊥) �
   one-set i (suc n) zero e = let d : i ≡ b = omega arith in λ j. f (d j) ∷ above (suc i) n (omega arith) j
   one-set i (suc n) (suc k) e = λ j. same i (λ d. omega arith) j ∷ one-set (suc i) n k (omega arith) j
 
-changed-at : (p q : Position) (b : ℕ) → ((d : ℕ) → (d ≡ b → ⊥) → board-value q d ≡ board-value p d) → values-of q ≡ set (values-of p) b (board-value q b)
+changed-at : (p q : Position) (b : ℕ) → ((d : ℕ) → (d ≡ b → ⊥) → board-value q d ≡ board-value p d) →
+    values-of q ≡ set (values-of p) b (board-value q b)
 unfolding values-of
 changed-at p q b h = one-set (board-value q) (board-value p) b h 0 9 b (omega arith)
 
@@ -76,10 +77,12 @@ values-tried p m = elim (is (accepts p m)) [
 ]
 
 pub values-after : (g : Game) (m : ℕ) → length (g .«local_boards» .rows) ≡ 3
-    → values-of (position-of (game-after g m)) ≡ set (values-of (position-of g)) (board-of m) (board-value (position-of (game-after g m)) (board-of m))
+    → values-of (position-of (game-after g m)) ≡ set (values-of (position-of g)) (board-of m)
+    (board-value (position-of (game-after g m)) (board-of m))
 values-after g m n = rw (game-after-means g m n) (values-tried (position-of g) m)
 
 -- so values that are the boards' own are carried along a game
-pub carried : (g h : Game) (m b : ℕ) (values : List ℤ) → length (g .«local_boards» .rows) ≡ 3 → values ≡ values-of (position-of g) → h ≡ game-after g m → b ≡ board-of m
+pub carried : (g h : Game) (m b : ℕ) (values : List ℤ) → length (g .«local_boards» .rows) ≡ 3 →
+    values ≡ values-of (position-of g) → h ≡ game-after g m → b ≡ board-of m
     → set values b (board-value (position-of h) b) ≡ values-of (position-of h)
 carried g h m b values n v e f = rw (v, e, f) (sym (values-after g m n))

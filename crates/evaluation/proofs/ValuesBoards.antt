@@ -23,7 +23,8 @@ use Rattle.evaluation.specs.Values.{value-in, board-value, values-of, va
 use Rattle.evaluation.proofs.ValuesLines.{count-digits, sum-same}
 
 -- the lines of a board, by the nine digits of each side
-pub board-sum : (f g : ℕ → Bool) (x o : ℕ) → x ≡ digits f 9 → o ≡ digits g 9 → sum (board-line (bit x) (bit o)) lines ≡ sum (board-line f g) lines
+pub board-sum : (f g : ℕ → Bool) (x o : ℕ) → x ≡ digits f 9 → o ≡ digits g 9 →
+    sum (board-line (bit x) (bit o)) lines ≡ sum (board-line f g) lines
 unfolding board-line
 board-sum f g x o e d = sum-same (board-line (bit x) (bit o)) (board-line f g) (λ i h. rw (count-digits f x i e h, count-digits g o i d h))
 
@@ -43,12 +44,14 @@ module _ (p : Position) (b : ℕ) where
   closed-score (Won w) e t = rw e
 
   -- its score, and 20 for each side that has won it
-  pub value-parts : hi (board-value p b) + lo (board-score p b) + cond (won-boards p O b) 1 0 * 20 ≡ lo (board-value p b) + hi (board-score p b) + cond (won-boards p X b) 1 0 * 20
+  pub value-parts : hi (board-value p b) + lo (board-score p b) + cond (won-boards p O b) 1 0 * 20
+      ≡ lo (board-value p b) + hi (board-score p b) + cond (won-boards p X b) 1 0 * 20
   unfolding board-value hi lo
   value-parts = go (p .states b) (closed-score (p .states b) refl)
     where
       go : (s : GameState) → (T (not (in-play s)) → board-score p b ≡ pos 0)
-          → hi (value-in p b s) + lo (board-score p b) + cond (won-by O s) 1 0 * 20 ≡ lo (value-in p b s) + hi (board-score p b) + cond (won-by X s) 1 0 * 20
+          → hi (value-in p b s) + lo (board-score p b) + cond (won-by O s) 1 0 * 20
+          ≡ lo (value-in p b s) + hi (board-score p b) + cond (won-by X s) 1 0 * 20
       go InPlay e = omega arith
       go Drawn e = rw (e tt)
       go (Won X) e = rw (e tt)

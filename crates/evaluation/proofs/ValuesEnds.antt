@@ -24,7 +24,8 @@ won-same X O m n a b e = absurd (omega arith)
 won-same O X m n a b e = absurd (omega arith)
 won-same O O m n a b e = refl
 
-pub won-other : (w t : Player) (m n : ℕ) → m ≡ side-number w → n ≡ side-number t → (m ≡ n → ⊥) → lost ≡ seen-by t (seen-by w won)
+pub won-other : (w t : Player) (m n : ℕ) → m ≡ side-number w → n ≡ side-number t → (m ≡ n → ⊥) →
+    lost ≡ seen-by t (seen-by w won)
 won-other X X m n a b e = absurd (omega arith)
 won-other X O m n a b e = refl
 won-other O X m n a b e = refl
@@ -39,7 +40,8 @@ drawn-as t a b e = ap (λ (d : DrawWinner). seen-by t (draw-value d)) (sym e)
 
 module _ (sc : Scoring) (p : Position) (values : List ℤ) where
   -- a finished game
-  pub eval-ended : (s : GameState) → p .state ≡ s → T (not (in-play s)) → seen-by (p .turn) (state-value sc p s) ≡ evaluate-by sc p values
+  pub eval-ended : (s : GameState) → p .state ≡ s → T (not (in-play s)) →
+      seen-by (p .turn) (state-value sc p s) ≡ evaluate-by sc p values
   unfolding evaluate evaluate-by if_then_else_
   eval-ended InPlay e t = absurd t
   eval-ended Drawn e t = rw e

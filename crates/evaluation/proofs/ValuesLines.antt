@@ -25,22 +25,28 @@ count-same : (f g : ℕ → Bool) → ((k : ℕ) → k < 9 → f k ≡ g k) → 
 unfolding places-in
 count-same f g e l h = rw (e (l .i) (h .0), e (l .j) (h .1), e (l .k) (h .2))
 
-pub count-digits : (f : ℕ → Bool) (n i : ℕ) → n ≡ digits f 9 → i < 8 → places-in (bit n) (line-at i) ≡ places-in f (line-at i)
-count-digits f n i e h = ap (λ (m : ℕ). places-in (bit m) (line-at i)) e ∙ count-same (bit (digits f 9)) f (bit-digits f 9) (line-at i) (low i h)
+pub count-digits : (f : ℕ → Bool) (n i : ℕ) → n ≡ digits f 9 → i < 8 → places-in (bit n) (line-at i)
+    ≡ places-in f (line-at i)
+count-digits f n i e h =
+    ap (λ (m : ℕ). places-in (bit m) (line-at i)) e ∙ count-same (bit (digits f 9)) f (bit-digits f 9) (line-at i) (low i h)
 
 -- eight terms, one for each line
 pub sum-same : (f g : Line → ℤ) → ((i : ℕ) → i < 8 → f (line-at i) ≡ g (line-at i)) → sum f lines ≡ sum g lines
 unfolding sum
 sum-same f g e = rw (e 0 (lit< tt), e 1 (lit< tt), e 2 (lit< tt), e 3 (lit< tt), e 4 (lit< tt), e 5 (lit< tt), e 6 (lit< tt), e 7 (lit< tt))
 
-pub eight : (f : Line → ℤ) → f (line-at 0) +ℤ f (line-at 1) +ℤ f (line-at 2) +ℤ f (line-at 3) +ℤ f (line-at 4) +ℤ f (line-at 5) +ℤ f (line-at 6) +ℤ f (line-at 7) ≡ sum f lines
+pub eight : (f : Line → ℤ) → f (line-at 0) +ℤ f (line-at 1) +ℤ f (line-at 2) +ℤ f (line-at 3) +ℤ f (line-at 4) +ℤ f
+    (line-at 5) +ℤ f (line-at 6) +ℤ f (line-at 7) ≡ sum f lines
 unfolding sum
-eight f = left-sum (f (line-at 0)) (f (line-at 1) ∷ f (line-at 2) ∷ f (line-at 3) ∷ f (line-at 4) ∷ f (line-at 5) ∷ f (line-at 6) ∷ f (line-at 7) ∷ [])
+eight f =
+    left-sum (f (line-at 0)) (f (line-at 1) ∷ f (line-at 2) ∷ f (line-at 3) ∷ f (line-at 4) ∷ f (line-at 5) ∷ f (line-at 6) ∷
+    f (line-at 7) ∷ [])
 
 -- ---- what the mask finds
 -- the code's answer for the places p that it found by the mask m
 found : ℕ → ℕ → ℕ
-found m p = if eqb p 0 then (λ _. 0) else λ _. if eqb (bitAnd p (p - 1)) 0 then (λ _. 1) else λ _. if eqb p m then (λ _. 0) else λ _. 3
+found m p =
+    if eqb p 0 then (λ _. 0) else λ _. if eqb (bitAnd p (p - 1)) 0 then (λ _. 1) else λ _. if eqb p m then (λ _. 0) else λ _. 3
 
 -- computed for each line and each board of nine digits
 worth-test : ℕ → ℕ → Bool
@@ -71,10 +77,12 @@ module _ (i n : ℕ) (h : i < 8) where
   low-count = count-same (bit n) (bit (n % 512)) (λ k l. rw (← and-mask n 9) (sym (bit-masked 9 n k l))) (line-at i) (low i h)
 
   worth-found : (w : ℕ) → found (mask-at i) (bitAnd n (mask-at i)) ≡ w → w ≡ worth (places-in (bit n) (line-at i))
-  worth-found w e = sym e ∙ ap (found (mask-at i)) low-mask ∙ small-worth i (n % 512) h (mod-lt n (lit< tt)) ∙ ap worth (sym low-count)
+  worth-found w e =
+      sym e ∙ ap (found (mask-at i)) low-mask ∙ small-worth i (n % 512) h (mod-lt n (lit< tt)) ∙ ap worth (sym low-count)
 
   none-found : eqb (bitAnd n (mask-at i)) 0 ≡ eqb (places-in (bit n) (line-at i)) 0
-  none-found = ap (λ (p : ℕ). eqb p 0) low-mask ∙ small-none i (n % 512) h (mod-lt n (lit< tt)) ∙ ap (λ (p : ℕ). eqb p 0) (sym low-count)
+  none-found =
+      ap (λ (p : ℕ). eqb p 0) low-mask ∙ small-none i (n % 512) h (mod-lt n (lit< tt)) ∙ ap (λ (p : ℕ). eqb p 0) (sym low-count)
 
   abbrev p : ℕ
   p = bitAnd n (mask-at i)
@@ -92,7 +100,8 @@ module _ (i n : ℕ) (h : i < 8) where
   unfolding found if_then_else_
   worth-all q r e = worth-found 0 (rw (ne-eqb p 0 q, ne-eqb (bitAnd p (p - 1)) 0 r, eq-eqb p (mask-at i) e))
 
-  pub worth-two : (p ≡ 0 → ⊥) → (bitAnd p (p - 1) ≡ 0 → ⊥) → (p ≡ mask-at i → ⊥) → 3 ≡ worth (places-in (bit n) (line-at i))
+  pub worth-two : (p ≡ 0 → ⊥) → (bitAnd p (p - 1) ≡ 0 → ⊥) → (p ≡ mask-at i → ⊥) →
+      3 ≡ worth (places-in (bit n) (line-at i))
   unfolding found if_then_else_
   worth-two q r e = worth-found 3 (rw (ne-eqb p 0 q, ne-eqb (bitAnd p (p - 1)) 0 r, ne-eqb p (mask-at i) e))
 
@@ -130,10 +139,12 @@ module _ (i x o : ℕ) (h : i < 8) where
   unfolding board-line
   line-x e = only-x (places-in (bit x) (line-at i)) (places-in (bit o) (line-at i)) (none-there i o h e)
 
-  pub line-o : bitAnd x (mask-at i) ≡ 0 → negℤ (pos (worth (places-in (bit o) (line-at i)))) ≡ board-line (bit x) (bit o) (line-at i)
+  pub line-o : bitAnd x (mask-at i) ≡ 0 → negℤ (pos (worth (places-in (bit o) (line-at i))))
+      ≡ board-line (bit x) (bit o) (line-at i)
   unfolding board-line
   line-o e = only-o (places-in (bit x) (line-at i)) (places-in (bit o) (line-at i)) (none-there i x h e)
 
-  pub line-both : (bitAnd x (mask-at i) ≡ 0 → ⊥) → (bitAnd o (mask-at i) ≡ 0 → ⊥) → pos 0 ≡ board-line (bit x) (bit o) (line-at i)
+  pub line-both : (bitAnd x (mask-at i) ≡ 0 → ⊥) → (bitAnd o (mask-at i) ≡ 0 → ⊥) →
+      pos 0 ≡ board-line (bit x) (bit o) (line-at i)
   unfolding board-line
   line-both q r = both-sides (places-in (bit x) (line-at i)) (places-in (bit o) (line-at i)) _ (some-there i x h q) (some-there i o h r)

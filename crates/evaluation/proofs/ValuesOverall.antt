@@ -23,7 +23,8 @@ use Rattle.evaluation.proofs.ValuesBoards.{value-parts, nine-values}
 
 -- ---- as the code finds it
 module _ (i x o : ℕ) (values : List ℤ) (h : i < 8) where
-  pub overall-both : (bitAnd x (mask-at i) ≡ 0 → ⊥) → (bitAnd o (mask-at i) ≡ 0 → ⊥) → pos 0 ≡ overall-value (bit x) (bit o) values (line-at i)
+  pub overall-both : (bitAnd x (mask-at i) ≡ 0 → ⊥) → (bitAnd o (mask-at i) ≡ 0 → ⊥) →
+      pos 0 ≡ overall-value (bit x) (bit o) values (line-at i)
   unfolding overall-value
   overall-both q r = both-sides (places-in (bit x) (line-at i)) (places-in (bit o) (line-at i)) _ (some-there i x h q) (some-there i o h r)
 
@@ -31,7 +32,9 @@ module _ (i x o : ℕ) (values : List ℤ) (h : i < 8) where
   three = value-at values (place-at i 0) +ℤ value-at values (place-at i 1) +ℤ value-at values (place-at i 2)
 
   three-is : three ≡ value-at values (line-at i .i) +ℤ (value-at values (line-at i .j) +ℤ value-at values (line-at i .k))
-  three-is = let e = places i h in rw (e .0, e .1, e .2) (+ℤ-assoc (value-at values (line-at i .i)) (value-at values (line-at i .j)) (value-at values (line-at i .k)))
+  three-is =
+      let e = places i h in
+      rw (e .0, e .1, e .2) (+ℤ-assoc (value-at values (line-at i .i)) (value-at values (line-at i .j)) (value-at values (line-at i .k)))
 
   pub overall-x : bitAnd o (mask-at i) ≡ 0 → three ≡ overall-value (bit x) (bit o) values (line-at i)
   unfolding overall-value
@@ -50,7 +53,9 @@ module _ (p : Position) where
   s = board-score p
 
   -- three boards: their values are their scores, and 20 for each that is won
-  three-boards : (l : Line) → v (l .i) +ℤ (v (l .j) +ℤ v (l .k)) ≡ (pos (places-in (won-boards p X) l * 20) -ℤ pos (places-in (won-boards p O) l * 20)) +ℤ (s (l .i) +ℤ (s (l .j) +ℤ s (l .k)))
+  three-boards : (l : Line) →
+      v (l .i) +ℤ (v (l .j) +ℤ v (l .k)) ≡ (pos (places-in (won-boards p X) l * 20) -ℤ pos (places-in (won-boards p O) l * 20)) +ℤ
+      (s (l .i) +ℤ (s (l .j) +ℤ s (l .k)))
   unfolding places-in hi lo
   three-boards l =
       let x = places-in (won-boards p X) l * 20 in
@@ -69,7 +74,8 @@ module _ (p : Position) where
         sm (s (l .j)) (s (l .k)),
       )
 
-  line-is : (i : ℕ) → i < 8 → overall-value (won-boards p X) (won-boards p O) (values-of p) (line-at i) ≡ overall-line (won-boards p X) (won-boards p O) s (line-at i)
+  line-is : (i : ℕ) → i < 8 → overall-value (won-boards p X) (won-boards p O) (values-of p) (line-at i)
+      ≡ overall-line (won-boards p X) (won-boards p O) s (line-at i)
   unfolding overall-value overall-line
   line-is i h =
       let k = low i h in
@@ -82,10 +88,12 @@ module _ (p : Position) where
 
   score-is : score-by p (values-of p) ≡ score p
   unfolding score-by score
-  score-is = sum-same (overall-value (won-boards p X) (won-boards p O) (values-of p)) (overall-line (won-boards p X) (won-boards p O) s) line-is
+  score-is =
+      sum-same (overall-value (won-boards p X) (won-boards p O) (values-of p)) (overall-line (won-boards p X) (won-boards p O) s) line-is
 
   -- the lines, by the nine digits of each side's boards
-  pub score-bits : (x o : ℕ) (values : List ℤ) → x ≡ digits (won-boards p X) 9 → o ≡ digits (won-boards p O) 9 → sum (overall-value (bit x) (bit o) values) lines ≡ score-by p values
+  pub score-bits : (x o : ℕ) (values : List ℤ) → x ≡ digits (won-boards p X) 9 → o ≡ digits (won-boards p O) 9 →
+      sum (overall-value (bit x) (bit o) values) lines ≡ score-by p values
   unfolding score-by overall-value
   score-bits x o values e d = sum-same (overall-value (bit x) (bit o) values) (overall-value (won-boards p X) (won-boards p O) values)
       (λ i h. rw (count-digits (won-boards p X) x i e h, count-digits (won-boards p O) o i d h))
@@ -93,7 +101,9 @@ module _ (p : Position) where
 -- with its own values the evaluation is the definition's
 pub by-values : (sc : Scoring) (p : Position) → evaluate-by sc p (values-of p) ≡ evaluate sc p
 unfolding evaluate-by evaluate
-by-values sc p = if-ind (λ (z : ℤ). z ≡ evaluate sc p) (unfinished p) _ _ (λ t. ap (seen-by (p .turn)) (score-is p) ∙ in-play-score (p .state) t) (λ _. refl)
+by-values sc p =
+    if-ind (λ (z : ℤ). z ≡ evaluate sc p) (unfinished p) _ _ (λ t. ap (seen-by (p .turn)) (score-is p) ∙ in-play-score (p .state) t)
+    (λ _. refl)
   where
     in-play-score : (s : GameState) → T (in-play s) → seen-by (p .turn) (score p) ≡ seen-by (p .turn) (state-value sc p s)
     in-play-score InPlay t = refl

@@ -1,6 +1,7 @@
 // The evaluation of a position for the side to move.
-// Ported from src/lib/minimax.rs of nelhage/ultimattt at commit 87ef0d9c7c (Apache-2.0, see NOTICE), changed: the draw winner is an argument,
-// a board's own score and what it is won for are one value, and the nine boards' values can be carried from a position to the next.
+// Ported from src/lib/minimax.rs of nelhage/ultimattt at commit 87ef0d9c7c (Apache-2.0, see NOTICE), changed: the draw winner is an
+// argument, a board's own score and what it is won for are one value, and the nine boards' values can be carried from a position to the
+// next.
 ghost use mathlib.Core.Path.{_≡_};
 ghost use Prim.Native.Nat.{_≤_, _<_};
 ghost use lib.IntN.{pos, natAbs};
@@ -87,7 +88,8 @@ fn score_line(i: usize, xbits: u32, obits: u32) -> i64
 
 // The score of a board in play.
 fn score_board(boards: LocalBoards, board: usize) -> i64
-    ensures { λ r. ⌜ r ≡ sum (board-line (λ c. mine Player.X (cell-at boards board c)) (λ c. mine Player.O (cell-at boards board c))) lines ⌝ }
+    ensures { λ r. ⌜ r ≡ sum (board-line (λ c. mine Player.X (cell-at boards board c)) (λ c. mine Player.O (cell-at boards board c)))
+        lines ⌝ }
 {
     let x = boards.xbits(board);
     let o = boards.obits(board);

@@ -35,13 +35,16 @@ module _ (g : Game) (m : Move) (a : Answer) (e : answer-number a ≡ refusal (pl
     pub may-play : (b < 9) × (c < 9) × T (open-board (position-of g) b) × T (free-cell (position-of g) b c)
     may-play = let l = accepts→ (position-of g) (m .bits) accepted in rw (eb, ec) (l .board, l .cell, l .opened, l .empty)
 
-    pub plays-accepted : (h : Game) → h ≡ after-move g b c → length (g .«local_boards» .rows) ≡ 3 → Plays g m (record { game = h; answer = Accepted })
+    pub plays-accepted : (h : Game) → h ≡ after-move g b c → length (g .«local_boards» .rows) ≡ 3 →
+        Plays g m (record { game = h; answer = Accepted })
     plays-accepted h p n =
         let q : h ≡ game-after g (m .bits) = p ∙ (λ i. after-move g (eb i) (ec i)) ∙ sym (game-accepted g (m .bits) accepted) in
         record { number = sym (ap answer-number f) ∙ e; exact = q; position = ap position-of q ∙ game-after-means g (m .bits) n }
 
-  pub plays-refused : (r : MoveError) → a ≡ Refused r → length (g .«local_boards» .rows) ≡ 3 → Plays g m (record { game = g; answer = Refused r })
+  pub plays-refused : (r : MoveError) → a ≡ Refused r → length (g .«local_boards» .rows) ≡ 3 →
+      Plays g m (record { game = g; answer = Refused r })
   plays-refused r f n =
       let k : move-error-number r ≡ refusal (play (position-of g) (m .bits)) = sym (ap answer-number f) ∙ e in
-      let q : g ≡ game-after g (m .bits) = sym (game-refused g (m .bits) (refused-not-accepts (position-of g) (m .bits) (λ z. omega (arith, some-number r)))) in
+      let q : g ≡ game-after g (m .bits) = sym (game-refused g (m .bits)
+      (refused-not-accepts (position-of g) (m .bits) (λ z. omega (arith, some-number r)))) in
       record { number = k; exact = q; position = ap position-of q ∙ game-after-means g (m .bits) n }

@@ -28,7 +28,8 @@ module _ (n : NextBoard) (w : Player) (k : ℕ) (e : k ≡ player-key w) where
   unfolding next-board-key
   turn-any f = rw f (e ∙ sym (xor-zero-l (player-key w)))
 
-  pub turn-only : (b j : ℕ) → n ≡ Only b → j ≡ getD next-board-keys b 0 → bitXor j k ≡ bitXor (next-board-key n) (player-key w)
+  pub turn-only : (b j : ℕ) → n ≡ Only b → j ≡ getD next-board-keys b 0 →
+      bitXor j k ≡ bitXor (next-board-key n) (player-key w)
   unfolding next-board-key
   turn-only b j f d = rw f (ap₂ bitXor d e)
 

@@ -46,7 +46,9 @@ played-neat g (m ∷ ms) t = played-neat (game-after g m) ms (game-after-neat g 
 pub played-means : (g : Game) (ms : List ℕ) → T (neat g) → position-of (games-after g ms) ≡ reached (position-of g) ms
 unfolding games-after reached
 played-means g [] t = refl
-played-means g (m ∷ ms) t = played-means (game-after g m) ms (game-after-neat g m t) ∙ ap (λ (p : Position). reached p ms) (game-after-means g m (neat→ g t .three))
+played-means g (m ∷ ms) t =
+    played-means (game-after g m) ms (game-after-neat g m t) ∙ ap (λ (p : Position). reached p ms)
+    (game-after-means g m (neat→ g t .three))
 
 pub played-hash : (g : Game) (ms : List ℕ) → T (neat g) → Fresh g → Fresh (games-after g ms)
 unfolding games-after

@@ -28,7 +28,8 @@ first-is-refusal p m = elim (is (accepts p m)) [
 
 -- what the five checks say, in their order, gives the number
 module _ (p : Position) (m b c : ℕ) (eb : b ≡ board-of m) (ec : c ≡ cell-of m) where
-  checked : (r s o a e : Bool) → (ltb b 9 && ltb c 9) ≡ r → unfinished p ≡ s → open-board p b ≡ o → may (p .next-board) b ≡ a → free-cell p b c ≡ e
+  checked : (r s o a e : Bool) → (ltb b 9 && ltb c 9) ≡ r → unfinished p ≡ s → open-board p b ≡ o →
+      may (p .next-board) b ≡ a → free-cell p b c ≡ e
       → first-failed ((r, 9) ∷ (s, 10) ∷ (o, 11) ∷ (a, 12) ∷ (e, 13) ∷ []) ≡ refusal (play p m)
   checked r s o a e hr hs ho ha he =
       sym (λ i. first-failed ((hr i, 9) ∷ (hs i, 10) ∷ (ho i, 11) ∷ (ha i, 12) ∷ (he i, 13) ∷ []))

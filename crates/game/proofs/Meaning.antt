@@ -1,4 +1,5 @@
--- The struct after a move means the position after it: the new bits change the cells and states of the board that is played, and nothing else.
+-- The struct after a move means the position after it: the new bits change the cells and states of the board that is played, and nothing
+-- else.
 use mathlib.Core.Path.{_≡_, refl, sym, ap, _∙_}
 use mathlib.Core.Bool.{Bool, true, false, not}
 use mathlib.Core.Logic.{inl, inr}
@@ -54,14 +55,16 @@ turned : (h k r s : ℕ) → bitXor (bitXor (bitXor h k) r) s ≡ bitXor s (bitX
 turned h k r s = xor-comm (bitXor (bitXor h k) r) s ∙ ap (bitXor s) (xor-comm (bitXor h k) r ∙ ap (bitXor r) (xor-comm h k))
 
 -- the key of a played cell comes in, and the board may close: in the order of the code, and of the rules
-closed : (b : ℕ) (r : ℕ → CellState) (s : GameState) (h k : ℕ) → closing (bitXor h k) b r s ≡ bitXor (board-key b s) (bitXor (if in-play s then (λ _. 0) else λ _. cells-hash b r) (bitXor k h))
+closed : (b : ℕ) (r : ℕ → CellState) (s : GameState) (h k : ℕ) → closing (bitXor h k) b r s
+    ≡ bitXor (board-key b s) (bitXor (if in-play s then (λ _. 0) else λ _. cells-hash b r) (bitXor k h))
 unfolding closing board-key if_then_else_
 closed b r InPlay h k = xor-comm h k ∙ sym (xor-zero-l (bitXor 0 (bitXor k h)) ∙ xor-zero-l (bitXor k h))
 closed b r Drawn h k = turned h k (cells-hash b r) _
 closed b r (Won w) h k = turned h k (cells-hash b r) _
 
 -- ---- a move in a free cell c of an open board b
-module _ (g : Game) (b c : ℕ) (n : length (g .«local_boards» .rows) ≡ 3) (hb : b < 9) (hc : c < 9) (o : T (open-board (position-of g) b)) (f : T (free-cell (position-of g) b c)) where
+module _ (g : Game) (b c : ℕ) (n : length (g .«local_boards» .rows) ≡ 3) (hb : b < 9) (hc : c < 9)
+    (o : T (open-board (position-of g) b)) (f : T (free-cell (position-of g) b c)) where
   abbrev p : Position
   p = position-of g
 
@@ -79,7 +82,9 @@ module _ (g : Game) (b c : ℕ) (n : length (g .«local_boards» .rows) ≡ 3) (
   cells-made = cell-after (g .«local_boards») b c w n hb hc f
 
   row-made : cell-at boards b ≡ row p b c
-  row-made = ap (λ (h : ℕ → ℕ → CellState). h b) (cell-after (g .«local_boards») b c w n hb hc f) ∙ update-at (λ (r : ℕ → CellState). r ≡ row p b c) (p .cells) b (row p b c) refl
+  row-made =
+      ap (λ (h : ℕ → ℕ → CellState). h b) (cell-after (g .«local_boards») b c w n hb hc f)
+      ∙ update-at (λ (r : ℕ → CellState). r ≡ row p b c) (p .cells) b (row p b c) refl
 
   made-here : after p b c .states b ≡ made p b c
   unfolding after
@@ -119,50 +124,80 @@ module _ (g : Game) (b c : ℕ) (n : length (g .«local_boards» .rows) ≡ 3) (
       (e-key : k ≡ getD (cell-keys w) (9 * b + c) 0)
       (e-hash : h ≡ closing (bitXor (g .hash) k) b (cell-at ls b) s) where
     state-is : s ≡ after p b c .states b
-    state-is = e-state ∙ ap (λ (l : LocalBoards). result w (λ i. mine w (cell-at l b i)) (λ i. blank (cell-at l b i))) e-boards ∙ state-made
+    state-is =
+        e-state ∙ ap (λ (l : LocalBoards). result w (λ i. mine w (cell-at l b i)) (λ i. blank (cell-at l b i))) e-boards ∙ state-made
 
     states-are : ss ≡ states
     states-are = e-states ∙ ap (with-state (g .«global_states») b) state-is
 
     next-is : next ≡ after p b c .next-board
     unfolding after
-    next-is = e-next ∙ ap (λ (f : ℕ → GameState). if in-play (f c) then (λ _. Only c) else λ _. Any) (ap state-at states-are ∙ states-made)
+    next-is =
+        e-next ∙ ap (λ (f : ℕ → GameState). if in-play (f c) then (λ _. Only c) else λ _. Any)
+        (ap state-at states-are ∙ states-made)
 
     game-is : t ≡ after p b c .state
-    game-is = e-game ∙ ap (λ (z : GlobalStates). result w (λ i. won-by w (state-at z i)) (λ i. in-play (state-at z i))) states-are ∙ game-made
+    game-is =
+        e-game ∙ ap (λ (z : GlobalStates). result w (λ i. won-by w (state-at z i)) (λ i. in-play (state-at z i))) states-are
+        ∙ game-made
 
     hash-is : h ≡ hash-after p b c (g .hash)
     unfolding hash-after cell-key
     hash-is =
         e-hash
         ∙ closed b (cell-at ls b) s (g .hash) k
-        ∙ (λ i. bitXor (board-key b (state-is i)) (bitXor (if in-play (state-is i) then (λ _. 0) else λ _. cells-hash b ((ap (λ (l : LocalBoards). cell-at l b) e-boards ∙ row-made) i)) (bitXor (e-key i) (g .hash))))
+        ∙ (λ i. bitXor (board-key b (state-is i))
+        (bitXor (if in-play (state-is i) then (λ _. 0) else λ _. cells-hash b
+        ((ap (λ (l : LocalBoards). cell-at l b) e-boards ∙ row-made) i)) (bitXor (e-key i) (g .hash))))
 
-    pub play-makes : _≡_ {A = Game} (record { «next_player» = v; «next_board» = next; «local_boards» = ls; «global_states» = ss; «game_state» = t; hash = h }) (after-move g b c)
+    pub play-makes : _≡_ {A = Game}
+        (record { «next_player» = v; «next_board» = next; «local_boards» = ls; «global_states» = ss; «game_state» = t; hash = h })
+        (after-move g b c)
     unfolding after-move after
-    play-makes = λ i. record { «next_player» = e-player i; «next_board» = next-is i; «local_boards» = e-boards i; «global_states» = states-are i; «game_state» = game-is i; hash = hash-is i }
+    play-makes =
+        λ i. record {
+          «next_player» = e-player i;
+          «next_board» = next-is i;
+          «local_boards» = e-boards i;
+          «global_states» = states-are i;
+          «game_state» = game-is i;
+          hash = hash-is i;
+        }
 
 -- ---- a move, tried
 module _ (g : Game) (m : ℕ) where
   pub game-accepted : T (accepts (position-of g) m) → game-after g m ≡ after-move g (board-of m) (cell-of m)
   unfolding game-after
-  game-accepted t = if-ind (λ (h : Game). h ≡ after-move g (board-of m) (cell-of m)) (accepts (position-of g) m) _ _ (λ _. refl) (λ d. absurd (T-not (accepts (position-of g) m) d t))
+  game-accepted t =
+      if-ind (λ (h : Game). h ≡ after-move g (board-of m) (cell-of m)) (accepts (position-of g) m) _ _ (λ _. refl)
+      (λ d. absurd (T-not (accepts (position-of g) m) d t))
 
   pub game-refused : T (not (accepts (position-of g) m)) → game-after g m ≡ g
   unfolding game-after
-  game-refused t = if-ind (λ (h : Game). h ≡ g) (accepts (position-of g) m) _ _ (λ u. absurd (T-not (accepts (position-of g) m) t u)) (λ _. refl)
+  game-refused t =
+      if-ind (λ (h : Game). h ≡ g) (accepts (position-of g) m) _ _ (λ u. absurd (T-not (accepts (position-of g) m) t u)) (λ _. refl)
 
   -- the position after a tried move
   pub game-after-means : length (g .«local_boards» .rows) ≡ 3 → position-of (game-after g m) ≡ tried (position-of g) m
   game-after-means n = elim (is (accepts (position-of g) m)) [
-    | inl t ↦ (let l = accepts→ (position-of g) m t in ap position-of (game-accepted t) ∙ after-move-means g (board-of m) (cell-of m) n (l .board) (l .cell) (l .opened) (l .empty) ∙ sym (tried-accepted (position-of g) m t))
+    | inl t ↦ (let l = accepts→ (position-of g) m t in ap position-of (game-accepted t)
+        ∙ after-move-means g (board-of m) (cell-of m) n (l .board) (l .cell) (l .opened) (l .empty)
+        ∙ sym (tried-accepted (position-of g) m t))
     | inr t ↦ ap position-of (game-refused t) ∙ sym (tried-refused (position-of g) m t)
   ]
 
 -- ---- the game's state, looked at again for the side v
 pub recalculates : (g : Game) (v : Player) (t : GameState) → v ≡ other (g .«next_player»)
     → t ≡ result v (λ b. won-by v (state-at (g .«global_states») b)) (λ b. in-play (state-at (g .«global_states») b))
-    → _≡_ {A = Game} (record { «next_player» = g .«next_player»; «next_board» = g .«next_board»; «local_boards» = g .«local_boards»; «global_states» = g .«global_states»; «game_state» = t; hash = g .hash }) (recalculated g)
+    → _≡_ {A = Game} (record {
+      «next_player» = g .«next_player»;
+      «next_board» = g .«next_board»;
+      «local_boards» = g .«local_boards»;
+      «global_states» = g .«global_states»;
+      «game_state» = t;
+      hash = g .hash;
+    })
+    (recalculated g)
 unfolding recalculated
 recalculates g v t e f = rw (f, e)
 
@@ -171,11 +206,14 @@ module _ (b c : ℕ) where
   no-cell : Dec (b < 9) → Dec (c < 9) → cell-at no-boards b c ≡ Empty
   no-cell (no q) k = cell-past-board no-boards b c (omega (arith, q))
   no-cell (yes h) (no q) = cell-past-cell no-boards b c (omega (arith, q))
-  no-cell (yes h) (yes k) = cell-in no-boards b c h k ∙ ap (λ (r : Row). row-cell r (place b c)) (getD-replicate 3 (b / 3) no-row no-row (omega arith)) ∙ rw (bit-nought (place b c))
+  no-cell (yes h) (yes k) =
+      cell-in no-boards b c h k ∙ ap (λ (r : Row). row-cell r (place b c)) (getD-replicate 3 (b / 3) no-row no-row (omega arith))
+      ∙ rw (bit-nought (place b c))
 
 no-state : (b : ℕ) → Dec (b < 9) → state-at no-states b ≡ InPlay
 no-state b (yes h) = state-in no-states b h ∙ rw (bit-nought b)
 no-state b (no q) = state-past no-states b (omega (arith, q))
 
 pub new-game-means : position-of new-game ≡ start
-new-game-means = same-position (position-of new-game) start refl refl (λ b c. no-cell b c (decLt b 9) (decLt c 9)) (λ b. no-state b (decLt b 9)) refl
+new-game-means =
+    same-position (position-of new-game) start refl refl (λ b c. no-cell b c (decLt b 9) (decLt c 9)) (λ b. no-state b (decLt b 9)) refl

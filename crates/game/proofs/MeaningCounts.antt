@@ -44,7 +44,8 @@ unfolding filter count if_then_else_
 length-kept f [] = refl
 length-kept f (x ∷ xs) = go (f x) (length-kept f xs)
   where
-    go : (b : Bool) → length (filter f xs) ≡ count f xs → length (if b then (λ _. x ∷ filter f xs) else λ _. filter f xs) ≡ cond b 1 0 + count f xs
+    go : (b : Bool) → length (filter f xs) ≡ count f xs → length (if b then (λ _. x ∷ filter f xs) else λ _. filter f xs)
+        ≡ cond b 1 0 + count f xs
     go true e = omega arith
     go false e = omega arith
 
@@ -114,14 +115,17 @@ module _ (g : Game) (n : ℕ) (e : n ≡ digits (open-board (position-of g)) 9) 
 
   empty-is : (b c : ℕ) → c < 9 → empty (move-of b c) ≡ (open-board p b && free-cell p b c)
   unfolding empty
-  empty-is b c h = λ i. open-board p (board-of-move b c (omega arith) i) && free-cell p (board-of-move b c (omega arith) i) (cell-of-move b c (omega arith) i)
+  empty-is b c h =
+      λ i. open-board p (board-of-move b c (omega arith) i) && free-cell p (board-of-move b c (omega arith) i)
+      (cell-of-move b c (omega arith) i)
 
   counted : count empty places ≡ bound-depth p
   unfolding places bound-depth
   counted =
       count-each empty (λ b. map (move-of b) nine) nine
       ∙ total-same (λ b. count empty (map (move-of b) nine)) (λ b. cond (open-board p b) (count (free-cell p b) nine) 0) nine
-      (λ b _. count-map empty (move-of b) nine ∙ count-agrees (λ c. empty (move-of b c)) (λ c. open-board p b && free-cell p b c) nine (λ c i. empty-is b c (nine-in c i)) ∙ count-both (open-board p b) (free-cell p b) nine)
+      (λ b _. count-map empty (move-of b) nine ∙ count-agrees (λ c. empty (move-of b c)) (λ c. open-board p b && free-cell p b c) nine
+      (λ c i. empty-is b c (nine-in c i)) ∙ count-both (open-board p b) (free-cell p b) nine)
 
   pub depth-counted : length (moves-left (free-cells (g .«local_boards») n)) ≡ bound-depth p
   depth-counted =
@@ -135,13 +139,18 @@ module _ (p : Position) (l k : LocalBoards) (n : ℕ) (e : n ≡ digits (open-bo
 
   -- board 3r + j, by the digits m of a row
   module _ (r m : ℕ) (h : r < 3) (s : (j : ℕ) → bit m j ≡ bit n (3 * r + j)) where
-    same-place : (i : ℕ) → i < 27 → (not (bit m (i / 9)) || same-cell (row-cell (getD (l .rows) r no-row) i) (row-cell (getD (k .rows) r no-row) i)) ≡ (open-board p (3 * r + i / 9) ⇒ agree (3 * r + i / 9) (i % 9))
+    same-place : (i : ℕ) → i < 27 →
+        (not (bit m (i / 9)) || same-cell (row-cell (getD (l .rows) r no-row) i) (row-cell (getD (k .rows) r no-row) i))
+        ≡ (open-board p (3 * r + i / 9) ⇒ agree (3 * r + i / 9) (i % 9))
     unfolding agree
     same-place i t =
         let b = 3 * r + i / 9 in
-        sym (ap₂ (λ (u v : Bool). u ⇒ v) (sym (s (i / 9) ∙ ap (λ (z : ℕ). bit z b) e ∙ bit-digits (open-board p) 9 b (omega arith))) (ap₂ same-cell (place-cell l r i h t) (place-cell k r i h t)))
+        sym (ap₂ (λ (u v : Bool). u ⇒ v)
+        (sym (s (i / 9) ∙ ap (λ (z : ℕ). bit z b) e ∙ bit-digits (open-board p) 9 b (omega arith)))
+        (ap₂ same-cell (place-cell l r i h t) (place-cell k r i h t)))
 
-    row-there : T (row-same (getD (l .rows) r no-row) (getD (k .rows) r no-row) m) → (b c : ℕ) → b / 3 ≡ r → c < 9 → T (open-board p b ⇒ agree b c)
+    row-there : T (row-same (getD (l .rows) r no-row) (getD (k .rows) r no-row) m) → (b c : ℕ) → b / 3 ≡ r → c < 9 →
+        T (open-board p b ⇒ agree b c)
     unfolding row-same
     row-there t b c x hc =
         let i = place b c in
@@ -150,9 +159,12 @@ module _ (p : Position) (l k : LocalBoards) (n : ℕ) (e : n ≡ digits (open-bo
         let z : i % 9 ≡ c = omega arith in
         rw (y, z) at (rw (same-place i hi) at (all-each _ i (from 0 27) t (in-from 0 27 i (omega arith) (omega arith))))
 
-    row-back : ((b c : ℕ) → b < 9 → c < 9 → T (open-board p b ⇒ agree b c)) → T (row-same (getD (l .rows) r no-row) (getD (k .rows) r no-row) m)
+    row-back : ((b c : ℕ) → b < 9 → c < 9 → T (open-board p b ⇒ agree b c)) →
+        T (row-same (getD (l .rows) r no-row) (getD (k .rows) r no-row) m)
     unfolding row-same
-    row-back t = each-all _ (from 0 27) (λ i u. let hi = from-in 0 27 i u .1 in rw (same-place i hi) (t (3 * r + i / 9) (i % 9) (omega arith) (omega arith)))
+    row-back t =
+        each-all _ (from 0 27) (λ i u. let hi = from-in 0 27 i u .1 in rw (same-place i hi)
+        (t (3 * r + i / 9) (i % 9) (omega arith) (omega arith)))
 
   zeroth : (j : ℕ) → bit n j ≡ bit n (3 * 0 + j)
   zeroth j = ap (bit n) (omega arith)
@@ -165,10 +177,13 @@ module _ (p : Position) (l k : LocalBoards) (n : ℕ) (e : n ≡ digits (open-bo
       there t =
           let r = and→ (row-same (getD (l .rows) 0 no-row) (getD (k .rows) 0 no-row) n) _ t in
           let s = and→ (row-same (getD (l .rows) 1 no-row) (getD (k .rows) 1 no-row) (n / 2 ^ 3)) _ (r .1) in
-          each-all _ nine (λ b i. →⇒ (open-board p b) _ (λ o. each-all (agree b) nine (λ c j. ⇒→ (open-board p b) _ (pick (r .0) (s .0) (s .1) b c (nine-in b i) (nine-in c j)) o)))
+          each-all _ nine (λ b i. →⇒ (open-board p b) _ (λ o. each-all (agree b) nine
+          (λ c j. ⇒→ (open-board p b) _ (pick (r .0) (s .0) (s .1) b c (nine-in b i) (nine-in c j)) o)))
         where
-          pick : T (row-same (getD (l .rows) 0 no-row) (getD (k .rows) 0 no-row) n) → T (row-same (getD (l .rows) 1 no-row) (getD (k .rows) 1 no-row) (n / 2 ^ 3))
-              → T (row-same (getD (l .rows) 2 no-row) (getD (k .rows) 2 no-row) (n / 2 ^ 6)) → (b c : ℕ) → b < 9 → c < 9 → T (open-board p b ⇒ agree b c)
+          pick : T (row-same (getD (l .rows) 0 no-row) (getD (k .rows) 0 no-row) n) →
+              T (row-same (getD (l .rows) 1 no-row) (getD (k .rows) 1 no-row) (n / 2 ^ 3))
+              → T (row-same (getD (l .rows) 2 no-row) (getD (k .rows) 2 no-row) (n / 2 ^ 6)) → (b c : ℕ) → b < 9 → c < 9 →
+              T (open-board p b ⇒ agree b c)
           pick t u v b c hb hc = go (b / 3) refl
             where
               go : (r : ℕ) → b / 3 ≡ r → T (open-board p b ⇒ agree b c)
@@ -180,11 +195,14 @@ module _ (p : Position) (l k : LocalBoards) (n : ℕ) (e : n ≡ digits (open-bo
       back : T (all (λ b. open-board p b ⇒ all (agree b) nine) nine) → T (same-cells l k n)
       back t =
           →and (row-same (getD (l .rows) 0 no-row) (getD (k .rows) 0 no-row) n) _ (row-back 0 n (lit< tt) zeroth concat-map)
-          (→and (row-same (getD (l .rows) 1 no-row) (getD (k .rows) 1 no-row) (n / 2 ^ 3)) _ (row-back 1 (n / 2 ^ 3) (lit< tt) (bit-shr n 3) concat-map)
+          (→and (row-same (getD (l .rows) 1 no-row) (getD (k .rows) 1 no-row) (n / 2 ^ 3)) _
+          (row-back 1 (n / 2 ^ 3) (lit< tt) (bit-shr n 3) concat-map)
           (row-back 2 (n / 2 ^ 6) (lit< tt) (bit-shr n 6) concat-map))
         where
           concat-map : (b c : ℕ) → b < 9 → c < 9 → T (open-board p b ⇒ agree b c)
-          concat-map b c hb hc = →⇒ (open-board p b) _ (λ o. all-each (agree b) c nine (⇒→ (open-board p b) _ (all-each _ b nine t (in-nine b hb)) o) (in-nine c hc))
+          concat-map b c hb hc =
+              →⇒ (open-board p b) _ (λ o. all-each (agree b) c nine (⇒→ (open-board p b) _ (all-each _ b nine t (in-nine b hb)) o)
+              (in-nine c hc))
 
 -- ---- the comparison, part by part
 module _ (p q : Position) (m n : ℕ) (em : m ≡ side-number (p .turn)) (en : n ≡ side-number (q .turn)) where
@@ -211,6 +229,14 @@ module _ (p q : Position) (m n : ℕ) (em : m ≡ side-number (p .turn)) (en : n
       unfolding equivalent
       other-state j = rw (turns, dues, sym es ∙ not-true s j)
 
-      pub compared : not s ≡ false → (c : Bool) → c ≡ all (λ b. not (open-board p b) || all (λ c. same-cell (p .cells b c) (q .cells b c)) nine) nine → c ≡ equivalent p q
+      pub compared : not s ≡ false → (c : Bool) → c ≡ all (λ b. not (open-board p b) ||
+          all (λ c. same-cell (p .cells b c) (q .cells b c)) nine) nine → c ≡ equivalent p q
       unfolding equivalent
-      compared j c e = e ∙ sym (rw (turns, dues, sym es ∙ not-false s j, is-true (all (λ b. same-state (p .states b) (p .states b)) nine) (each-all _ nine (λ b _. same-state-self (p .states b)))))
+      compared j c e =
+          e ∙ sym (rw (
+            turns,
+            dues,
+            sym es ∙ not-false s j,
+            is-true (all (λ b. same-state (p .states b) (p .states b)) nine)
+                (each-all _ nine (λ b _. same-state-self (p .states b))),
+          ))

@@ -66,12 +66,14 @@ module _ (p : Position) where
     pub one-open : (d : ℕ) → p .next-board ≡ Only d → d ≤ 8 → bitAnd n (1 * 2 ^ d % 4294967296) ≡ digits playable 9
     one-open d f h = is-digits playable 9 _
         (lt-of-le-of-lt (and-le-l n (1 * 2 ^ d % 4294967296)) (rw e (digits-lt (open-board p) 9)))
-        (λ k i. bit-and n (1 * 2 ^ d % 4294967296) k ∙ ap₂ _&&_ (ap (λ (m : ℕ). bit m k) e ∙ bit-digits (open-board p) 9 k i) (one-digit d k (omega arith)) ∙ sym (rw (o, f)))
+        (λ k i. bit-and n (1 * 2 ^ d % 4294967296) k ∙ ap₂ _&&_ (ap (λ (m : ℕ). bit m k) e ∙ bit-digits (open-board p) 9 k i)
+        (one-digit d k (omega arith)) ∙ sym (rw (o, f)))
 
 -- ---- the empty cells of some boards
 module _ (l : LocalBoards) (test : ℕ → Bool) (n : ℕ) (e : n ≡ digits test 9) (f : ℕ → Bool)
     (q : (b c : ℕ) → b < 9 → c < 9 → f (move-of b c) ≡ (test b && blank (cell-at l b c))) where
-  one-row : (r m : ℕ) → r < 3 → ((j : ℕ) → bit m j ≡ bit n (3 * r + j)) → row-free (getD (l .rows) r no-row) m ≡ row-over r (filter f places)
+  one-row : (r m : ℕ) → r < 3 → ((j : ℕ) → bit m j ≡ bit n (3 * r + j)) →
+      row-free (getD (l .rows) r no-row) m ≡ row-over r (filter f places)
   unfolding row-free
   one-row r m h s =
       digits-same (λ k. bit m (k / 9) && blank (row-cell (getD (l .rows) r no-row) k)) (λ k. f (move-at r k)) 27 digit
@@ -81,7 +83,8 @@ module _ (l : LocalBoards) (test : ℕ → Bool) (n : ℕ) (e : n ≡ digits tes
       digit k i =
           let b = 3 * r + k / 9 in
           let hb : b < 9 = omega arith in
-          sym (q b (k % 9) hb (omega arith) ∙ ap₂ _&&_ (sym (s (k / 9) ∙ ap (λ (z : ℕ). bit z b) e ∙ bit-digits test 9 b hb)) (ap blank (place-cell l r k h i)))
+          sym (q b (k % 9) hb (omega arith) ∙ ap₂ _&&_ (sym (s (k / 9) ∙ ap (λ (z : ℕ). bit z b) e ∙ bit-digits test 9 b hb))
+          (ap blank (place-cell l r k h i)))
 
   pub free-cursor : free-cells l n ≡ cursor-over (filter f places)
   free-cursor = λ i. record {
@@ -106,6 +109,7 @@ accepts-is p b c hb hc = same-by (accepts p (move-of b c)) (playable p b && free
         →accepts-at p b c (record { board = hb; cell = hc; unfinished = s .0; opened = u .0; allowed = u .1; empty = r .1 })
 
 -- the empty cells of the boards that may be played are the moves
-pub moves-cursor : (g : Game) (n : ℕ) → n ≡ digits (playable (position-of g)) 9 → free-cells (g .«local_boards») n ≡ cursor-over (moves (position-of g))
+pub moves-cursor : (g : Game) (n : ℕ) → n ≡ digits (playable (position-of g)) 9 →
+    free-cells (g .«local_boards») n ≡ cursor-over (moves (position-of g))
 unfolding moves
 moves-cursor g n e = free-cursor (g .«local_boards») (playable (position-of g)) n e (accepts (position-of g)) (accepts-is (position-of g))

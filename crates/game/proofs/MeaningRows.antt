@@ -8,7 +8,8 @@ use Rattle.boards.specs.Packed.{no-row, place, cell-at}
 use Rattle.boards.specs.Rows.{row-cell}
 use Rattle.boards.proofs.Packed.{cell-in}
 
-pub place-cell : (l : LocalBoards) (r k : ℕ) → r < 3 → k < 27 → cell-at l (3 * r + k / 9) (k % 9) ≡ row-cell (getD (l .rows) r no-row) k
+pub place-cell : (l : LocalBoards) (r k : ℕ) → r < 3 → k < 27 → cell-at l (3 * r + k / 9) (k % 9)
+    ≡ row-cell (getD (l .rows) r no-row) k
 place-cell l r k h i =
     let b = 3 * r + k / 9 in
     let c = k % 9 in

@@ -14,5 +14,6 @@ same-number X O = refl
 same-number O X = refl
 same-number O O = refl
 
-pub same-won : (a b : GameState) (w v : Player) (m n : ℕ) → a ≡ Won w → b ≡ Won v → m ≡ side-number w → n ≡ side-number v → eqb m n ≡ same-state a b
+pub same-won : (a b : GameState) (w v : Player) (m n : ℕ) → a ≡ Won w → b ≡ Won v → m ≡ side-number w →
+    n ≡ side-number v → eqb m n ≡ same-state a b
 same-won a b w v m n ea eb em en = rw (ea, eb, em, en) (same-number w v)

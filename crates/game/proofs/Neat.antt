@@ -87,12 +87,18 @@ row→ : (r : Row) → T (neat-row r) → NeatRow r
 row→ r t =
     let a = and→ (ltb (r .x) (2 ^ 27)) _ t in
     let b = and→ (ltb (r .o) (2 ^ 27)) _ (a .1) in
-    record { xs = ltb→lt _ _ (a .0); os = ltb→lt _ _ (b .0); apart = λ k. sym (bit-and (r .x) (r .o) k) ∙ ap (λ (n : ℕ). bit n k) (eqb→eq _ 0 (b .1)) ∙ bit-nought k }
+    record {
+      xs = ltb→lt _ _ (a .0);
+      os = ltb→lt _ _ (b .0);
+      apart = λ k. sym (bit-and (r .x) (r .o) k)
+          ∙ ap (λ (n : ℕ). bit n k) (eqb→eq _ 0 (b .1)) ∙ bit-nought k;
+    }
 
 →row : (r : Row) → NeatRow r → T (neat-row r)
 →row r n =
     →and (ltb (r .x) (2 ^ 27)) _ (lt→ltb _ _ (n .xs))
-    (→and (ltb (r .o) (2 ^ 27)) _ (lt→ltb _ _ (n .os)) (rw (bit-ext (bitAnd (r .x) (r .o)) 0 (λ k. bit-and (r .x) (r .o) k ∙ n .apart k ∙ sym (bit-nought k))) tt))
+    (→and (ltb (r .o) (2 ^ 27)) _ (lt→ltb _ _ (n .os))
+    (rw (bit-ext (bitAnd (r .x) (r .o)) 0 (λ k. bit-and (r .x) (r .o) k ∙ n .apart k ∙ sym (bit-nought k))) tt))
 
 none-o : (p q : Bool) → T (blank (cell-of-bits p q)) → q ≡ false
 none-o false false t = refl
@@ -135,9 +141,11 @@ module _ (s : GlobalStates) (b : ℕ) (h : b < 9) (x : s .x < 2 ^ 9) (o : s .o <
 
   pub with-state-neat : (g : GameState) → (with-state s b g .x < 2 ^ 9) × (with-state s b g .o < 2 ^ 9)
   unfolding with-state
-  with-state-neat g = if-ind (λ (z : GlobalStates). (z .x < 2 ^ 9) × (z .o < 2 ^ 9)) (ltb b 9) _ _ (λ _. state-with-neat g) (λ _. (x, o))
+  with-state-neat g =
+      if-ind (λ (z : GlobalStates). (z .x < 2 ^ 9) × (z .o < 2 ^ 9)) (ltb b 9) _ _ (λ _. state-with-neat g) (λ _. (x, o))
 
-module _ (l : LocalBoards) (b c : ℕ) (w : Player) (hb : b < 9) (hc : c < 9) (t : T (blank (cell-at l b c))) (n : length (l .rows) ≡ 3) (a : T (all neat-row (l .rows))) where
+module _ (l : LocalBoards) (b c : ℕ) (w : Player) (hb : b < 9) (hc : c < 9) (t : T (blank (cell-at l b c))) (n : length (l .rows) ≡ 3)
+    (a : T (all neat-row (l .rows))) where
   pub with-cell-neat : (length (with-cell l b c w .rows) ≡ 3) × T (all neat-row (with-cell l b c w .rows))
   unfolding with-cell
   with-cell-neat = if-ind (λ (z : LocalBoards). (length (z .rows) ≡ 3) × T (all neat-row (z .rows))) (ltb b 9 && ltb c 9) _ _
@@ -164,7 +172,8 @@ after-move-neat g b c l n =
 
 pub game-after-neat : (g : Game) (m : ℕ) → T (neat g) → T (neat (game-after g m))
 game-after-neat g m t = elim (is (accepts (position-of g) m)) [
-  | inl a ↦ subst (λ (h : Game). T (neat h)) (sym (game-accepted g m a)) (→neat _ (after-move-neat g (board-of m) (cell-of m) (accepts→ (position-of g) m a) (neat→ g t)))
+  | inl a ↦ subst (λ (h : Game). T (neat h)) (sym (game-accepted g m a))
+      (→neat _ (after-move-neat g (board-of m) (cell-of m) (accepts→ (position-of g) m a) (neat→ g t)))
   | inr a ↦ subst (λ (h : Game). T (neat h)) (sym (game-refused g m a)) t
 ]
 
@@ -216,20 +225,30 @@ module _ (g : Game) (n : Neat g) where
   unfolding row-bits
   fixed-row r h =
       let q = row→ (row r) (all-get neat-row (l .rows) r no-row (n .each) tt) in
-      let x : row-bits p X r ≡ row r .x = sym (is-digits _ 27 (row r .x) (q .xs) (λ k i. sym (ap (mine X) (place-cell l r k h i) ∙ one-x (bit (row r .x) k) (bit (row r .o) k)))) in
-      let o : row-bits p O r ≡ row r .o = sym (is-digits _ 27 (row r .o) (q .os) (λ k i. sym (ap (mine O) (place-cell l r k h i) ∙ one-o (bit (row r .x) k) (bit (row r .o) k) (q .apart k)))) in
+      let x : row-bits p X r
+      ≡ row r .x = sym (is-digits _ 27 (row r .x) (q .xs) (λ k i. sym
+      (ap (mine X) (place-cell l r k h i) ∙ one-x (bit (row r .x) k) (bit (row r .o) k)))) in
+      let o : row-bits p O r
+      ≡ row r .o = sym (is-digits _ 27 (row r .o) (q .os) (λ k i. sym
+      (ap (mine O) (place-cell l r k h i) ∙ one-o (bit (row r .x) k) (bit (row r .o) k) (q .apart k)))) in
       λ i. record { x = x i; o = o i }
 
   fixed-rows : row-for p 0 ∷ row-for p 1 ∷ row-for p 2 ∷ [] ≡ l .rows
-  fixed-rows = (λ i. fixed-row 0 (lit< tt) i ∷ fixed-row 1 (lit< tt) i ∷ fixed-row 2 (lit< tt) i ∷ []) ∙ sym (three-rows (l .rows) (n .three))
+  fixed-rows =
+      (λ i. fixed-row 0 (lit< tt) i ∷ fixed-row 1 (lit< tt) i ∷ fixed-row 2 (lit< tt) i ∷ [])
+      ∙ sym (three-rows (l .rows) (n .three))
 
   fixed-x : state-bits p X ≡ s .x
   unfolding state-bits
-  fixed-x = sym (is-digits _ 9 (s .x) (n .xs) (λ b h. sym (ap (λ (z : GameState). won-by X z || drawn z) (state-in s b h) ∙ state-x (bit (s .x) b) (bit (s .o) b))))
+  fixed-x =
+      sym (is-digits _ 9 (s .x) (n .xs)
+      (λ b h. sym (ap (λ (z : GameState). won-by X z || drawn z) (state-in s b h) ∙ state-x (bit (s .x) b) (bit (s .o) b))))
 
   fixed-o : state-bits p O ≡ s .o
   unfolding state-bits
-  fixed-o = sym (is-digits _ 9 (s .o) (n .os) (λ b h. sym (ap (λ (z : GameState). won-by O z || drawn z) (state-in s b h) ∙ state-o (bit (s .x) b) (bit (s .o) b))))
+  fixed-o =
+      sym (is-digits _ 9 (s .o) (n .os)
+      (λ b h. sym (ap (λ (z : GameState). won-by O z || drawn z) (state-in s b h) ∙ state-o (bit (s .x) b) (bit (s .o) b))))
 
   fixed : game-of p (g .hash) ≡ g
   fixed = λ i. record {
@@ -263,7 +282,8 @@ module _ (p : Position) (h : ℕ) where
       →and (ltb (digits (f X) 27) (2 ^ 27)) _ (lt→ltb _ _ x)
       (→and (ltb (digits (f O) 27) (2 ^ 27)) _ (lt→ltb _ _ o)
       (rw (bit-ext-below 27 (bitAnd (digits (f X) 27) (digits (f O) 27)) 0 (and-lt 27 _ _ x o) (pow-pos 27)
-      (λ k i. bit-and (digits (f X) 27) (digits (f O) 27) k ∙ ap₂ _&&_ (bit-digits (f X) 27 k i) (bit-digits (f O) 27 k i) ∙ one-mine (p .cells (3 * r + k / 9) (k % 9)) ∙ sym (bit-nought k))) tt))
+      (λ k i. bit-and (digits (f X) 27) (digits (f O) 27) k ∙ ap₂ _&&_ (bit-digits (f X) 27 k i) (bit-digits (f O) 27 k i)
+      ∙ one-mine (p .cells (3 * r + k / 9) (k % 9)) ∙ sym (bit-nought k))) tt))
 
   -- if a due board is one of the nine
   pub game-of-neat : T (neat-next (p .next-board)) → T (neat (game-of p h))
@@ -271,7 +291,9 @@ module _ (p : Position) (h : ℕ) where
   game-of-neat d = →neat (game-of p h) (record {
     next = d;
     three = refl;
-    each = →and (neat-row (row-for p 0)) _ (row-for-neat 0) (→and (neat-row (row-for p 1)) _ (row-for-neat 1) (→and (neat-row (row-for p 2)) _ (row-for-neat 2) tt));
+    each =
+        →and (neat-row (row-for p 0)) _ (row-for-neat 0) (→and (neat-row (row-for p 1)) _ (row-for-neat 1)
+        (→and (neat-row (row-for p 2)) _ (row-for-neat 2) tt));
     xs = digits-lt _ 9;
     os = digits-lt _ 9;
   })
@@ -311,7 +333,8 @@ module _ (p : Position) (h : ℕ) (n : Nine p) where
   digit w b c i j =
       let x : 3 * (b / 3) + place b c / 9 ≡ b = omega arith in
       let y : place b c % 9 ≡ c = omega arith in
-      bit-digits (λ k. mine w (p .cells (3 * (b / 3) + k / 9) (k % 9))) 27 (place b c) (omega arith) ∙ (λ z. mine w (p .cells (x z) (y z)))
+      bit-digits (λ k. mine w (p .cells (3 * (b / 3) + k / 9) (k % 9))) 27 (place b c) (omega arith)
+      ∙ (λ z. mine w (p .cells (x z) (y z)))
 
   cell-again : (b c : ℕ) → Dec (b < 9) → Dec (c < 9) → cell-at boards b c ≡ p .cells b c
   cell-again b c (no q) k = cell-past-board boards b c (omega (arith, q)) ∙ sym (n .board-past b c (omega (arith, q)))
@@ -323,7 +346,8 @@ module _ (p : Position) (h : ℕ) (n : Nine p) where
   state-again : (b : ℕ) → Dec (b < 9) → state-at states b ≡ p .states b
   unfolding state-bits
   state-again b (no q) = Rattle.boards.proofs.Packed.state-past states b (omega (arith, q)) ∙ sym (n .state-past b (omega (arith, q)))
-  state-again b (yes i) = state-in states b i ∙ ap₂ state-of-bits (bit-digits _ 9 b i) (bit-digits _ 9 b i) ∙ whole-state (p .states b)
+  state-again b (yes i) =
+      state-in states b i ∙ ap₂ state-of-bits (bit-digits _ 9 b i) (bit-digits _ 9 b i) ∙ whole-state (p .states b)
 
   pub game-of-means : position-of (game-of p h) ≡ p
   game-of-means = same-position (position-of (game-of p h)) p refl refl

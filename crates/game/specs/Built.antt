@@ -23,14 +23,31 @@ no-states = record { x = 0; o = 0 }
 
 -- `Game::new`: X to move, free choice, hash 0
 abbrev pub new-game : Game
-new-game = record { «next_player» = X; «next_board» = Any; «local_boards» = no-boards; «global_states» = no-states; «game_state» = InPlay; hash = 0 }
+new-game =
+    record {
+      «next_player» = X;
+      «next_board» = Any;
+      «local_boards» = no-boards;
+      «global_states» = no-states;
+      «game_state» = InPlay;
+      hash = 0;
+    }
 
 abbrev pub with-hash : Game → ℕ → Game
-with-hash g h = record { «next_player» = g .«next_player»; «next_board» = g .«next_board»; «local_boards» = g .«local_boards»; «global_states» = g .«global_states»; «game_state» = g .«game_state»; hash = h }
+with-hash g h =
+    record {
+      «next_player» = g .«next_player»;
+      «next_board» = g .«next_board»;
+      «local_boards» = g .«local_boards»;
+      «global_states» = g .«global_states»;
+      «game_state» = g .«game_state»;
+      hash = h;
+    }
 
 -- a game from its parts, its hash worked out
 abbrev pub parts : Player → NextBoard → LocalBoards → GlobalStates → GameState → Game
-parts w n l s g = record { «next_player» = w; «next_board» = n; «local_boards» = l; «global_states» = s; «game_state» = g; hash = 0 }
+parts w n l s g =
+    record { «next_player» = w; «next_board» = n; «local_boards» = l; «global_states» = s; «game_state» = g; hash = 0 }
 
 unfoldable pub packed : Player → NextBoard → LocalBoards → GlobalStates → GameState → Game
 packed w n l s g = with-hash (parts w n l s g) (hash (position-of (parts w n l s g)))

@@ -1,5 +1,5 @@
--- Neat games: no bit above the 27 of a row and the 9 of the states, no cell with both bits, and a next board of 0 to 8 or none. Play keeps a game
--- neat, and a neat game is fixed by its position and its hash.
+-- Neat games: no bit above the 27 of a row and the 9 of the states, no cell with both bits, and a next board of 0 to 8 or none. Play keeps
+-- a game neat, and a neat game is fixed by its position and its hash.
 use mathlib.Core.Bool.{Bool, true, _&&_, _||_}
 use mathlib.Core.List.{[], _∷_}
 use Prim.Native.Nat.{ℕ, _+_, _*_, _/_, _%_, _^_}

@@ -187,7 +187,8 @@ impl Game {
 
     // The game after a move that is accepted.
     fn play(self, global: usize, local: usize) -> Game
-        requires { ⌜ (global < 9) × (local < 9) × T (open-board (position-of self) global) × T (free-cell (position-of self) global local) ⌝ }
+        requires { ⌜ (global < 9) × (local < 9) × T (open-board (position-of self) global) ×
+            T (free-cell (position-of self) global local) ⌝ }
         ensures { λ r. ⌜ r ≡ after-move self global local ⌝ }
     {
         let who = self.next_player;
@@ -237,7 +238,8 @@ impl Game {
 
     // The boards in which a move may be played: none of a finished game.
     fn playable(self) -> u32
-        ensures { λ r. ⌜ r ≡ digits (λ b. unfinished (position-of self) && (open-board (position-of self) b && may (position-of self .next-board) b)) 9 ⌝ }
+        ensures { λ r. ⌜ r ≡ digits (λ b. unfinished (position-of self) &&
+            (open-board (position-of self) b && may (position-of self .next-board) b)) 9 ⌝ }
     {
         let state = self.game_state;
         if state.terminal() {

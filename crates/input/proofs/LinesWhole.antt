@@ -28,9 +28,12 @@ record Kept (came rest : List ℕ) (room : ℕ) (t : LineTaken) : Type 0 where
   pub left-is : t .left ≡ rest
   pub found-is : t .found ≡ true
 
-goes : (l : InputLine) (kept came bs rest : List ℕ) → Unbroken bs → l .length ≡ length came → take (length came) kept ≡ came → length came + length bs ≤ length kept → length kept < 18446744073709551615 → Kept (came ++ bs) rest (length kept) (line-taken l kept (bs ++ (10 ∷ rest)))
+goes : (l : InputLine) (kept came bs rest : List ℕ) → Unbroken bs → l .length ≡ length came → take (length came) kept ≡ came →
+    length came + length bs ≤ length kept → length kept < 18446744073709551615 →
+    Kept (came ++ bs) rest (length kept) (line-taken l kept (bs ++ (10 ∷ rest)))
 unfolding line-taken if_then_else_
-goes l kept came [] rest u e k fits small = rw (append-nil came) (record { length-is = e; room-is = refl; kept-is = k; left-is = refl; found-is = refl })
+goes l kept came [] rest u e k fits small =
+    rw (append-nil came) (record { length-is = e; room-is = refl; kept-is = k; left-is = refl; found-is = refl })
 goes l kept came (b ∷ bs) rest u e k fits small =
     let n : l .length < length kept = omega arith in
     let m : l .length < 18446744073709551615 = omega arith in
@@ -47,11 +50,13 @@ module _ (kept bs rest : List ℕ) (u : Unbroken bs) (fits : length bs ≤ lengt
   line-is-kept : Kept bs rest (length kept) (line-taken new-line kept (bs ++ (10 ∷ rest)))
   line-is-kept = goes new-line kept [] bs rest u refl refl (omega arith) small
 
-  pub whole-line : complete-line (line-taken new-line kept (bs ++ (10 ∷ rest)) .line) (line-taken new-line kept (bs ++ (10 ∷ rest)) .kept) ≡ bs
+  pub whole-line : complete-line (line-taken new-line kept (bs ++ (10 ∷ rest)) .line)
+      (line-taken new-line kept (bs ++ (10 ∷ rest)) .kept) ≡ bs
   unfolding complete-line if_then_else_
   whole-line =
       let l = line-is-kept in
-      let h : line-taken new-line kept (bs ++ (10 ∷ rest)) .line .length ≤ length (line-taken new-line kept (bs ++ (10 ∷ rest)) .kept) = omega (arith, l .length-is, l .room-is) in
+      let h : line-taken new-line kept (bs ++ (10 ∷ rest)) .line .length ≤ length
+      (line-taken new-line kept (bs ++ (10 ∷ rest)) .kept) = omega (arith, l .length-is, l .room-is) in
       rw (le-leb _ _ h, l .length-is) (l .kept-is)
 
   pub line-found : line-taken new-line kept (bs ++ (10 ∷ rest)) .found ≡ true

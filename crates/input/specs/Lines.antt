@@ -33,7 +33,9 @@ pub record LineTaken : Type 0 where
 
 unfoldable pub line-taken : InputLine → List ℕ → List ℕ → LineTaken
 line-taken l kept [] = record { line = l; kept = kept; left = []; found = false }
-line-taken l kept (b ∷ bs) = if eqb b 0x0a then (λ _. record { line = l; kept = kept; left = bs; found = true }) else λ _. line-taken (with-byte l) (set kept (l .length) b) bs
+line-taken l kept (b ∷ bs) =
+    if eqb b 0x0a then (λ _. record { line = l; kept = kept; left = bs; found = true })
+    else λ _. line-taken (with-byte l) (set kept (l .length) b) bs
 
 -- the bytes that are not yet used
 abbrev pub unused : Input → List ℕ → List ℕ

@@ -43,7 +43,8 @@ use Rattle.program_line.proofs.Answered.{line-is-answered}
 use Rattle.line_buffer.specs.declared.LineBuffer.{LineBuffer}
 use Rattle.interface.specs.Lent.{Puts}
 use Rattle.interface.specs.Position.{words-of, game-from, is-position}
-use Rattle.interface.specs.Calls.{Answers, Starts, reading-number, read-place, ReadsPosition, Renders, answers-each, PlaysAll, draws-from, scoring-from, responses-from, responses-bytes, report-words, found, Analyzes}
+use Rattle.interface.specs.Calls.{Answers, Starts, reading-number, read-place, ReadsPosition, Renders, answers-each, PlaysAll}
+use Rattle.interface.specs.Calls.{draws-from, scoring-from, responses-from, responses-bytes, report-words, found, Analyzes}
 use Rattle.interface.proofs.LentPlaces.{left-written, left-kept, returned-bad, returned-well}
 use Rattle.interface.proofs.CallsPlay.{answers-length}
 
@@ -58,7 +59,8 @@ later-no : (a b : Bool) → a ≡ true → b ≡ false → (a && b) ≡ false
 later-no a b p q = ap (λ (x : Bool). x && b) p ∙ q
 
 -- ---- answer
-module _ (line : List ℕ) (o : AnswerText) (h : LineBuffer) (held : h ≡ pushed-all new-buffer line) (o-is : o ≡ text-of-bytes (asked-text (buffer-asks h)))
+module _ (line : List ℕ) (o : AnswerText) (h : LineBuffer) (held : h ≡ pushed-all new-buffer line)
+    (o-is : o ≡ text-of-bytes (asked-text (buffer-asks h)))
     (n : ℕ) (n-is : n ≡ min (o .len) 224) where
   answered : take n (o .bytes) ≡ answer-line line
   answered =
@@ -90,12 +92,14 @@ module _ (line : List ℕ) (o : AnswerText) (h : LineBuffer) (held : h ≡ pushe
 
 -- ---- new
 pub begins-short : (p : List ℕ) → length p < 12 → Starts p p 255
-begins-short p h = record { returns = returned-bad 0 _ (lt-leb 12 (length p) h); position-is = left-kept (words-of new-game) p _ (lt-leb 12 (length p) h) }
+begins-short p h =
+    record { returns = returned-bad 0 _ (lt-leb 12 (length p) h); position-is = left-kept (words-of new-game) p _ (lt-leb 12 (length p) h) }
 
 pub begins-well : (p m : List ℕ) (g : Game) → 12 ≤ length p → g ≡ new-game → Puts p (words-of g) 12 m → Starts p m 0
 begins-well p m g h e q = record {
   returns = returned-well 0 0 _ (le-leb 12 (length p) h) refl;
-  position-is = left-written (words-of new-game) p m _ (le-leb 12 (length p) h) h (q .stored ∙ ap (λ (k : Game). sets p 0 (words-of k)) e);
+  position-is =
+      left-written (words-of new-game) p m _ (le-leb 12 (length p) h) h (q .stored ∙ ap (λ (k : Game). sets p 0 (words-of k)) e);
 }
 
 -- ---- read
@@ -124,12 +128,15 @@ module _ (text p q : List ℕ) where
   reads-well r p-after q-after n is h k e f g =
       let ok = both _ _ (le-leb 12 (length p) h) (le-leb 2 (length q) k) in
       record {
-        returns = returned-well n (reading-number (read text)) _ ok (g ∙ answer-reads (r .answer) (r .game) ∙ ap reading-number (is .says));
+        returns =
+            returned-well n (reading-number (read text)) _ ok (g ∙ answer-reads (r .answer) (r .game) ∙ ap reading-number (is .says));
         position-is =
             left-written (words-of (game-for (read text))) p p-after _ ok
-            (omega (arith, sym (ap (λ (x : Game). length (words-of x)) (is .game-is)) ∙ e .many)) (e .stored ∙ ap (λ (x : Game). sets p 0 (words-of x)) (is .game-is));
+            (omega (arith, sym (ap (λ (x : Game). length (words-of x)) (is .game-is)) ∙ e .many))
+            (e .stored ∙ ap (λ (x : Game). sets p 0 (words-of x)) (is .game-is));
         place-is =
-            left-written (read-place (read text)) q q-after _ ok (omega (arith, place-length (read text))) (f ∙ ap (λ (x : Reading). sets q 0 (read-place x)) (is .says));
+            left-written (read-place (read text)) q q-after _ ok (omega (arith, place-length (read text)))
+            (f ∙ ap (λ (x : Reading). sets q 0 (read-place x)) (is .says));
       }
 
 -- ---- render
@@ -165,8 +172,10 @@ module _ (p ms answers : List ℕ) where
   pub plays-short : is-position p ≡ true → length answers < length ms → PlaysAll p ms answers p answers 255
   plays-short e h = plays-wrongly (later-no _ _ e (lt-leb (length ms) (length answers) h))
 
-  pub plays-well : (g after : Game) (p-after answers-after : List ℕ) → is-position p ≡ true → length ms ≤ length answers → 12 ≤ length p
-      → g ≡ game-from p → after ≡ games-after g ms → answers-after ≡ sets answers 0 (answers-each g ms) → Puts p (words-of after) 12 p-after
+  pub plays-well : (g after : Game) (p-after answers-after : List ℕ) → is-position p ≡ true → length ms ≤ length answers →
+      12 ≤ length p
+      → g ≡ game-from p → after ≡ games-after g ms → answers-after ≡ sets answers 0 (answers-each g ms) →
+      Puts p (words-of after) 12 p-after
       → PlaysAll p ms answers p-after answers-after 0
   plays-well g after p-after answers-after e h k q s w x =
       let ok = both _ _ e (le-leb (length ms) (length answers) h) in
@@ -175,7 +184,8 @@ module _ (p ms answers : List ℕ) where
         returns = returned-well 0 0 _ ok refl;
         position-is =
             left-written (words-of (games-after (game-from p) ms)) p p-after _ ok
-            (omega (arith, sym (ap (λ (y : Game). length (words-of y)) t) ∙ x .many)) (x .stored ∙ ap (λ (y : Game). sets p 0 (words-of y)) t);
+            (omega (arith, sym (ap (λ (y : Game). length (words-of y)) t) ∙ x .many))
+            (x .stored ∙ ap (λ (y : Game). sets p 0 (words-of y)) t);
         answers-is =
             left-written (answers-each (game-from p) ms) answers answers-after _ ok
             (omega (arith, answers-length (game-from p) ms)) (w ∙ ap (λ (y : Game). sets answers 0 (answers-each y ms)) q);
@@ -205,7 +215,13 @@ module _ (p ms : List ℕ) (depth allowance draws : ℕ) (answers words report :
   left-words m t b e q = q ∙ sym (ap (λ (x : Bool). if x then (λ _. t) else λ _. words) e)
 
   wrongly : ok ≡ false → Here answers words report 255
-  wrongly bad = record { returns = returned-bad _ _ bad; answers-is = left-kept _ answers _ bad; words-is = kept-words _ _ bad; report-is = left-kept _ report _ bad }
+  wrongly bad =
+      record {
+        returns = returned-bad _ _ bad;
+        answers-is = left-kept _ answers _ bad;
+        words-is = kept-words _ _ bad;
+        report-is = left-kept _ report _ bad;
+      }
 
   pub analyzes-none : is-position p ≡ false → Here answers words report 255
   analyzes-none e = wrongly (first-no _ _ e)
@@ -226,7 +242,8 @@ module _ (p ms : List ℕ) (depth allowance draws : ℕ) (answers words report :
         module _ (b : 655 ≤ length report) (g : Game) (g-is : g ≡ here) (w : DrawWinner) (w-is : w ≡ draws-from draws) (m : Minimax)
             (rs-is : responses-of (m .responses) ≡ responses-from answers)
             (r : Report) (words-after : List ℕ)
-            (r-is : report-of r words-after ≡ reported-of m g (record { «max_depth» = depth; allowance = allowance; «draw_winner» = w }) words) where
+            (r-is : report-of r words-after
+            ≡ reported-of m g (record { «max_depth» = depth; allowance = allowance; «draw_winner» = w }) words) where
           abbrev rs : Responses
           rs = responses-of (m .responses)
 
@@ -253,7 +270,8 @@ module _ (p ms : List ℕ) (depth allowance draws : ℕ) (answers words report :
             byte-is : byte ≡ as-byte (analysis (position-of here) .status)
             byte-is = ap (λ (k : Status). k .bits) (s-is .status) ∙ ap (λ (k : Game). as-byte (analysis (position-of k) .status)) g-is
 
-            words-are : report-words (report-of r []) number byte ≡ report-words x (analysis (position-of here) .refusal) (as-byte (analysis (position-of here) .status))
+            words-are : report-words (report-of r []) number byte ≡ report-words x (analysis (position-of here) .refusal)
+                (as-byte (analysis (position-of here) .status))
             words-are =
                 ap (λ (k : Reported). report-words k number byte) found-is
                 ∙ ap (λ (k : ℕ). report-words x k byte) number-is
@@ -267,7 +285,8 @@ module _ (p ms : List ℕ) (depth allowance draws : ℕ) (answers words report :
                 → Puts report (report-words (report-of r []) number byte) 655 report-after
                 → n ≡ ending-number (r .ending) → Here answers-after words-after report-after n
             analyzes-well answers-after report-after n u v y =
-                let all = both _ _ e (both _ _ (le-leb draws 2 d) (both _ _ (le-leb 512 (length answers) a) (le-leb 655 (length report) b))) in
+                let all = both _ _ e (both _ _ (le-leb draws 2 d) (both _ _ (le-leb 512 (length answers) a)
+                (le-leb 655 (length report) b))) in
                 record {
                   returns = returned-well n (x .number) _ all (y ∙ ap (λ (k : Reported). k .number) found-is);
                   answers-is =

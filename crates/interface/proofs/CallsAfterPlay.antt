@@ -1,4 +1,5 @@
--- Demand 3 of a report with the table off: its list is what was tried by calls of ultimattt_play since the empty board, then the report's own moves.
+-- Demand 3 of a report with the table off: its list is what was tried by calls of ultimattt_play since the empty board, then the report's
+-- own moves.
 use mathlib.Core.Path.{_≡_, refl, sym, ap, _∙_, subst}
 use mathlib.Core.List.{List, [], _++_}
 use Prim.Native.Nat.{ℕ}
@@ -30,46 +31,49 @@ use Rattle.interface.specs.Position.{words-of, game-from}
 use Rattle.interface.specs.Calls.{scoring-from, responses-from, found}
 use Rattle.interface.proofs.PositionWords.{Byte, slice-comes-back}
 
-module _ (p ns ms : List ℕ) (depth allowance draws : ℕ) (answers report : List ℕ) (from : game-from p ≡ games-after new-game ns) where
-  abbrev q : Position
-  q = reached start (ns ++ ms)
+module _ (p ns ms : List ℕ) (depth allowance draws : ℕ) (answers report : List ℕ) (from : game-from p ≡ games-after new-game ns)
+  where
+    abbrev q : Position
+    q = reached start (ns ++ ms)
 
-  abbrev c : Settings
-  c = record { max-depth = depth; allowance = allowance }
+    abbrev c : Settings
+    c = record { max-depth = depth; allowance = allowance }
 
-  abbrev rs : Responses
-  rs = responses-from answers
+    abbrev rs : Responses
+    rs = responses-from answers
 
-  abbrev x : Reported
-  x = found p ms depth allowance draws answers [] report
+    abbrev x : Reported
+    x = found p ms depth allowance draws answers [] report
 
-  game-is : games-after (game-from p) ms ≡ games-after new-game (ns ++ ms)
-  game-is = ap (λ (g : Game). games-after g ms) from ∙ games-joined new-game ns ms
+    game-is : games-after (game-from p) ms ≡ games-after new-game (ns ++ ms)
+    game-is = ap (λ (g : Game). games-after g ms) from ∙ games-joined new-game ns ms
 
-  pub reached-is : position-of (games-after (game-from p) ms) ≡ q
-  reached-is = ap position-of game-is ∙ new-played-means (ns ++ ms)
+    pub reached-is : position-of (games-after (game-from p) ms) ≡ q
+    reached-is = ap position-of game-is ∙ new-played-means (ns ++ ms)
 
-  pub reported-is : x ≡ reported (game (scoring-from draws)) c q rs []
-  reported-is =
-      ap (λ (g : Game). reported (structs (scoring-from draws)) c g rs []) game-is
-      ∙ reported-rules (scoring-from draws) c (games-after new-game (ns ++ ms)) (new-played-neat (ns ++ ms)) (new-played-hash (ns ++ ms)) rs []
-      ∙ ap (λ (k : Position). reported (game (scoring-from draws)) c k rs []) (new-played-means (ns ++ ms))
+    pub reported-is : x ≡ reported (game (scoring-from draws)) c q rs []
+    reported-is =
+        ap (λ (g : Game). reported (structs (scoring-from draws)) c g rs []) game-is
+        ∙ reported-rules (scoring-from draws) c (games-after new-game (ns ++ ms)) (new-played-neat (ns ++ ms)) (new-played-hash (ns ++ ms))
+        rs []
+        ∙ ap (λ (k : Position). reported (game (scoring-from draws)) c k rs []) (new-played-means (ns ++ ms))
 
-  module _ (t : T (unfinished q)) where
-    pub found-answered : analysis (position-of (games-after (game-from p) ms)) .refusal ≡ 0
-    found-answered =
-        ap (λ (k : Position). analysis k .refusal) reached-is
-        ∙ ap (λ (y : Ends). y .refusal) (analysis-sound q t (good-is-sound q (reached-good start start-is-good (ns ++ ms)) t) .2)
+    module _ (t : T (unfinished q)) where
+      pub found-answered : analysis (position-of (games-after (game-from p) ms)) .refusal ≡ 0
+      found-answered =
+          ap (λ (k : Position). analysis k .refusal) reached-is
+          ∙ ap (λ (y : Ends). y .refusal) (analysis-sound q t (good-is-sound q (reached-good start start-is-good (ns ++ ms)) t) .2)
 
-    pub found-marks : MarkSays (scoring-from draws) c rs q x
-    found-marks = subst (MarkSays (scoring-from draws) c rs q) (sym reported-is) (reported-marks (ns ++ ms) t (scoring-from draws) c rs)
+      pub found-marks : MarkSays (scoring-from draws) c rs q x
+      found-marks = subst (MarkSays (scoring-from draws) c rs q) (sym reported-is) (reported-marks (ns ++ ms) t (scoring-from draws) c rs)
 
-    pub found-right : NotStopped (scoring-from draws) c rs q → ReportsMinimax (scoring-from draws) c rs q x
-    found-right n = subst (ReportsMinimax (scoring-from draws) c rs q) (sym reported-is) (reported-right (ns ++ ms) t (scoring-from draws) c rs n)
+      pub found-right : NotStopped (scoring-from draws) c rs q → ReportsMinimax (scoring-from draws) c rs q x
+      found-right n =
+          subst (ReportsMinimax (scoring-from draws) c rs q) (sym reported-is) (reported-right (ns ++ ms) t (scoring-from draws) c rs n)
 
-    pub found-holds : draws ≡ 0 → StatusHolds c rs q x (analysis q .status)
-    found-holds e = subst (λ (y : Reported). StatusHolds c rs q y (analysis q .status))
-        (sym (reported-is ∙ ap (λ (d : ℕ). reported (game (scoring-from d)) c q rs []) e)) (reported-holds (ns ++ ms) t c rs)
+      pub found-holds : draws ≡ 0 → StatusHolds c rs q x (analysis q .status)
+      found-holds e = subst (λ (y : Reported). StatusHolds c rs q y (analysis q .status))
+          (sym (reported-is ∙ ap (λ (d : ℕ). reported (game (scoring-from d)) c q rs []) e)) (reported-holds (ns ++ ms) t c rs)
 
 -- ---- the words that calls since the empty board have left are such a position
 next-is-byte : (n : NextBoard) → T (neat-next n) → Byte n

@@ -63,7 +63,8 @@ module _ (p ms : List ℕ) (m : Minimax) (c : Config) (draws : ℕ) (answers rep
   -- word by word
   pub analyzed-after : (answers-after words-after report-after : List ℕ) (n : ℕ)
       → Analyzes p ms (c .«max_depth») (c .allowance) draws answers [] report answers-after words-after report-after n
-      → report-after ≡ left ok (report-words (report-of (r .report) []) (analysis-number (r .analysis .answer)) (r .analysis .proven .bits)) report
+      → report-after ≡ left ok (report-words (report-of (r .report) []) (analysis-number (r .analysis .answer))
+      (r .analysis .proven .bits)) report
   analyzed-after answers-after words-after report-after n a =
       a .report-is
       ∙ ap (λ (x : Reported). left ok (report-words x (analysis here .refusal) (as-byte (analysis here .status))) report) found-is

@@ -11,7 +11,9 @@ use Rattle.game.specs.Meaning.{position-of}
 use Rattle.game.specs.After.{refusal, game-after}
 use Rattle.interface.specs.Calls.{answers-each}
 
-pub answers-next : (l ms : List ℕ) (g h : Game) (i n : ℕ) → i < length ms → n ≡ refusal (play (position-of g) (getD ms i 0)) → h ≡ game-after g (getD ms i 0) → sets (set l i n) (i + 1) (answers-each h (drop (i + 1) ms)) ≡ sets l i (answers-each g (drop i ms))
+pub answers-next : (l ms : List ℕ) (g h : Game) (i n : ℕ) → i < length ms → n ≡ refusal (play (position-of g) (getD ms i 0)) →
+    h ≡ game-after g (getD ms i 0) → sets (set l i n) (i + 1) (answers-each h (drop (i + 1) ms))
+    ≡ sets l i (answers-each g (drop i ms))
 unfolding answers-each
 answers-next l ms g h i n q e f =
     ap (λ (k : ℕ). sets (set l i n) k (answers-each h (drop k ms))) (add-one i)

@@ -17,7 +17,8 @@ pub sets-start : (l : List ℕ) (at : ℕ) (ws : List ℕ) → sets l (at + 0) (
 sets-start l at ws = ap (λ (k : ℕ). sets l k ws) (omega arith)
 
 -- one more
-pub sets-next : (l : List ℕ) (at i : ℕ) (ws : List ℕ) (x : ℕ) → i < length ws → x ≡ getD ws i 0 → sets (set l (at + i) x) (at + (i + 1)) (drop (i + 1) ws) ≡ sets l (at + i) (drop i ws)
+pub sets-next : (l : List ℕ) (at i : ℕ) (ws : List ℕ) (x : ℕ) → i < length ws → x ≡ getD ws i 0 →
+    sets (set l (at + i) x) (at + (i + 1)) (drop (i + 1) ws) ≡ sets l (at + i) (drop i ws)
 sets-next l at i ws x h e =
     ap (λ (k : ℕ). sets (set l (at + i) x) k (drop (i + 1) ws)) (omega arith)
     ∙ ap (λ (k : ℕ). sets (set l (at + i) x) (suc (at + i)) (drop k ws)) (add-one i)
@@ -30,12 +31,14 @@ sets-end l k i ws m h e = sym (ap (sets l k) (drop-of-length-le ws h)) ∙ e
 
 pub sets-join : (xs ys l : List ℕ) (k : ℕ) → sets (sets l k xs) (k + length xs) ys ≡ sets l k (xs ++ ys)
 sets-join [] ys l k = ap (λ (n : ℕ). sets l n ys) (omega arith)
-sets-join (x ∷ xs) ys l k = ap (λ (n : ℕ). sets (sets (set l k x) (suc k) xs) n ys) (omega arith) ∙ sets-join xs ys (set l k x) (suc k)
+sets-join (x ∷ xs) ys l k =
+    ap (λ (n : ℕ). sets (sets (set l k x) (suc k) xs) n ys) (omega arith) ∙ sets-join xs ys (set l k x) (suc k)
 
 -- asked rightly, what is written from the first place on is left
 pub left-written : (xs l m : List ℕ) (ok : Bool) → ok ≡ true → length xs ≤ length l → m ≡ sets l 0 xs → m ≡ left ok xs l
 unfolding left if_then_else_
-left-written xs l m true ok h e = let z : 0 + length xs ≡ length xs = omega arith in e ∙ sets-eq xs l 0 (omega arith) ∙ ap (λ (n : ℕ). xs ++ drop n l) z
+left-written xs l m true ok h e =
+    let z : 0 + length xs ≡ length xs = omega arith in e ∙ sets-eq xs l 0 (omega arith) ∙ ap (λ (n : ℕ). xs ++ drop n l) z
 left-written xs l m false ok h e = let z : _≡_ {A = ℕ} 0 1 = cc in absurd (omega arith)
 
 pub left-kept : (xs l : List ℕ) (ok : Bool) → ok ≡ false → l ≡ left ok xs l
@@ -51,8 +54,10 @@ unfolding returned if_then_else_
 returned-well r n ok e q = q ∙ sym (ap (λ (b : Bool). if b then (λ _. n) else λ _. 255) e)
 
 -- ---- a line held, by the bytes still to be pushed
-pub pushed-next : (h : LineBuffer) (bs : List ℕ) (i d : ℕ) → i < length bs → pushed-all (pushed h (getD bs i d)) (drop (i + 1) bs) ≡ pushed-all h (drop i bs)
-pushed-next h bs i d q = ap (λ (k : ℕ). pushed-all (pushed h (getD bs i d)) (drop k bs)) (add-one i) ∙ sym (ap (pushed-all h) (drop-cons bs i d q))
+pub pushed-next : (h : LineBuffer) (bs : List ℕ) (i d : ℕ) → i < length bs →
+    pushed-all (pushed h (getD bs i d)) (drop (i + 1) bs) ≡ pushed-all h (drop i bs)
+pushed-next h bs i d q =
+    ap (λ (k : ℕ). pushed-all (pushed h (getD bs i d)) (drop k bs)) (add-one i) ∙ sym (ap (pushed-all h) (drop-cons bs i d q))
 
 pub pushed-end : (h : LineBuffer) (bs : List ℕ) (i : ℕ) → length bs ≤ i → pushed-all h (drop i bs) ≡ h
 pushed-end h bs i q = ap (pushed-all h) (drop-of-length-le bs q)

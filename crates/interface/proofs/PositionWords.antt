@@ -22,7 +22,8 @@ use Rattle.boards.specs.declared.local.Row.{Row}
 use Rattle.rules.specs.declared.NextBoard.{NextBoard}
 use Rattle.rules.specs.declared.NextBoard.the-variants.{Any, Only}
 use Rattle.game.specs.declared.Game.{Game}
-use Rattle.interface.specs.Position.{next-board-word, row-words, words-of, side-from, next-board-from, state-from, row-from, game-from, most, all-within, is-position}
+use Rattle.interface.specs.Position.{next-board-word, row-words, words-of, side-from, next-board-from, state-from, row-from}
+use Rattle.interface.specs.Position.{game-from, most, all-within, is-position}
 
 pub within-short : (bs ws : List ℕ) → length ws < length bs → false ≡ all-within bs ws
 unfolding all-within
@@ -35,16 +36,24 @@ within-short (b ∷ bs) (w ∷ ws) h = rest (leb w b) (all-within bs ws) (within
     rest false t e = refl
 
 -- one place on
-within-step : (bs ws : List ℕ) (i : ℕ) → i < length bs → i < length ws → all-within (drop i bs) (drop i ws) ≡ (leb (getD ws i 0) (getD bs i 0) && all-within (drop (suc i) bs) (drop (suc i) ws))
+within-step : (bs ws : List ℕ) (i : ℕ) → i < length bs → i < length ws →
+    all-within (drop i bs) (drop i ws) ≡ (leb (getD ws i 0) (getD bs i 0) && all-within (drop (suc i) bs) (drop (suc i) ws))
 unfolding all-within
-within-step bs ws i h k = ap (λ (l : List ℕ). all-within l (drop i ws)) (drop-cons bs i 0 h) ∙ ap (all-within (getD bs i 0 ∷ drop (suc i) bs)) (drop-cons ws i 0 k)
+within-step bs ws i h k =
+    ap (λ (l : List ℕ). all-within l (drop i ws)) (drop-cons bs i 0 h) ∙ ap (all-within (getD bs i 0 ∷ drop (suc i) bs))
+    (drop-cons ws i 0 k)
 
-pub within-over : (bs ws : List ℕ) (i : ℕ) → i < length bs → i < length ws → getD bs i 0 < getD ws i 0 → all-within (drop i bs) (drop i ws) ≡ false
-within-over bs ws i h k o = within-step bs ws i h k ∙ ap (λ (t : Bool). t && all-within (drop (suc i) bs) (drop (suc i) ws)) (lt-leb (getD ws i 0) (getD bs i 0) o)
+pub within-over : (bs ws : List ℕ) (i : ℕ) → i < length bs → i < length ws → getD bs i 0 < getD ws i 0 →
+    all-within (drop i bs) (drop i ws) ≡ false
+within-over bs ws i h k o =
+    within-step bs ws i h k ∙ ap (λ (t : Bool). t && all-within (drop (suc i) bs) (drop (suc i) ws))
+    (lt-leb (getD ws i 0) (getD bs i 0) o)
 
-pub within-under : (bs ws : List ℕ) (i : ℕ) → i < length bs → i < length ws → getD ws i 0 ≤ getD bs i 0 → all-within (drop i bs) (drop i ws) ≡ all-within (drop (i + 1) bs) (drop (i + 1) ws)
+pub within-under : (bs ws : List ℕ) (i : ℕ) → i < length bs → i < length ws → getD ws i 0 ≤ getD bs i 0 →
+    all-within (drop i bs) (drop i ws) ≡ all-within (drop (i + 1) bs) (drop (i + 1) ws)
 within-under bs ws i h k o =
-    within-step bs ws i h k ∙ ap (λ (t : Bool). t && all-within (drop (suc i) bs) (drop (suc i) ws)) (le-leb (getD ws i 0) (getD bs i 0) o)
+    within-step bs ws i h k ∙ ap (λ (t : Bool). t && all-within (drop (suc i) bs) (drop (suc i) ws))
+    (le-leb (getD ws i 0) (getD bs i 0) o)
     ∙ sym (ap (λ (n : ℕ). all-within (drop n bs) (drop n ws)) (add-one i))
 
 pub within-end : (bs ws : List ℕ) (i : ℕ) → length bs ≤ i → all-within (drop i bs) (drop i ws) ≡ true
@@ -71,7 +80,8 @@ pub within-long : (bs ws : List ℕ) → T (all-within bs ws) → length bs ≤ 
 unfolding all-within
 within-long [] ws t = omega arith
 within-long (b ∷ bs) [] t = absurd t
-within-long (b ∷ bs) (w ∷ ws) t = let h : length bs ≤ length ws = within-long bs ws (and→ (leb w b) (all-within bs ws) t .1) in omega arith
+within-long (b ∷ bs) (w ∷ ws) t =
+    let h : length bs ≤ length ws = within-long bs ws (and→ (leb w b) (all-within bs ws) t .1) in omega arith
 
 -- ---- the twelve words of a position
 module _ (ws : List ℕ) (t : T (is-position ws)) where
@@ -86,7 +96,8 @@ abbrev row-at : List Row → ℕ → Row
 row-at rs k = getD rs k (record { x = 0; o = 0 })
 
 six-words : (rs : List Row) (ws : List ℕ) (a b c d e f : ℕ) → length rs ≡ 3
-    → a ≡ row-at rs 0 .x → b ≡ row-at rs 0 .o → c ≡ row-at rs 1 .x → d ≡ row-at rs 1 .o → e ≡ row-at rs 2 .x → f ≡ row-at rs 2 .o
+    → a ≡ row-at rs 0 .x → b ≡ row-at rs 0 .o → c ≡ row-at rs 1 .x → d ≡ row-at rs 1 .o → e ≡ row-at rs 2 .x →
+    f ≡ row-at rs 2 .o
     → a ∷ b ∷ c ∷ d ∷ e ∷ f ∷ ws ≡ row-words rs ++ ws
 six-words [] ws a b c d e f n p q r s t u = absurd (omega arith)
 six-words (x ∷ []) ws a b c d e f n p q r s t u = absurd (omega arith)
@@ -103,8 +114,10 @@ module _ (g : Game) where
   last who due state = g .«global_states» .x ∷ g .«global_states» .o ∷ who ∷ due ∷ state ∷ g .hash ∷ []
 
   pub words-made : (a b c d e f who due state : ℕ) → length rs ≡ 3
-      → a ≡ row-at rs 0 .x → b ≡ row-at rs 0 .o → c ≡ row-at rs 1 .x → d ≡ row-at rs 1 .o → e ≡ row-at rs 2 .x → f ≡ row-at rs 2 .o
-      → who ≡ side-number (g .«next_player») → due ≡ next-board-word (g .«next_board») → state ≡ state-number (g .«game_state»)
+      → a ≡ row-at rs 0 .x → b ≡ row-at rs 0 .o → c ≡ row-at rs 1 .x → d ≡ row-at rs 1 .o → e ≡ row-at rs 2 .x →
+      f ≡ row-at rs 2 .o
+      → who ≡ side-number (g .«next_player») → due ≡ next-board-word (g .«next_board») →
+      state ≡ state-number (g .«game_state»)
       → a ∷ b ∷ c ∷ d ∷ e ∷ f ∷ last who due state ≡ words-of g
   words-made a b c d e f who due state n p q r s t u v w x =
       six-words rs (last who due state) a b c d e f n p q r s t u
@@ -145,9 +158,25 @@ due-back : (n : NextBoard) → Byte n → next-board-from (next-board-word n) �
 due-back Any h = refl
 due-back (Only b) h = simp (ne-eqb b 256 (λ e. omega arith))
 
-slice-back : (who : Player) (next : NextBoard) (rs : List Row) (x o : ℕ) (state : GameState) (h : ℕ) (rest : List ℕ) → length rs ≡ 3 → Byte next
-    → game-from (words-of (record { «next_player» = who; «next_board» = next; «local_boards» = record { rows = rs }; «global_states» = record { x = x; o = o }; «game_state» = state; hash = h }) ++ rest)
-    ≡ record { «next_player» = who; «next_board» = next; «local_boards» = record { rows = rs }; «global_states» = record { x = x; o = o }; «game_state» = state; hash = h }
+slice-back : (who : Player) (next : NextBoard) (rs : List Row) (x o : ℕ) (state : GameState) (h : ℕ) (rest : List ℕ) →
+    length rs ≡ 3 → Byte next
+    → game-from (words-of
+    (record {
+      «next_player» = who;
+      «next_board» = next;
+      «local_boards» = record { rows = rs };
+      «global_states» = record { x = x; o = o };
+      «game_state» = state;
+      hash = h;
+    }) ++ rest)
+    ≡ record {
+      «next_player» = who;
+      «next_board» = next;
+      «local_boards» = record { rows = rs };
+      «global_states» = record { x = x; o = o };
+      «game_state» = state;
+      hash = h;
+    }
 unfolding game-from
 slice-back who next [] x o state h rest n k = absurd (omega arith)
 slice-back who next (a ∷ []) x o state h rest n k = absurd (omega arith)
@@ -155,8 +184,11 @@ slice-back who next (a ∷ b ∷ []) x o state h rest n k = absurd (omega arith)
 slice-back who next (a ∷ b ∷ c ∷ []) x o state h rest n k = simp (side-back who, due-back next k, state-back state)
 slice-back who next (a ∷ b ∷ c ∷ d ∷ rs) x o state h rest n k = absurd (omega arith)
 
-pub slice-comes-back : (g : Game) (rest : List ℕ) → length (g .«local_boards» .rows) ≡ 3 → Byte (g .«next_board») → game-from (words-of g ++ rest) ≡ g
-slice-comes-back g rest = slice-back (g .«next_player») (g .«next_board») (g .«local_boards» .rows) (g .«global_states» .x) (g .«global_states» .o) (g .«game_state») (g .hash) rest
+pub slice-comes-back : (g : Game) (rest : List ℕ) → length (g .«local_boards» .rows) ≡ 3 → Byte (g .«next_board») →
+    game-from (words-of g ++ rest) ≡ g
+slice-comes-back g rest =
+    slice-back (g .«next_player») (g .«next_board») (g .«local_boards» .rows) (g .«global_states» .x) (g .«global_states» .o)
+    (g .«game_state») (g .hash) rest
 
 -- ---- the words of a neat game are a position, whatever follows them: so a call takes what another has left
 row-fits : (r : Row) → T (neat-row r) → (r .x ≤ 0xffff_ffff) × (r .o ≤ 0xffff_ffff)
@@ -183,7 +215,15 @@ state-fits (Won O) = tt
 
 fits : (who : Player) (next : NextBoard) (rs : List Row) (x o : ℕ) (state : GameState) (h : ℕ) (rest : List ℕ)
     → T (neat-next next) → length rs ≡ 3 → T (all neat-row rs) → x < 2 ^ 9 → o < 2 ^ 9 → h ≤ 0xffff_ffff_ffff_ffff
-    → T (is-position (words-of (record { «next_player» = who; «next_board» = next; «local_boards» = record { rows = rs }; «global_states» = record { x = x; o = o }; «game_state» = state; hash = h }) ++ rest))
+    → T (is-position (words-of
+    (record {
+      «next_player» = who;
+      «next_board» = next;
+      «local_boards» = record { rows = rs };
+      «global_states» = record { x = x; o = o };
+      «game_state» = state;
+      hash = h;
+    }) ++ rest))
 unfolding all-within all
 fits who next [] x o state h rest d n t p q w = absurd (omega arith)
 fits who next (a ∷ []) x o state h rest d n t p q w = absurd (omega arith)
@@ -203,7 +243,9 @@ fits who next (a ∷ b ∷ c ∷ []) x o state h rest d n t p q w =
     (→and (leb (state-number state) 3) _ (state-fits state) (→and (leb h 0xffff_ffff_ffff_ffff) _ (le→leb _ _ w) tt)))))))))))
 fits who next (a ∷ b ∷ c ∷ e ∷ es) x o state h rest d n t p q w = absurd (omega arith)
 
-pub neat-is-position : (g : Game) (rest : List ℕ) → T (neat g) → g .hash ≤ 0xffff_ffff_ffff_ffff → T (is-position (words-of g ++ rest))
+pub neat-is-position : (g : Game) (rest : List ℕ) → T (neat g) → g .hash ≤ 0xffff_ffff_ffff_ffff →
+    T (is-position (words-of g ++ rest))
 neat-is-position g rest t = let n = neat→ g t in
-    fits (g .«next_player») (g .«next_board») (g .«local_boards» .rows) (g .«global_states» .x) (g .«global_states» .o) (g .«game_state») (g .hash) rest
+    fits (g .«next_player») (g .«next_board») (g .«local_boards» .rows) (g .«global_states» .x) (g .«global_states» .o)
+    (g .«game_state») (g .hash) rest
     (n .next) (n .three) (n .each) (n .xs) (n .os)

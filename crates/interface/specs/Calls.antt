@@ -98,7 +98,8 @@ responses-bytes rs = rs .to-x ++ rs .to-o
 
 abbrev pub stats-words : Stats → List ℕ
 stats-words s =
-    s .depth ∷ to-word (s .score) ∷ s .tally .visited ∷ s .tally .terminal ∷ s .tally .cuts ∷ s .tally .tt-hit ∷ s .tally .tt-suffice ∷ []
+    s .depth ∷ to-word (s .score) ∷ s .tally .visited ∷ s .tally .terminal ∷ s .tally .cuts ∷ s .tally .tt-hit ∷
+    s .tally .tt-suffice ∷ []
 
 unfoldable pub all-stats : List Stats → List ℕ
 all-stats [] = []
@@ -106,7 +107,8 @@ all-stats (s ∷ ss) = stats-words s ++ all-stats ss
 
 -- of the search, and of the endgame analysis, by its number and its status byte
 abbrev pub head-words : Reported → ℕ → ℕ → List ℕ
-head-words x refusal status = x .number ∷ cond (x .is-stopped) 1 0 ∷ x .depth ∷ to-word (x .score) ∷ x .count ∷ refusal ∷ status ∷ []
+head-words x refusal status =
+    x .number ∷ cond (x .is-stopped) 1 0 ∷ x .depth ∷ to-word (x .score) ∷ x .count ∷ refusal ∷ status ∷ []
 
 -- then the line's moves, and seven words for each depth
 abbrev pub report-words : Reported → ℕ → ℕ → List ℕ
@@ -128,4 +130,5 @@ module _ (position moves : List ℕ) (depth allowance draws : ℕ) (answers word
     pub answers-is : answers-after ≡ left analyze-ok (responses-bytes (found .responses)) answers
     pub words-is : words-after ≡ (if analyze-ok then (λ _. found .table) else λ _. words)
     pub report-is :
-        report-after ≡ left analyze-ok (report-words found (analysis (position-of analysed) .refusal) (as-byte (analysis (position-of analysed) .status))) report
+        report-after ≡ left analyze-ok (report-words found (analysis (position-of analysed) .refusal)
+        (as-byte (analysis (position-of analysed) .status))) report

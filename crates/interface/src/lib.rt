@@ -41,7 +41,8 @@ pub extern "C" fn ultimattt_new(position: &mut [u64]) -> u64
 // A text, read as a position: 0, or refusal 1 to 6 with the empty board. In place, offset and length of the part that is refused.
 #[no_mangle]
 pub extern "C" fn ultimattt_read(text: &[u8], position: &mut [u64], place: &mut [u64]) -> u64
-    ensures { λ r. ⌜ ReadsPosition (now (text .entry)) (now (position .entry)) (now (place .entry)) (now (position .exit)) (now (place .exit)) r ⌝ }
+    ensures { λ r. ⌜ ReadsPosition (now (text .entry)) (now (position .entry)) (now (place .entry)) (now (position .exit))
+        (now (place .exit)) r ⌝ }
 {
     if position.len() < 12 {
         return BAD_ARGUMENT;

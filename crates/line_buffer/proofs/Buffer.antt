@@ -18,7 +18,8 @@ use Rattle.line_buffer.specs.declared.AfterBlank.{AfterBlank}
 use Rattle.line_buffer.specs.declared.AfterBlank.the-variants.{Nothing}
 use Rattle.line_buffer.specs.declared.LineBuffer.{LineBuffer}
 use Rattle.text.specs.Padded.{padded}
-use Rattle.line_buffer.specs.Buffer.{after-with, depth-after, new-buffer, pushed, pushed-all, buffer-asks, Same-question, tail-of, before-blank, behind-blank, buffer-of}
+use Rattle.line_buffer.specs.Buffer.{after-with, depth-after, new-buffer, pushed, pushed-all, buffer-asks, Same-question, tail-of}
+use Rattle.line_buffer.specs.Buffer.{before-blank, behind-blank, buffer-of}
 use Rattle.text.proofs.Padded.{set-padded, take-padded}
 use Rattle.text.proofs.Reading.{too-long-is-1}
 
@@ -45,7 +46,8 @@ unfolding pushed
 pushed-held line b = go (eqb b space) refl
   where
     made : (t : Bool) (q : Parted) → parted (line ++ (b ∷ [])) ≡ q → eqb b space ≡ t →
-        cond t (min (length line) 257) (before-blank (parted line)) ≡ before-blank q → cond t Nothing (after-with (behind-blank (parted line)) b) ≡ behind-blank q →
+        cond t (min (length line) 257) (before-blank (parted line)) ≡ before-blank q →
+        cond t Nothing (after-with (behind-blank (parted line)) b) ≡ behind-blank q →
         pushed (buffer-of line) b ≡ buffer-of (line ++ (b ∷ []))
     made t q e f x y = λ i. record {
       bytes = set-padded 257 line b i;
@@ -55,18 +57,22 @@ pushed-held line b = go (eqb b space) refl
     }
 
     go : (t : Bool) → eqb b space ≡ t → pushed (buffer-of line) b ≡ buffer-of (line ++ (b ∷ []))
-    go true e = made true (around line []) (ap (λ (c : ℕ). parted (line ++ (c ∷ []))) (eqb-true b space e) ∙ parted-blank line) e refl refl
-    go false e = made false (followed b (parted line)) (parted-other line b e) e (same-before (parted line) b) (longer-behind (parted line) b)
+    go true e =
+        made true (around line []) (ap (λ (c : ℕ). parted (line ++ (c ∷ []))) (eqb-true b space e) ∙ parted-blank line) e refl refl
+    go false e =
+        made false (followed b (parted line)) (parted-other line b e) e (same-before (parted line) b) (longer-behind (parted line) b)
 
 -- what the code keeps: the byte where there is room
 pub record Kept (h : LineBuffer) (b : ℕ) (bytes : List ℕ) (len : ℕ) : Type 0 where
   pub bytes-are : bytes ≡ set (h .bytes) (h .len) b
   pub len-is : len ≡ min (h .len + 1) 257
 
-pub kept-with-room : (h : LineBuffer) (b : ℕ) (bytes : List ℕ) (len : ℕ) → h .len < 257 → bytes ≡ set (h .bytes) (h .len) b → len ≡ h .len + 1 → Kept h b bytes len
+pub kept-with-room : (h : LineBuffer) (b : ℕ) (bytes : List ℕ) (len : ℕ) → h .len < 257 → bytes ≡ set (h .bytes) (h .len) b →
+    len ≡ h .len + 1 → Kept h b bytes len
 kept-with-room h b bytes len l e f = record { bytes-are = e; len-is = omega arith }
 
-pub kept-when-full : (h : LineBuffer) (b : ℕ) (bytes : List ℕ) (len : ℕ) → length (h .bytes) ≡ 257 → 257 ≤ h .len → bytes ≡ h .bytes → len ≡ 257 → Kept h b bytes len
+pub kept-when-full : (h : LineBuffer) (b : ℕ) (bytes : List ℕ) (len : ℕ) → length (h .bytes) ≡ 257 → 257 ≤ h .len →
+    bytes ≡ h .bytes → len ≡ 257 → Kept h b bytes len
 kept-when-full h b bytes len n l e f = record { bytes-are = e ∙ sym (set-out (h .bytes) (h .len) b (omega arith)); len-is = omega arith }
 
 module _ (h : LineBuffer) (b : ℕ) (bytes : List ℕ) (len : ℕ) (k : Kept h b bytes len) where
@@ -76,13 +82,16 @@ module _ (h : LineBuffer) (b : ℕ) (bytes : List ℕ) (len : ℕ) (k : Kept h b
   pushed-blank e = rw (eq-eqb b 32 e, k .bytes-are, k .len-is)
 
   -- any other byte follows it
-  pub pushed-other : (b ≡ 32 → ⊥) → (a : AfterBlank) → a ≡ after-with (h .after) b → record { bytes = bytes; len = len; text = h .text; after = a } ≡ pushed h b
+  pub pushed-other : (b ≡ 32 → ⊥) → (a : AfterBlank) → a ≡ after-with (h .after) b →
+      record { bytes = bytes; len = len; text = h .text; after = a } ≡ pushed h b
   unfolding pushed
   pushed-other n a e = rw (ne-eqb b 32 n, k .bytes-are, k .len-is, e)
 
 pub pushed-all-held : (line bs : List ℕ) → pushed-all (buffer-of line) bs ≡ buffer-of (line ++ bs)
 pushed-all-held line [] = ap buffer-of (sym (append-nil line))
-pushed-all-held line (b ∷ bs) = ap (λ (h : LineBuffer). pushed-all h bs) (pushed-held line b) ∙ pushed-all-held (line ++ (b ∷ [])) bs ∙ ap buffer-of (append-assoc line (b ∷ []) bs)
+pushed-all-held line (b ∷ bs) =
+    ap (λ (h : LineBuffer). pushed-all h bs) (pushed-held line b) ∙ pushed-all-held (line ++ (b ∷ [])) bs
+    ∙ ap buffer-of (append-assoc line (b ∷ []) bs)
 
 -- pushed byte by byte from the empty line, a line is held whole: its first 257 bytes, and what its last blank parts
 pub line-held : (line : List ℕ) → pushed-all new-buffer line ≡ buffer-of line
@@ -105,10 +114,13 @@ held-first text rest = go (decLe (length text) 257)
     go : Dec (length text ≤ 257) → take (min (min (length text) 257) 257) (padded 257 (text ++ rest)) ≡ take 257 text
     go (yes h) =
         let n : min (min (length text) 257) 257 ≡ length text = omega arith in
-        rw n (take-padded (length text) 257 (text ++ rest) h (omega (arith, length-append text rest)) ∙ take-append-le (length text) text rest (omega arith) ∙ take-all (length text) text (omega arith) ∙ sym (take-all 257 text h))
+        rw n (take-padded (length text) 257 (text ++ rest) h (omega (arith, length-append text rest))
+        ∙ take-append-le (length text) text rest (omega arith) ∙ take-all (length text) text (omega arith)
+        ∙ sym (take-all 257 text h))
     go (no h) =
         let n : min (min (length text) 257) 257 ≡ 257 = omega arith in
-        rw n (take-padded 257 257 (text ++ rest) (omega arith) (omega (arith, length-append text rest)) ∙ take-append-le 257 text rest (omega arith))
+        rw n (take-padded 257 257 (text ++ rest) (omega arith) (omega (arith, length-append text rest))
+        ∙ take-append-le 257 text rest (omega arith))
 
 depth-tail : (rest : List ℕ) → depth-after (tail-of rest) ≡ depth-of rest
 unfolding depth-of
@@ -121,13 +133,18 @@ same-asks : (t u : List ℕ) (d : Option ℕ) → read t ≡ read u → Same-que
 same-asks t u none e = tt
 same-asks t u (some n) e = (refl, e)
 
-asks-parted : (line : List ℕ) (p : Parted) → Parts line p → Same-question (asks-with (take (min (before-blank p) 257) (padded 257 line)) (depth-after (behind-blank p))) (asked-by p)
+asks-parted : (line : List ℕ) (p : Parted) → Parts line p → Same-question
+    (asks-with (take (min (before-blank p) 257) (padded 257 line)) (depth-after (behind-blank p))) (asked-by p)
 asks-parted line no-blank h = tt
 asks-parted line (around text rest) h =
-    subst (λ (l : List ℕ). Same-question (asks-with (take (min (min (length text) 257) 257) (padded 257 l)) (depth-after (tail-of rest))) (asks-with text (depth-of rest))) (sym (h .0))
-    (subst (λ (d : Option ℕ). Same-question (asks-with (take (min (min (length text) 257) 257) (padded 257 (text ++ (space ∷ rest)))) d) (asks-with text (depth-of rest))) (sym (depth-tail rest))
+    subst (λ (l : List ℕ). Same-question (asks-with (take (min (min (length text) 257) 257) (padded 257 l)) (depth-after (tail-of rest)))
+    (asks-with text (depth-of rest))) (sym (h .0))
+    (subst (λ (d : Option ℕ). Same-question (asks-with (take (min (min (length text) 257) 257) (padded 257 (text ++ (space ∷ rest))))
+    d) (asks-with text (depth-of rest))) (sym (depth-tail rest))
     (same-asks _ text (depth-of rest) (ap read (held-first text (space ∷ rest)) ∙ read-first-257 text)))
 
 -- for every list of bytes: 19 exactly where the line has no depth, else the same depth, and a text that is read alike
 pub held-asks-the-same : (line : List ℕ) → Same-question (buffer-asks (pushed-all new-buffer line)) (asked line)
-held-asks-the-same line = subst (λ (h : LineBuffer). Same-question (buffer-asks h) (asked line)) (sym (line-held line)) (asks-parted line (parted line) (parted-parts line))
+held-asks-the-same line =
+    subst (λ (h : LineBuffer). Same-question (buffer-asks h) (asked line)) (sym (line-held line))
+    (asks-parted line (parted line) (parted-parts line))

@@ -29,7 +29,8 @@ digit-bounds a r e t = let d = and-eq-true-iff (leb 48 a) (leb a 57) .0 (sym e �
 pub tens-fit : (a : ℕ) (r : Bool) → r ≡ is-digit a → not r ≡ false → Fits w8 (10 * (a - 48))
 tens-fit a r e t = let d = digit-bounds a r e (not-false r t) in record { fits = omega arith }
 
-pub sum-fits : (a b : ℕ) (r q : Bool) → r ≡ is-digit a → not r ≡ false → q ≡ is-digit b → q ≡ true → Fits w8 (10 * (a - 48) + (b - 48))
+pub sum-fits : (a b : ℕ) (r q : Bool) → r ≡ is-digit a → not r ≡ false → q ≡ is-digit b → q ≡ true →
+    Fits w8 (10 * (a - 48) + (b - 48))
 sum-fits a b r q e t f u = let d = digit-bounds a r e (not-false r t) in let g = digit-bounds b q f u in record { fits = omega arith }
 
 module _ (s : AfterBlank) where
@@ -54,7 +55,8 @@ module _ (s : AfterBlank) where
     unfolding depth-of if_then_else_
     two-first-other t = rw e (lacks _ (rw (sym d ∙ not-true r t)))
 
-    pub two-digits : not r ≡ false → (q : Bool) → q ≡ is-digit b → q ≡ true → DepthIs (depth-after s) (Of (10 * (a - 48) + (b - 48)))
+    pub two-digits : not r ≡ false → (q : Bool) → q ≡ is-digit b → q ≡ true →
+        DepthIs (depth-after s) (Of (10 * (a - 48) + (b - 48)))
     unfolding depth-of if_then_else_
     two-digits t q f u = rw e (tells _ _ (rw (sym d ∙ not-false r t, sym f ∙ u)))
 

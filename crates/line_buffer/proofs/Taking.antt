@@ -21,11 +21,13 @@ module _ (bytes : List ℕ) (h : LineBuffer) (i : ℕ) where
   next-byte : i < length bytes → drop i bytes ≡ getD bytes i 0 ∷ drop (i + 1) bytes
   next-byte l = drop-cons bytes i 0 l ∙ rw (add-one i)
 
-  pub byte-taken : i < length bytes → (getD bytes i 0 ≡ 10 → ⊥) → (r : LineBuffer) → r ≡ pushed h (getD bytes i 0) → buffered h (drop i bytes) ≡ buffered r (drop (i + 1) bytes)
+  pub byte-taken : i < length bytes → (getD bytes i 0 ≡ 10 → ⊥) → (r : LineBuffer) → r ≡ pushed h (getD bytes i 0) →
+      buffered h (drop i bytes) ≡ buffered r (drop (i + 1) bytes)
   unfolding buffered if_then_else_
   byte-taken l n r e = rw (next-byte l, ne-eqb (getD bytes i 0) 10 n, e)
 
-  pub line-found : i < length bytes → getD bytes i 0 ≡ 10 → buffered h (drop i bytes) ≡ record { line = h; left = drop (i + 1) bytes; found = true }
+  pub line-found : i < length bytes → getD bytes i 0 ≡ 10 → buffered h (drop i bytes)
+      ≡ record { line = h; left = drop (i + 1) bytes; found = true }
   unfolding buffered if_then_else_
   line-found l e = rw (next-byte l, eq-eqb (getD bytes i 0) 10 e)
 
@@ -34,15 +36,18 @@ module _ (bytes : List ℕ) (h : LineBuffer) (i : ℕ) where
   all-taken l = rw (drop-of-length-le bytes l)
 
 -- what was taken, by parts
-pub takes : (h : LineBuffer) (bytes : List ℕ) (from : ℕ) (r : TakenLine) (t : Buffered) → buffered h (drop from bytes) ≡ t → r .line ≡ t .line → r .found ≡ t .found → drop (r .at) bytes ≡ t .left →
+pub takes : (h : LineBuffer) (bytes : List ℕ) (from : ℕ) (r : TakenLine) (t : Buffered) → buffered h (drop from bytes) ≡ t →
+    r .line ≡ t .line → r .found ≡ t .found → drop (r .at) bytes ≡ t .left →
     (r .found ≡ true → (from < r .at) × (r .at ≤ length bytes)) → BuffersLine h bytes from r
-takes h bytes from r t e line-is found-is left-is on = record { line-is = rw e line-is; found-is = rw e found-is; left-is = rw e left-is; goes-on = on }
+takes h bytes from r t e line-is found-is left-is on =
+    record { line-is = rw e line-is; found-is = rw e found-is; left-is = rw e left-is; goes-on = on }
 
 -- ---- lines
 abbrev Plain : List ℕ → Type 0
 Plain line = T (all (λ b. not (eqb b line-feed)) line)
 
-plain-first : (h : LineBuffer) (b : ℕ) (bs : List ℕ) → T (not (eqb b line-feed)) → buffered h (b ∷ bs) ≡ buffered (pushed h b) bs
+plain-first : (h : LineBuffer) (b : ℕ) (bs : List ℕ) → T (not (eqb b line-feed)) →
+    buffered h (b ∷ bs) ≡ buffered (pushed h b) bs
 unfolding buffered if_then_else_
 plain-first h b bs = go (eqb b line-feed) (λ _. record { line = h; left = bs; found = true }) (λ _. buffered (pushed h b) bs)
   where
@@ -50,13 +55,16 @@ plain-first h b bs = go (eqb b line-feed) (λ _. record { line = h; left = bs; f
     go true x y t = absurd t
     go false x y t = refl
 
--- bytes with no line feed are pushed one by one, and what follows goes on with the line that they make: where a read ends makes no difference
+-- bytes with no line feed are pushed one by one, and what follows goes on with the line that they make: where a read ends makes no
+-- difference
 pub taken-append : (h : LineBuffer) (line bs : List ℕ) → Plain line → buffered h (line ++ bs) ≡ buffered (pushed-all h line) bs
 unfolding all
 taken-append h [] bs t = refl
-taken-append h (b ∷ line) bs t = let u = and→ (not (eqb b line-feed)) _ t in plain-first h b (line ++ bs) (u .0) ∙ taken-append (pushed h b) line bs (u .1)
+taken-append h (b ∷ line) bs t =
+    let u = and→ (not (eqb b line-feed)) _ t in plain-first h b (line ++ bs) (u .0) ∙ taken-append (pushed h b) line bs (u .1)
 
 -- a line feed ends it
-pub line-taken : (h : LineBuffer) (line bs : List ℕ) → Plain line → buffered h (line ++ (line-feed ∷ bs)) ≡ record { line = pushed-all h line; left = bs; found = true }
+pub line-taken : (h : LineBuffer) (line bs : List ℕ) → Plain line → buffered h (line ++ (line-feed ∷ bs))
+    ≡ record { line = pushed-all h line; left = bs; found = true }
 unfolding buffered if_then_else_
 line-taken h line bs t = taken-append h line (line-feed ∷ bs) t

@@ -94,4 +94,5 @@ behind-blank no-blank = Other
 behind-blank (around text rest) = tail-of rest
 
 abbrev pub buffer-of : List ℕ → LineBuffer
-buffer-of line = record { bytes = padded 257 line; len = min (length line) 257; text = before-blank (parted line); after = behind-blank (parted line) }
+buffer-of line =
+    record { bytes = padded 257 line; len = min (length line) 257; text = before-blank (parted line); after = behind-blank (parted line) }

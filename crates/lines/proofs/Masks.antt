@@ -96,7 +96,18 @@ small-full = same-below (λ n. eqb n 511) (λ n. not (any (λ k. not (bit n k)) 
 -- only the nine low digits count
 pub line-same : (f g : ℕ → Bool) → ((k : ℕ) → k < 9 → f k ≡ g k) → has-line f ≡ has-line g
 unfolding has-line any
-line-same f g e = rw (e 0 (lit< tt), e 1 (lit< tt), e 2 (lit< tt), e 3 (lit< tt), e 4 (lit< tt), e 5 (lit< tt), e 6 (lit< tt), e 7 (lit< tt), e 8 (lit< tt))
+line-same f g e =
+    rw (
+      e 0 (lit< tt),
+      e 1 (lit< tt),
+      e 2 (lit< tt),
+      e 3 (lit< tt),
+      e 4 (lit< tt),
+      e 5 (lit< tt),
+      e 6 (lit< tt),
+      e 7 (lit< tt),
+      e 8 (lit< tt),
+    )
 
 masks-small : (m : ℕ) → In m masks → m < 512
 unfolding all
@@ -106,7 +117,9 @@ low-covers : (n m : ℕ) → m < 512 → covers n m ≡ covers (n % 512) m
 low-covers n m h = ap (λ (k : ℕ). eqb k m) same
   where
     same : bitAnd n m ≡ bitAnd (n % 512) m
-    same = let a = and-mod n m 9 in let b = and-le-r n m in let c : m % 512 ≡ m = omega arith in let d = ap (bitAnd (n % 512)) c in omega arith
+    same =
+        let a = and-mod n m 9 in let b = and-le-r n m in let c : m % 512 ≡ m = omega arith in let d = ap (bitAnd (n % 512)) c in
+        omega arith
 
 low-bit : (n k : ℕ) → k < 9 → bit (n % 512) k ≡ bit n k
 low-bit n k h = rw (← and-mask n 9) (bit-masked 9 n k h)
@@ -130,8 +143,10 @@ module _ (n i : ℕ) (b : Bool) (h : i < 8) (e : any (covers n) (drop i masks) �
   mask-missed f = rw (ne-eqb (bitAnd n (getD masks i 0)) (getD masks i 0) f) at step
 
 -- ---- what nine digits say of the state of a board, or of the game
-pub line-known : (own : ℕ → Bool) (n : ℕ) (r b : Bool) → n ≡ digits own 9 → r ≡ has-line (bit n) → r ≡ b → has-line own ≡ b
-line-known own n r b e f g = sym (line-same (bit (digits own 9)) own (bit-digits own 9)) ∙ ap (λ (m : ℕ). has-line (bit m)) (sym e) ∙ sym f ∙ g
+pub line-known : (own : ℕ → Bool) (n : ℕ) (r b : Bool) → n ≡ digits own 9 → r ≡ has-line (bit n) → r ≡ b →
+    has-line own ≡ b
+line-known own n r b e f g =
+    sym (line-same (bit (digits own 9)) own (bit-digits own 9)) ∙ ap (λ (m : ℕ). has-line (bit m)) (sym e) ∙ sym f ∙ g
 
 full-of-digits : (left : ℕ → Bool) → eqb (digits (λ k. not (left k)) 9) 511 ≡ not (any left nine)
 full-of-digits left =

@@ -58,11 +58,13 @@ map-set (y ∷ l) zero x = refl
 map-set (y ∷ l) (suc i) x = ap (_∷_ (stats-of y)) (map-set l i x)
 
 module _ (d : CompletedDepths) (r : NodeResult) (x : Stats) (fits : d .depth < 81) (empty : Empty-on d) (long : length (d .stats) ≡ 81)
-    (kept : drop (d .depth + 1) (r .pv .moves) ≡ drop (d .depth + 1) (d .pv .moves)) (x-is : stats-of x ≡ record { depth = d .depth + 1; score = r .score; tally = tally-of (r .state) }) where
+    (kept : drop (d .depth + 1) (r .pv .moves) ≡ drop (d .depth + 1) (d .pv .moves))
+    (x-is : stats-of x ≡ record { depth = d .depth + 1; score = r .score; tally = tally-of (r .state) }) where
   abbrev next : ℤ → CompletedDepths
   next z = record { pv = r .pv; stats = set (d .stats) (d .depth) x; depth = d .depth + 1; score = z }
 
-  pub deeper-whole : (z : ℤ) → z ≡ r .score → completed-of (next z) ≡ one-deeper (completed-of d) (r .score) (pv-of (r .pv) (d .depth + 1)) (tally-of (r .state))
+  pub deeper-whole : (z : ℤ) → z ≡ r .score → completed-of (next z) ≡ one-deeper (completed-of d) (r .score)
+      (pv-of (r .pv) (d .depth + 1)) (tally-of (r .state))
   deeper-whole z e = λ i. record {
     depth = depth-is i;
     score = e i;
@@ -73,11 +75,13 @@ module _ (d : CompletedDepths) (r : NodeResult) (x : Stats) (fits : d .depth < 8
       depth-is : d .depth + 1 ≡ suc (d .depth)
       depth-is = omega arith
 
-      stats-is : take (d .depth + 1) (map stats-of (set (d .stats) (d .depth) x)) ≡ take (d .depth) (map stats-of (d .stats)) ++ (record { depth = suc (d .depth); score = r .score; tally = tally-of (r .state) } ∷ [])
+      stats-is : take (d .depth + 1) (map stats-of (set (d .stats) (d .depth) x)) ≡ take (d .depth) (map stats-of (d .stats)) ++
+          (record { depth = suc (d .depth); score = r .score; tally = tally-of (r .state) } ∷ [])
       stats-is =
           ap₂ (λ (n : ℕ) (l : List Meant). take n l) depth-is (map-set (d .stats) (d .depth) x)
           ∙ take-set (d .depth) (map stats-of (d .stats)) (stats-of x) (rw length-map (omega arith))
-          ∙ ap (λ (y : Meant). take (d .depth) (map stats-of (d .stats)) ++ (y ∷ [])) (x-is ∙ ap (λ (n : ℕ). record { depth = n; score = r .score; tally = tally-of (r .state) }) depth-is)
+          ∙ ap (λ (y : Meant). take (d .depth) (map stats-of (d .stats)) ++ (y ∷ []))
+          (x-is ∙ ap (λ (n : ℕ). record { depth = n; score = r .score; tally = tally-of (r .state) }) depth-is)
 
   pub deeper-empty : (z : ℤ) → Empty-on (next z)
   deeper-empty z = record {
@@ -93,13 +97,17 @@ module _ (d : CompletedDepths) (r : NodeResult) (x : Stats) (fits : d .depth < 8
       one : d .depth + 1 ≡ suc (d .depth)
       one = omega arith
 
-      later : {A : Type 0} (xs : List A) (y : A) → drop (d .depth) xs ≡ replicate (81 - d .depth) y → drop (d .depth + 1) xs ≡ replicate (81 - (d .depth + 1)) y
+      later : {A : Type 0} (xs : List A) (y : A) → drop (d .depth) xs ≡ replicate (81 - d .depth) y →
+          drop (d .depth + 1) xs ≡ replicate (81 - (d .depth + 1)) y
       later {A} xs y e = ap (λ (n : ℕ). drop n xs) one ∙ drop-next (d .depth) xs _ y (e ∙ rest-next (d .depth) y fits)
 
 -- ---- the report
 -- 81 places that are empty from d on
-fills : {A : Type 0} (d : ℕ) (xs : List A) (y : A) → length xs ≡ 81 → d ≤ 81 → drop d xs ≡ replicate (81 - d) y → xs ≡ filled y (take d xs)
-fills {A} d xs y n h e = take-drop d xs ∙ ap (λ (l : List A). take d xs ++ l) (e ∙ ap (λ (k : ℕ). replicate (81 - k) y) (sym (length-of-take d xs (omega arith))))
+fills : {A : Type 0} (d : ℕ) (xs : List A) (y : A) → length xs ≡ 81 → d ≤ 81 → drop d xs ≡ replicate (81 - d) y →
+    xs ≡ filled y (take d xs)
+fills {A} d xs y n h e =
+    take-drop d xs ∙ ap (λ (l : List A). take d xs ++ l) (e ∙ ap (λ (k : ℕ). replicate (81 - k) y)
+    (sym (length-of-take d xs (omega arith))))
 
 pub drop-bytes : (d : ℕ) (ms : List Move) → drop d (bytes-of ms) ≡ bytes-of (drop d ms)
 drop-bytes zero ms = refl
@@ -110,11 +118,21 @@ pub bytes-empty : (n : ℕ) → bytes-of (replicate n (record { bits = no-move }
 bytes-empty zero = refl
 bytes-empty (suc n) = ap (_∷_ no-move) (bytes-empty n)
 
-module _ (d : CompletedDepths) (s : SearchState) (stopped : Bool) (empty : Empty-on d) (long : length (d .pv .moves) ≡ 81) (stats-long : length (d .stats) ≡ 81)
-    (ending : Ending) (ended : (ending-number ending ≡ (if stopped && eqb (d .depth) 0 then (λ _. 18) else λ _. 0)) × (ending-stopped ending ≡ stopped)) where
+module _ (d : CompletedDepths) (s : SearchState) (stopped : Bool) (empty : Empty-on d) (long : length (d .pv .moves) ≡ 81)
+    (stats-long : length (d .stats) ≡ 81)
+    (ending : Ending) (ended : (ending-number ending ≡ (if stopped && eqb (d .depth) 0 then (λ _. 18) else λ _. 0)) ×
+    (ending-stopped ending ≡ stopped)) where
   -- of any search, since only its answer is looked at
   pub report-made : (z : ℤ) → z ≡ d .score → (sc : Scoring) (game : Game) (words : List ℕ)
-      → report-of (record { state = record { responses = tables-of s }; ending = ending; depth = d .depth; score = z; count = s .count; pv = d .pv .moves; stats = d .stats }) words
+      → report-of (record {
+        state = record { responses = tables-of s };
+        ending = ending;
+        depth = d .depth;
+        score = z;
+        count = s .count;
+        pv = d .pv .moves;
+        stats = d .stats;
+      }) words
       ≡ report (structs sc) game (record { is-stopped = stopped; completed = completed-of d; memory = memory-of s words })
   report-made z e sc game words = λ i. record {
     number = ended .0 i;
@@ -129,7 +147,11 @@ module _ (d : CompletedDepths) (s : SearchState) (stopped : Bool) (empty : Empty
   }
     where
       line-is : bytes-of (d .pv .moves) ≡ filled no-move (pv-of (d .pv) (d .depth))
-      line-is = fills (d .depth) (bytes-of (d .pv .moves)) no-move (length-map (d .pv .moves) byte-of ∙ long) (empty .most) (drop-bytes (d .depth) (d .pv .moves) ∙ ap bytes-of (empty .line-empty) ∙ bytes-empty (81 - d .depth))
+      line-is =
+          fills (d .depth) (bytes-of (d .pv .moves)) no-move (length-map (d .pv .moves) byte-of ∙ long) (empty .most)
+          (drop-bytes (d .depth) (d .pv .moves) ∙ ap bytes-of (empty .line-empty) ∙ bytes-empty (81 - d .depth))
 
       stats-is : map stats-of (d .stats) ≡ filled no-stats (take (d .depth) (map stats-of (d .stats)))
-      stats-is = fills (d .depth) (map stats-of (d .stats)) no-stats (length-map (d .stats) stats-of ∙ stats-long) (empty .most) (empty .stats-empty)
+      stats-is =
+          fills (d .depth) (map stats-of (d .stats)) no-stats (length-map (d .stats) stats-of ∙ stats-long) (empty .most)
+          (empty .stats-empty)

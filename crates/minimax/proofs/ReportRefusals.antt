@@ -44,7 +44,8 @@ module _ (c : Settings) (words : ℕ) where
     too-deep h = refused-15 (beyond _ (console .deepest) d h)
 
     module _ (k : c .max-depth ≤ console .deepest) where
-      refused-16 : (leb 1 (c .allowance) && leb (c .allowance) (console .positions)) ≡ false → _≡_ {A = ℕ} 16 (entry-refusal c words)
+      refused-16 : (leb 1 (c .allowance) && leb (c .allowance) (console .positions)) ≡ false →
+          _≡_ {A = ℕ} 16 (entry-refusal c words)
       unfolding entry-refusal first-failed if_then_else_
       refused-16 e = rw (within _ (console .deepest) d k, e)
 
@@ -63,11 +64,23 @@ module _ (c : Settings) (words : ℕ) where
           module _ (z : words % 3 ≡ 0) where
             pub too-long : console .words < words → _≡_ {A = ℕ} 17 (entry-refusal c words)
             unfolding entry-refusal first-failed if_then_else_
-            too-long h = rw (within _ (console .deepest) d k, within _ (console .positions) a b, eq-eqb (words % 3) 0 z, lt-leb words (console .words) h)
+            too-long h =
+                rw (
+                  within _ (console .deepest) d k,
+                  within _ (console .positions) a b,
+                  eq-eqb (words % 3) 0 z,
+                  lt-leb words (console .words) h,
+                )
 
             pub none-refused : words ≤ console .words → _≡_ {A = ℕ} 0 (entry-refusal c words)
             unfolding entry-refusal first-failed if_then_else_
-            none-refused h = rw (within _ (console .deepest) d k, within _ (console .positions) a b, eq-eqb (words % 3) 0 z, le-leb words (console .words) h)
+            none-refused h =
+                rw (
+                  within _ (console .deepest) d k,
+                  within _ (console .positions) a b,
+                  eq-eqb (words % 3) 0 z,
+                  le-leb words (console .words) h,
+                )
 
 at-most-is : (n k : ℕ) → T (leb 1 n && leb n k) → n ≤ k
 at-most-is n k t = leb→le n k (and→ (leb 1 n) (leb n k) t .1)
@@ -81,12 +94,15 @@ module _ (c : Settings) (words : ℕ) where
   unfolding entry-refusal first-failed
   limits = if-ind (λ (n : ℕ). 0 ≡ n → (c .max-depth ≤ console .deepest) × (c .allowance ≤ console .positions)) _ _ _
       (λ t. if-ind (λ (n : ℕ). 0 ≡ n → (c .max-depth ≤ console .deepest) × (c .allowance ≤ console .positions)) _ _ _
-      (λ u _. (at-most-is (c .max-depth) (console .deepest) t, at-most-is (c .allowance) (console .positions) u)) (λ _ e. absurd (omega arith)))
+      (λ u _. (at-most-is (c .max-depth) (console .deepest) t, at-most-is (c .allowance) (console .positions) u))
+      (λ _ e. absurd (omega arith)))
       (λ _ e. absurd (omega arith))
 
   pub some-depth : 0 ≡ entry-refusal c words → 1 ≤ c .max-depth
   unfolding entry-refusal first-failed
-  some-depth = if-ind (λ (n : ℕ). 0 ≡ n → 1 ≤ c .max-depth) _ _ _ (λ t _. at-least-one (c .max-depth) (console .deepest) t) (λ _ e. absurd (omega arith))
+  some-depth =
+      if-ind (λ (n : ℕ). 0 ≡ n → 1 ≤ c .max-depth) _ _ _ (λ t _. at-least-one (c .max-depth) (console .deepest) t)
+      (λ _ e. absurd (omega arith))
 
   -- it is never 18
   not-18 : 18 ≡ entry-refusal c words → ⊥
@@ -110,14 +126,17 @@ not-nought Words q = omega arith
 not-nought Spent q = omega arith
 
 module _ (G : Game) (c : Settings) (p : G .Pos) (rs : Responses) (words : List ℕ) where
-  pub refused-reported : (e : SearchError) → search-error-number e ≡ entry-refusal c (length words) → refused-with e rs words ≡ reported G c p rs words
+  pub refused-reported : (e : SearchError) → search-error-number e ≡ entry-refusal c (length words) →
+      refused-with e rs words ≡ reported G c p rs words
   unfolding reported if_then_else_
   refused-reported e q = rw (sym q, ne-eqb (search-error-number e) 0 (not-nought e), not-spent c (length words) e q)
 
-  pub accepted-reported : 0 ≡ entry-refusal c (length words) → report G p (analyze G (at-most (c .allowance)) (c .max-depth) p (fresh-memory rs words)) ≡ reported G c p rs words
+  pub accepted-reported : 0 ≡ entry-refusal c (length words) → report G p
+      (analyze G (at-most (c .allowance)) (c .max-depth) p (fresh-memory rs words)) ≡ reported G c p rs words
   unfolding reported if_then_else_
   accepted-reported q = rw (sym q)
 
-  pub turned-reported : eqb (entry-refusal c (length words)) 0 ≡ false → reported G c p rs words ≡ refused-entry (entry-refusal c (length words)) rs words
+  pub turned-reported : eqb (entry-refusal c (length words)) 0 ≡ false →
+      reported G c p rs words ≡ refused-entry (entry-refusal c (length words)) rs words
   unfolding reported if_then_else_
   turned-reported q = rw q

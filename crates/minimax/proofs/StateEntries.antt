@@ -21,7 +21,8 @@ module _ (e : Entry) (d : ℕ) (a b : ℤ) where
     unfolding suffices
     deep-enough = rw (le-leb d (e .depth) h)
 
-    pub by-bound : (k : Bound) (x : Bool) → e .bound ≡ k → x ≡ bound-suffices (bound-number k) (e .value) a b → x ≡ suffices (entry-means e) d a b
+    pub by-bound : (k : Bound) (x : Bool) → e .bound ≡ k → x ≡ bound-suffices (bound-number k) (e .value) a b →
+        x ≡ suffices (entry-means e) d a b
     by-bound k x q p = p ∙ sym (ap (λ (y : Bound). bound-suffices (bound-number y) (e .value) a b) q) ∙ sym deep-enough
 
 module _ (a b r : ℤ) where

@@ -38,7 +38,8 @@ use Rattle.minimax.specs.declared.search.Best.{Best}
 use Rattle.minimax.specs.declared.search.NodeResult.{NodeResult}
 use Rattle.order.specs.Order.{order-left, NextOf}
 use Rattle.order.proofs.OrderSteps.{NextIs, next-left, left-accepted, none-refused}
-use Rattle.minimax.specs.State.{node-scoring, memory-of, pv-of, empty-pv, node-game, outcome-of, node-outcome, over-left, over-all, values-below, Within, NodeFits, Counted, Ready, NodeGives}
+use Rattle.minimax.specs.State.{node-scoring, memory-of, pv-of, empty-pv, node-game, outcome-of, node-outcome, over-left, over-all}
+use Rattle.minimax.specs.State.{values-below, Within, NodeFits, Counted, Ready, NodeGives}
 use Rattle.minimax.proofs.StateScores.{neg-within}
 use Rattle.minimax.proofs.StateOutcomes.{outcome-stopped, outcome-found}
 use Rattle.minimax.proofs.StateEntering.{Begun as Entering, may-enter, may-leaf, stop-gives, leaf-gives}
@@ -53,10 +54,12 @@ module _ {g : Game} {w : MoveOrder} {child : NextMove} (n : NextOf g w child) wh
       go (m ∷ ms) q h = absurd (T-not (accepts (position-of g) no-move) (none-refused (position-of g))
           (subst (λ (z : ℕ). T (accepts (position-of g) z)) (sym (h .0) ∙ eqb-true _ no-move e) (left-accepted _ _ _ m ms q)))
 
-  pub walk-goes : eqb (child .m .bits) no-move ≡ false → (order-left g w ≡ child .m .bits ∷ order-left g (child .order)) × (child .game ≡ game-after g (child .m .bits))
+  pub walk-goes : eqb (child .m .bits) no-move ≡ false → (order-left g w ≡ child .m .bits ∷ order-left g (child .order)) ×
+      (child .game ≡ game-after g (child .m .bits))
   walk-goes e = go (order-left g w) refl (next-left g w child n)
     where
-      go : (ms : List ℕ) → order-left g w ≡ ms → NextIs g ms child → (order-left g w ≡ child .m .bits ∷ order-left g (child .order)) × (child .game ≡ game-after g (child .m .bits))
+      go : (ms : List ℕ) → order-left g w ≡ ms → NextIs g ms child → (order-left g w ≡ child .m .bits ∷
+          order-left g (child .order)) × (child .game ≡ game-after g (child .m .bits))
       go [] q h = absurd (true≢false (sym (eq-eqb _ no-move (h .0)) ∙ e))
       go (m ∷ ms) q h = (q ∙ ap₂ _∷_ (sym (h .0)) (sym (h .2)), h .1 ∙ ap (game-after g) (sym (h .0)))
 
@@ -72,8 +75,10 @@ value-within sc p = elim (is (unfinished p)) [
 pub by-parts : {a : Node} {l : Pv} {o : Outcome} (r : NodeResult) (ws : List ℕ) → r .stopped ≡ false → NodeGives a l r ws o
     → {s : SearchState} {k : Pv} {z : ℤ} {vs : List ℕ} → s ≡ r .state → k ≡ r .pv → z ≡ r .score → vs ≡ ws
     → NodeGives a l (record { state = s; pv = k; score = z; stopped = false }) vs o
-by-parts {a} {l} {o} r ws e g {s} {k} {z} {vs} es ek ez ew = subst (λ (v : List ℕ). NodeGives a l (record { state = s; pv = k; score = z; stopped = false }) v o) (sym ew)
-    (subst (λ (f : NodeResult). NodeGives a l f ws o) (λ i. record { state = sym es i; pv = sym ek i; score = sym ez i; stopped = e i }) g)
+by-parts {a} {l} {o} r ws e g {s} {k} {z} {vs} es ek ez ew =
+    subst (λ (v : List ℕ). NodeGives a l (record { state = s; pv = k; score = z; stopped = false }) v o) (sym ew)
+    (subst (λ (f : NodeResult). NodeGives a l f ws o) (λ i. record { state = sym es i; pv = sym ek i; score = sym ez i; stopped = e i })
+    g)
 
 -- ---- where the loop stands
 pub record Stand : Type 0 where
@@ -99,7 +104,8 @@ pub record Begun : Type 0 where
   pub three : length (a .game .«local_boards» .rows) ≡ 3
   pub asked : NodeFits a
   pub ready : Ready a (from .s)
-  pub walk-is : order-left (a .game) (from .order) ≡ candidates (node-game a) (some-move (first .bits)) (memory-of (from .s) (from .words)) (a .game) (a .prev .bits) (pv-of pv (a .depth))
+  pub walk-is : order-left (a .game) (from .order) ≡ candidates (node-game a) (some-move (first .bits))
+      (memory-of (from .s) (from .words)) (a .game) (a .prev .bits) (pv-of pv (a .depth))
   pub best-is : from .best ≡ record { pv = pv; score = a .alpha }
   pub local-is : from .local ≡ empty-pv
 
@@ -166,7 +172,8 @@ module _ (b : Begun) where
   }
 
   -- what there is to search at the beginning is what there is over all moves
-  whole-is : {r : NodeResult} {words : List ℕ} → NodeGives (b .a) (b .from .best .pv) r words (left-from (b .a) (b .from)) → Answers b r words
+  whole-is : {r : NodeResult} {words : List ℕ} → NodeGives (b .a) (b .from .best .pv) r words (left-from (b .a) (b .from)) →
+      Answers b r words
   unfolding over-all
   whole-is g = record {
     same = g .same ∙ (λ i. over-left (b .a) (b .walk-is i) (b .best-is i) (b .local-is i) (b .from .s) (b .from .words));
@@ -186,7 +193,8 @@ module _ (h : Held) where
 
   -- no move is left
   pub turn-done : {child : NextMove} → NextOf (a .game) (at .order) child → eqb (child .m .bits) no-move ≡ true
-      → {f : NodeResult} → f ≡ record { state = at .s; pv = at .best .pv; score = at .best .score; stopped = false } → Answers (h .begun) f (at .words)
+      → {f : NodeResult} → f ≡ record { state = at .s; pv = at .best .pv; score = at .best .score; stopped = false } →
+      Answers (h .begun) f (at .words)
   unfolding over-left
   turn-done n e q = subst (λ (x : NodeResult). Answers (h .begun) x (at .words)) (sym q) (whole-is (h .begun) (record {
     same = outcome-found a _ (at .words) refl ∙ sym (over-none _ _ _ _ _ _ _ _ _) ∙ sym (ap over (walk-ends n e)) ∙ h .turn .same;
@@ -196,7 +204,9 @@ module _ (h : Held) where
 module _ {h : Held} (m : Met h) where
   pub under-asked : NodeFits (m .under)
   under-asked = subst NodeFits (sym (m .under-is)) (record {
-    valued = carried (a h .game) (m .child .game) (m .child .m .bits) (board-of (m .child .m .bits)) (a h .values .boards) (h .begun .three) (h .begun .asked .valued) (walk-goes (m .next) (m .is-some) .1) refl;
+    valued =
+        carried (a h .game) (m .child .game) (m .child .m .bits) (board-of (m .child .m .bits)) (a h .values .boards) (h .begun .three)
+        (h .begun .asked .valued) (walk-goes (m .next) (m .is-some) .1) refl;
     deep = omega (arith, h .begun .asked .deep);
     alpha-within = neg-within (a h .beta) (h .begun .asked .beta-within);
     beta-within = neg-within (at h .best .score) (h .turn .score);
@@ -235,7 +245,18 @@ module _ {h : Held} (m : Met h) where
     module _ (s₁ : SearchState) (entered : (ws : List ℕ) → memory-of s₁ ws ≡ enter (memory-of (at h .s) ws)) where
       -- the leaf as a position that may be entered
       abbrev entering : Entering
-      entering = record { a = m .under; s = at h .s; l = at h .local; words = at h .words; asked = under-asked; counted = under-counted; more = more-below; s₁ = s₁; entered = entered }
+      entering =
+          record {
+            a = m .under;
+            s = at h .s;
+            l = at h .local;
+            words = at h .words;
+            asked = under-asked;
+            counted = under-counted;
+            more = more-below;
+            s₁ = s₁;
+            entered = entered;
+          }
 
       pub may-tell-leaf : s₁ .terminal < 1000000000
       may-tell-leaf = may-leaf entering
@@ -243,11 +264,13 @@ module _ {h : Held} (m : Met h) where
       pub leaf-below : (s₂ : SearchState) → ((ws : List ℕ) → memory-of s₂ ws ≡ leaf (memory-of s₁ ws))
           → (x : Bool) → x ≡ (eqb (m .under .depth) 0 || not (unfinished (position-of (m .under .game)))) → x ≡ true
           → (z : ℤ) → z ≡ evaluate (node-scoring (m .under)) (position-of (m .under .game))
-          → NodeGives (m .under) (at h .local) (record { state = s₂; pv = at h .local; score = z; stopped = false }) (at h .words) (node-outcome (m .under) (at h .s) (at h .local) (at h .words))
+          → NodeGives (m .under) (at h .local) (record { state = s₂; pv = at h .local; score = z; stopped = false }) (at h .words)
+          (node-outcome (m .under) (at h .s) (at h .local) (at h .words))
       leaf-below s₂ w x t u z e = leaf-gives (m .under) (at h .s) (at h .local) (at h .words) more-below s₁ entered s₂ w x t u _
           (ap (λ (y : ℤ). record { state = s₂; pv = at h .local; score = y; stopped = false }) e)
 
-  pub stop-below : a h .allowance ≤ at h .s .count → (f : NodeResult) → f ≡ record { state = at h .s; pv = at h .local; score = pos 0; stopped = true }
+  pub stop-below : a h .allowance ≤ at h .s .count → (f : NodeResult) →
+      f ≡ record { state = at h .s; pv = at h .local; score = pos 0; stopped = true }
       → NodeGives (m .under) (at h .local) f (at h .words) (node-outcome (m .under) (at h .s) (at h .local) (at h .words))
   stop-below q f e = stop-gives (m .under) (at h .s) (at h .local) (at h .words) f (omega (arith, allowance-is, q)) e
 
@@ -280,7 +303,8 @@ pub turn-stopped : {h : Held} {m : Met h} (x : Brought m true) → Answers (h .b
 unfolding over-left
 turn-stopped {h} {m} x = whole-is (h .begun) (record {
   same = outcome-stopped (a h) (x .r) (x .words) (x .is-stopped)
-      ∙ sym (over-stopped _ _ _ _ _ _ _ _ _ _ _ _ (below-is x ∙ outcome-stopped (m .under) (x .r) (x .words) (x .is-stopped))) ∙ left-is m;
+      ∙ sym (over-stopped _ _ _ _ _ _ _ _ _ _ _ _ (below-is x ∙ outcome-stopped (m .under) (x .r) (x .words) (x .is-stopped)))
+      ∙ left-is m;
   places = λ z. absurd (true≢false (sym (x .is-stopped) ∙ z));
 })
 
@@ -289,7 +313,9 @@ module _ {h : Held} {m : Met h} (x : Brought m false) where
   s' = memory-of (x .r .state) (x .words)
 
   found-is : after m (game-after (a h .game) (m .child .m .bits)) ≡ found (x .r .score) (pv-of (x .r .pv) (a h .depth - 1)) s'
-  found-is = below-is x ∙ outcome-found (m .under) (x .r) (x .words) (x .is-stopped) ∙ ap (λ (d : ℕ). found (x .r .score) (pv-of (x .r .pv) d) s') (depth-is m)
+  found-is =
+      below-is x ∙ outcome-found (m .under) (x .r) (x .words) (x .is-stopped)
+      ∙ ap (λ (d : ℕ). found (x .r .score) (pv-of (x .r .pv) d) s') (depth-is m)
 
   pub score-within : Within (x .r .score)
   unfolding Finds
@@ -297,7 +323,8 @@ module _ {h : Held} {m : Met h} (x : Brought m false) where
       let low = neg-within (a h .beta) (h .begun .asked .beta-within) in
       let high = neg-within (at h .best .score) (h .turn .score) in
       let w = subst (Finds (λ z _ _. (lowest ≤ℤ z) × (z ≤ℤ highest))) found-is
-      (search-range (node-game (a h)) (λ g. value-within (node-scoring (a h)) (position-of g)) _ _ _ _ _ _ _ _ (low .low) (low .high) (high .low) (high .high)) in
+      (search-range (node-game (a h)) (λ g. value-within (node-scoring (a h)) (position-of g)) _ _ _ _ _ _ _ _ (low .low) (low .high)
+      (high .low) (high .high)) in
       record { low = w .0; high = w .1 }
 
   -- what raising the lower edge asks
@@ -306,7 +333,8 @@ module _ {h : Held} {m : Met h} (x : Brought m false) where
 
   grown-on : Grown 0 (memory-of (h .begun .from .s) (h .begun .from .words)) s'
   unfolding Ends
-  grown-on = grown-trans (h .turn .grown) (subst (Ends (Grown 0 (memory-of (at h .s) (at h .words)))) found-is (search-grows _ _ _ _ _ _ _ _ _))
+  grown-on =
+      grown-trans (h .turn .grown) (subst (Ends (Grown 0 (memory-of (at h .s) (at h .words)))) found-is (search-grows _ _ _ _ _ _ _ _ _))
 
   allowed-on : x .r .state .count ≤ a h .allowance
   unfolding Ends
@@ -337,7 +365,9 @@ module _ {h : Held} {m : Met h} {x : Brought m false} (y : Raised x) where
       → Turn (a h) (h .begun .from) (stand (x .words) (m .child .order) (x .r .state) (y .best) (x .r .pv))
   unfolding over-left
   turn-better t = record {
-    same = (λ i. over-moves (node-game (a h)) (search (node-game (a h)) (at-most (a h .allowance)) (a h .depth - 1)) (a h .game) (a h .beta) (a h .prev .bits)
+    same =
+        (λ i. over-moves (node-game (a h)) (search (node-game (a h)) (at-most (a h .allowance)) (a h .depth - 1)) (a h .game) (a h .beta)
+        (a h .prev .bits)
         (rest m) (y .raises .0 i) (y .raises .1 i) (pv-of (x .r .pv) (a h .depth - 1)) (s' x))
         ∙ sym (over-better _ _ _ _ _ _ _ _ _ _ _ _ _ _ (found-is x) (y .better) (reaches false t)) ∙ left-is m;
     grown = grown-on x;
@@ -349,8 +379,11 @@ module _ {h : Held} {m : Met h} {x : Brought m false} (y : Raised x) where
 
   -- it reaches the upper edge
   pub turn-cut : leZ (a h .beta) (y .best .score) ≡ true
-      → {s : SearchState} → ((ws : List ℕ) → memory-of s ws ≡ cut (a h .game .«next_player») (memory-of (x .r .state) ws) (a h .prev .bits) (m .child .m .bits))
-      → {f : NodeResult} → f ≡ record { state = s; pv = y .best .pv; score = y .best .score; stopped = false } → Answers (h .begun) f (x .words)
+      → {s : SearchState} →
+      ((ws : List ℕ) → memory-of s ws ≡ cut (a h .game .«next_player») (memory-of (x .r .state) ws) (a h .prev .bits)
+      (m .child .m .bits))
+      → {f : NodeResult} → f ≡ record { state = s; pv = y .best .pv; score = y .best .score; stopped = false } →
+      Answers (h .begun) f (x .words)
   unfolding over-left
   turn-cut t w q = subst (λ (z : NodeResult). Answers (h .begun) z (x .words)) (sym q) (whole-is (h .begun) (record {
     same = outcome-found (a h) _ (x .words) refl

@@ -30,7 +30,8 @@ module _ (a : Node) (r : NodeResult) (words : List ℕ) where
   unfolding outcome-of if_then_else_
   outcome-stopped e = rw e
 
-  pub outcome-found : r .stopped ≡ false → outcome-of a r words ≡ found (r .score) (pv-of (r .pv) (a .depth)) (memory-of (r .state) words)
+  pub outcome-found : r .stopped ≡ false → outcome-of a r words ≡ found (r .score) (pv-of (r .pv) (a .depth))
+      (memory-of (r .state) words)
   unfolding outcome-of if_then_else_
   outcome-found e = rw e
 
@@ -39,8 +40,10 @@ module _ (a : Node) (r : NodeResult) (words : List ℕ) where
   unfolding then-stored unless-stopped
   told-nothing e = outcome-stopped e ∙ sym (ap (then-stored a) (outcome-stopped e))
 
-pub told-found : (a : Node) (r : NodeResult) (words words' : List ℕ) (key : ℕ) (e : Entry) → r .stopped ≡ false → key ≡ node-game a .key (a .game) → words' ≡ store words key (entry-means e)
-    → e .value ≡ r .score → e .depth ≡ a .depth → bound-number (e .bound) ≡ bound-of (a .alpha) (a .beta) (r .score) → e .pv .bits ≡ getD (pv-of (r .pv) (a .depth)) 0 no-move
+pub told-found : (a : Node) (r : NodeResult) (words words' : List ℕ) (key : ℕ) (e : Entry) → r .stopped ≡ false →
+    key ≡ node-game a .key (a .game) → words' ≡ store words key (entry-means e)
+    → e .value ≡ r .score → e .depth ≡ a .depth → bound-number (e .bound) ≡ bound-of (a .alpha) (a .beta) (r .score) →
+    e .pv .bits ≡ getD (pv-of (r .pv) (a .depth)) 0 no-move
     → outcome-of a r words' ≡ then-stored a (outcome-of a r words)
 unfolding then-stored unless-stopped with-stored
 told-found a r words words' key e s k w v d b m =
@@ -50,17 +53,20 @@ told-found a r words words' key e s k w v d b m =
     ∙ sym (ap (then-stored a) (outcome-found a r words s))
 
 -- ---- the moves in their order
-hint-by : (x : Bool) (answer pv : Move) → some-move ((if x then (λ _. pv) else λ _. answer) .bits) ≡ (if x then (λ _. some-move (pv .bits)) else λ _. some-move (answer .bits))
+hint-by : (x : Bool) (answer pv : Move) → some-move ((if x then (λ _. pv) else λ _. answer) .bits)
+    ≡ (if x then (λ _. some-move (pv .bits)) else λ _. some-move (answer .bits))
 unfolding if_then_else_
 hint-by true answer pv = refl
 hint-by false answer pv = refl
 
-twice : (x : Bool) (n : ℕ) (ms : List ℕ) → (if x then (λ _. ms) else λ _. if x then (λ _. []) else λ _. n ∷ []) ≡ (if x then (λ _. ms) else λ _. n ∷ [])
+twice : (x : Bool) (n : ℕ) (ms : List ℕ) → (if x then (λ _. ms) else λ _. if x then (λ _. []) else λ _. n ∷ [])
+    ≡ (if x then (λ _. ms) else λ _. n ∷ [])
 unfolding if_then_else_
 twice true n ms = refl
 twice false n ms = refl
 
-some-by : (n : ℕ) (ms : List ℕ) → (if eqb n no-move then (λ _. ms) else λ _. some-move n) ≡ (if eqb n no-move then (λ _. ms) else λ _. n ∷ [])
+some-by : (n : ℕ) (ms : List ℕ) → (if eqb n no-move then (λ _. ms) else λ _. some-move n)
+    ≡ (if eqb n no-move then (λ _. ms) else λ _. n ∷ [])
 unfolding some-move
 some-by n ms = twice (eqb n no-move) n ms
 
@@ -71,17 +77,21 @@ module _ (a : Node) (s : SearchState) (words : List ℕ) (l : Pv) (answer pv sec
       → some-move (second .bits) ≡ hints (a .game .«next_player») (memory-of s words) (a .prev .bits) (pv-of l (a .depth))
   unfolding hints
   hinted e f g =
-      ap (λ (m : Move). some-move (m .bits)) e ∙ hint-by (eqb (answer .bits) no-move) answer pv ∙ some-by (answer .bits) (some-move (pv .bits))
+      ap (λ (m : Move). some-move (m .bits)) e ∙ hint-by (eqb (answer .bits) no-move) answer pv
+      ∙ some-by (answer .bits) (some-move (pv .bits))
       ∙ ap₂ (λ (x y : ℕ). if eqb x no-move then (λ _. some-move y) else λ _. x ∷ []) f g
 
   -- what a move order has left at first are the candidates
   pub walk-candidates : (first : Move) (w : MoveOrder)
-      → (candidates-left (w .left) ≡ some-move (first .bits) ++ (some-move (second .bits) ++ moves (position-of (a .game)))) × ((k : ℕ) → marked (w .seen) k ≡ false)
+      → (candidates-left (w .left) ≡ some-move (first .bits) ++ (some-move (second .bits) ++ moves (position-of (a .game)))) ×
+      ((k : ℕ) → marked (w .seen) k ≡ false)
       → second ≡ (if eqb (answer .bits) no-move then (λ _. pv) else λ _. answer)
       → answer .bits ≡ getD (responses-to (memory-of s words) (other (a .game .«next_player»))) (a .prev .bits) no-move
       → pv .bits ≡ getD (pv-of l (a .depth)) 0 no-move
-      → order-left (a .game) w ≡ candidates (node-game a) (some-move (first .bits)) (memory-of s words) (a .game) (a .prev .bits) (pv-of l (a .depth))
+      → order-left (a .game) w ≡ candidates (node-game a) (some-move (first .bits)) (memory-of s words) (a .game) (a .prev .bits)
+      (pv-of l (a .depth))
   unfolding candidates
   walk-candidates first w n e f g =
       walk-new (a .game) w _ n
-      ∙ ap (λ (hs : List ℕ). fresh (accepts (position-of (a .game))) [] (some-move (first .bits) ++ (hs ++ moves (position-of (a .game))))) (hinted e f g)
+      ∙ ap (λ (hs : List ℕ). fresh (accepts (position-of (a .game))) []
+      (some-move (first .bits) ++ (hs ++ moves (position-of (a .game))))) (hinted e f g)

@@ -11,7 +11,8 @@ use Rattle.boards.specs.declared.moves.Move.{Move}
 use Rattle.minimax.specs.State.{byte-of, bytes-of}
 
 -- ---- the first place
-pub first-place : (l : List Move) (x : Move) → 0 < length l → (d : ℕ) → 0 < d → byte-of (getD l 0 x) ≡ getD (take d (bytes-of l)) 0 no-move
+pub first-place : (l : List Move) (x : Move) → 0 < length l → (d : ℕ) → 0 < d →
+    byte-of (getD l 0 x) ≡ getD (take d (bytes-of l)) 0 no-move
 first-place [] x h d k = absurd (omega arith)
 first-place (y ∷ l) x h zero k = absurd (omega arith)
 first-place (y ∷ l) x h (suc d) k = refl
@@ -33,7 +34,8 @@ abbrev pub placed : List Move → List Move → ℕ → List Move
 placed [] below i = []
 placed (x ∷ pv) below i = x ∷ (take i below ++ drop i pv)
 
-place-next : (i : ℕ) (pv below : List Move) (d : Move) → i < length pv → i < length below → set (take i below ++ drop i pv) i (getD below i d) ≡ take (suc i) below ++ drop (suc i) pv
+place-next : (i : ℕ) (pv below : List Move) (d : Move) → i < length pv → i < length below →
+    set (take i below ++ drop i pv) i (getD below i d) ≡ take (suc i) below ++ drop (suc i) pv
 place-next i [] below d h k = absurd (omega arith)
 place-next i (x ∷ pv) [] d h k = absurd (omega arith)
 place-next zero (x ∷ pv) (y ∷ below) d h k = refl
@@ -44,7 +46,8 @@ placed-none [] below = refl
 placed-none (x ∷ pv) below = refl
 
 -- one place more
-pub placed-more : (old below now : List Move) (m : Move) (i : ℕ) (d : Move) → now ≡ placed (set old 0 m) below i → suc i < length old → i < length below → set now (i + 1) (getD below i d) ≡ placed (set old 0 m) below (i + 1)
+pub placed-more : (old below now : List Move) (m : Move) (i : ℕ) (d : Move) → now ≡ placed (set old 0 m) below i →
+    suc i < length old → i < length below → set now (i + 1) (getD below i d) ≡ placed (set old 0 m) below (i + 1)
 placed-more [] below now m i d e h k = absurd (omega arith)
 placed-more (x ∷ old) below now m i d e h k = rw e (simp unary-clauses (ap (_∷_ m) (place-next i old below d (omega arith) k)))
 
@@ -59,7 +62,8 @@ drop-placed zero low rest h = refl
 drop-placed (suc n) [] rest h = absurd (omega arith)
 drop-placed (suc n) (x ∷ low) rest h = drop-placed n low rest (omega arith)
 
-pub placed-all : (old below now : List Move) (m : Move) (d n : ℕ) → d ≡ suc n → 0 < length old → n ≤ length below → now ≡ placed (set old 0 m) below n
+pub placed-all : (old below now : List Move) (m : Move) (d n : ℕ) → d ≡ suc n → 0 < length old → n ≤ length below →
+    now ≡ placed (set old 0 m) below n
     → (take d (bytes-of now) ≡ m .bits ∷ take (d - 1) (bytes-of below)) × (drop d now ≡ drop d old)
 placed-all [] below now m d n e h k p = absurd (omega arith)
 placed-all (x ∷ old) below now m d n e h k p =

@@ -20,7 +20,8 @@ neg-within z h = record { low = omega (zarith, ng z, h .high); high = omega (zar
 pub told : (z : ℤ) → mag z < 2 ^ hbits w64 → reads z ≡ z
 told z h = toZ-ofZ {w = w64} (record { sfits = h })
 
-pub tested : (x y : ℤ) → mag x < 2 ^ hbits w64 → mag y < 2 ^ hbits w64 → (t : Bool) → leZ (reads x) (reads y) ≡ t → leZ x y ≡ t
+pub tested : (x y : ℤ) → mag x < 2 ^ hbits w64 → mag y < 2 ^ hbits w64 → (t : Bool) → leZ (reads x) (reads y) ≡ t →
+    leZ x y ≡ t
 tested x y h k t e = sym (ap₂ leZ (told x h) (told y k)) ∙ e
 
 within-fits : (z : ℤ) → Within z → SFits w64 z

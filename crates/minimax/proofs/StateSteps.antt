@@ -36,19 +36,23 @@ module _ (s : SearchState) (words : List ℕ) where
   unfolding begin
   begun = refl
 
-  pub entered : memory-of (with-counts s (s .count + 1) (s .visited + 1) (s .terminal) (s .cuts) (s .«tt_hit») (s .«tt_suffice»)) words ≡ enter (memory-of s words)
+  pub entered : memory-of (with-counts s (s .count + 1) (s .visited + 1) (s .terminal) (s .cuts) (s .«tt_hit») (s .«tt_suffice»)) words
+      ≡ enter (memory-of s words)
   unfolding enter
   entered = simp unary-clauses refl
 
-  pub leaf-reached : memory-of (with-counts s (s .count) (s .visited) (s .terminal + 1) (s .cuts) (s .«tt_hit») (s .«tt_suffice»)) words ≡ leaf (memory-of s words)
+  pub leaf-reached : memory-of (with-counts s (s .count) (s .visited) (s .terminal + 1) (s .cuts) (s .«tt_hit») (s .«tt_suffice»)) words
+      ≡ leaf (memory-of s words)
   unfolding leaf
   leaf-reached = simp unary-clauses refl
 
-  pub was-hit : memory-of (with-counts s (s .count) (s .visited) (s .terminal) (s .cuts) (s .«tt_hit» + 1) (s .«tt_suffice»)) words ≡ hit (memory-of s words)
+  pub was-hit : memory-of (with-counts s (s .count) (s .visited) (s .terminal) (s .cuts) (s .«tt_hit» + 1) (s .«tt_suffice»)) words
+      ≡ hit (memory-of s words)
   unfolding hit
   was-hit = simp unary-clauses refl
 
-  pub sufficed : memory-of (with-counts s (s .count) (s .visited) (s .terminal) (s .cuts) (s .«tt_hit») (s .«tt_suffice» + 1)) words ≡ answered (memory-of s words)
+  pub sufficed : memory-of (with-counts s (s .count) (s .visited) (s .terminal) (s .cuts) (s .«tt_hit») (s .«tt_suffice» + 1)) words
+      ≡ answered (memory-of s words)
   unfolding answered
   sufficed = simp unary-clauses refl
 
@@ -65,7 +69,8 @@ set-bytes (x ∷ l) (suc i) m = ap (_∷_ (x .bits)) (set-bytes l i m)
 
 -- ---- response tables
 module _ (s : SearchState) (words : List ℕ) (prev : Move) where
-  pub response-by : (l : List Move) (w : Player) → responses-to (memory-of s words) (other w) ≡ bytes-of l → prev .bits < length l → (d : Move) → byte-of (getD l (prev .bits) d) ≡ getD (responses-to (memory-of s words) (other w)) (prev .bits) no-move
+  pub response-by : (l : List Move) (w : Player) → responses-to (memory-of s words) (other w) ≡ bytes-of l → prev .bits < length l →
+      (d : Move) → byte-of (getD l (prev .bits) d) ≡ getD (responses-to (memory-of s words) (other w)) (prev .bits) no-move
   response-by l w e h d = getD-bytes l (prev .bits) d no-move h ∙ ap (λ (bs : List ℕ). getD bs (prev .bits) no-move) (sym e)
 
 module _ (s : SearchState) (words : List ℕ) (prev m : Move) where
@@ -85,15 +90,30 @@ module _ (s : SearchState) (words : List ℕ) (prev m : Move) where
   abbrev cut-means : Responses → Memory
   cut-means rs = record {
     count = s .count;
-    tally = record { visited = s .visited; terminal = s .terminal; cuts = suc (s .cuts); tt-hit = s .«tt_hit»; tt-suffice = s .«tt_suffice» };
+    tally =
+        record {
+          visited = s .visited;
+          terminal = s .terminal;
+          cuts = suc (s .cuts);
+          tt-hit = s .«tt_hit»;
+          tt-suffice = s .«tt_suffice»;
+        };
     responses = rs;
     table = words;
   }
 
-  cut-with : (tables : ResponseTables) (rs : Responses) → responses-of tables ≡ rs → memory-of (after-cut tables) words ≡ cut-means rs
+  cut-with : (tables : ResponseTables) (rs : Responses) → responses-of tables ≡ rs →
+      memory-of (after-cut tables) words ≡ cut-means rs
   cut-with tables rs e = λ i. record {
     count = s .count;
-    tally = record { visited = s .visited; terminal = s .terminal; cuts = add-one (s .cuts) i; tt-hit = s .«tt_hit»; tt-suffice = s .«tt_suffice» };
+    tally =
+        record {
+          visited = s .visited;
+          terminal = s .terminal;
+          cuts = add-one (s .cuts) i;
+          tt-hit = s .«tt_hit»;
+          tt-suffice = s .«tt_suffice»;
+        };
     responses = e i;
     table = words;
   }

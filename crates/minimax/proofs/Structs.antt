@@ -1,4 +1,5 @@
--- The engine's games are searched as the written ones: a neat game whose hash is the fresh one shows what its position shows, and play keeps both.
+-- The engine's games are searched as the written ones: a neat game whose hash is the fresh one shows what its position shows, and play
+-- keeps both.
 use mathlib.Core.Path.{_≡_, refl, ap, _∙_}
 use mathlib.Core.Bool.{not}
 use mathlib.Core.List.{List}
@@ -42,11 +43,16 @@ structs-alike sc = record {
 }
 
 module _ (sc : Scoring) (c : Settings) (g : Game) (n : T (neat g)) (f : Fresh g) (rs : Responses) (words : List ℕ) where
-  answer-rules : analyze (structs sc) (at-most (c .allowance)) (c .max-depth) g (fresh-memory rs words) ≡ analyze (game sc) (at-most (c .allowance)) (c .max-depth) (position-of g) (fresh-memory rs words)
+  answer-rules : analyze (structs sc) (at-most (c .allowance)) (c .max-depth) g (fresh-memory rs words)
+      ≡ analyze (game sc) (at-most (c .allowance)) (c .max-depth) (position-of g) (fresh-memory rs words)
   unfolding structs-alike
-  answer-rules = alike-analyze (structs sc) (game sc) (structs-alike sc) (at-most (c .allowance)) (c .max-depth) g (position-of g) (refl, f, n) (fresh-memory rs words)
+  answer-rules =
+      alike-analyze (structs sc) (game sc) (structs-alike sc) (at-most (c .allowance)) (c .max-depth) g (position-of g) (refl, f, n)
+      (fresh-memory rs words)
 
   -- what is reported is the written rules' search of the position, with the key worked out afresh
   pub reported-rules : reported (structs sc) c g rs words ≡ reported (game sc) c (position-of g) rs words
   unfolding reported
-  reported-rules = ap (λ (x : SearchAnswer). if eqb (entry-refusal c (length words)) 0 then (λ _. report (game sc) (position-of g) x) else λ _. refused-entry (entry-refusal c (length words)) rs words) answer-rules
+  reported-rules =
+      ap (λ (x : SearchAnswer). if eqb (entry-refusal c (length words)) 0 then (λ _. report (game sc) (position-of g) x)
+      else λ _. refused-entry (entry-refusal c (length words)) rs words) answer-rules

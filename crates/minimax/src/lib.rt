@@ -18,7 +18,9 @@ ghost use Rattle.theory.specs.Memory.{fresh-memory};
 ghost use Rattle.theory.specs.Deepening.{nothing-yet, one-deeper, decided};
 ghost use Rattle.theory.specs.Reported.{entry-refusal, report};
 ghost use Rattle.minimax.specs.State.{memory-of, pv-of, responses-of, tally-of};
-ghost use Rattle.minimax.specs.Report.{search-error-number, ending-number, ending-stopped, entry-number, stats-of, settings-of, scoring-of, completed-of, Empty-on, empty-responses, report-of, refused-with, answer-of, reported-of};
+ghost use Rattle.minimax.specs.Report.{search-error-number, ending-number, ending-stopped, entry-number, stats-of, settings-of};
+ghost use Rattle.minimax.specs.Report.{scoring-of, completed-of, Empty-on, empty-responses, report-of, refused-with, answer-of};
+ghost use Rattle.minimax.specs.Report.{reported-of};
 ghost use Rattle.minimax.specs.Structs.{structs};
 use boards::Move;
 use boards::PLACES;
@@ -226,7 +228,8 @@ impl CompletedDepths {
     fn deeper(self, r: NodeResult) -> CompletedDepths
         requires { ⌜ (self .depth < console .deepest) × Empty-on self
             × (drop (self .depth + 1) (r .pv .moves) ≡ drop (self .depth + 1) (self .pv .moves)) ⌝ }
-        ensures { λ x. ⌜ (completed-of x ≡ one-deeper (completed-of self) (r .score) (pv-of (r .pv) (self .depth + 1)) (tally-of (r .state)))
+        ensures { λ x. ⌜ (completed-of x ≡ one-deeper (completed-of self) (r .score) (pv-of (r .pv) (self .depth + 1))
+            (tally-of (r .state)))
             × Empty-on x × (x .pv ≡ r .pv) ⌝ }
     {
         let mut stats = self.stats;
@@ -268,7 +271,8 @@ impl CompletedDepths {
     fn report(self, state: SearchState, stopped: bool) -> Report
         requires { ⌜ Empty-on self ⌝ }
         ensures { λ r. ⌜ ((sc : Scoring) (game : Game) (words : List ℕ) → report-of r words
-            ≡ report (structs sc) game (record { is-stopped = stopped; completed = completed-of self; memory = memory-of state words })) ⌝ }
+            ≡ report (structs sc) game (record { is-stopped = stopped; completed = completed-of self; memory = memory-of state words }))
+            ⌝ }
     {
         let x = state.responses_x;
         let o = state.responses_o;

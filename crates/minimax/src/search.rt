@@ -1,7 +1,7 @@
 // The ordered search: of a position, and over its remaining moves. Its state goes in and comes back by value; only the table's words
 // are lent.
-// Ported from src/lib/minimax.rs of nelhage/ultimattt at commit 87ef0d9c7c (Apache-2.0, see NOTICE), changed: `minimax` is two functions that
-// call each other, variations have a place for each depth, and an allowance counts the positions entered.
+// Ported from src/lib/minimax.rs of nelhage/ultimattt at commit 87ef0d9c7c (Apache-2.0, see NOTICE), changed: `minimax` is two functions
+// that call each other, variations have a place for each depth, and an allowance counts the positions entered.
 ghost use mathlib.Core.Path.{_≡_};
 ghost use mathlib.Core.Bool.{true, false, not, _||_};
 ghost use mathlib.Core.List.{List, _∷_};
@@ -22,7 +22,8 @@ ghost use Rattle.theory.specs.OrderedSearch.{candidates};
 ghost use Rattle.table.specs.Entries.{bound-number, entry-means};
 ghost use Rattle.game.specs.Meaning.{position-of};
 ghost use Rattle.order.specs.Order.{order-left};
-ghost use Rattle.minimax.specs.State.{memory-of, pv-of, empty-pv, node-scoring, node-game, outcome-of, node-outcome, over-all, then-stored, values-below, Valued, Within, NodeFits, Counted, Ready, NodeGives};
+ghost use Rattle.minimax.specs.State.{memory-of, pv-of, empty-pv, node-scoring, node-game, outcome-of, node-outcome, over-all};
+ghost use Rattle.minimax.specs.State.{then-stored, values-below, Valued, Within, NodeFits, Counted, Ready, NodeGives};
 use boards::Move;
 use boards::PLACES;
 use evaluation::Values;
@@ -104,7 +105,8 @@ impl Pv {
     // A move and the variation below it, in so many places; the others stay.
     fn with_pv(self, m: Move, below: Pv, depth: u8) -> Pv
         requires { ⌜ (0 < depth) × (depth ≤ console .deepest) ⌝ }
-        ensures { λ r. ⌜ (pv-of r depth ≡ m .bits ∷ pv-of below (depth - 1)) × (drop depth (r .moves) ≡ drop depth (self .moves)) ⌝ }
+        ensures { λ r. ⌜ (pv-of r depth ≡ m .bits ∷ pv-of below (depth - 1)) ×
+            (drop depth (r .moves) ≡ drop depth (self .moves)) ⌝ }
     {
         let mut pv = self;
         pv.moves[0] = m;
@@ -173,7 +175,8 @@ impl SearchState {
 
     // The response to the previous move, which the side not to move made.
     fn response_to(self, turn: Player, prev: Move) -> Move
-        ensures { λ r. ⌜ ((words : List ℕ) → r .bits ≡ getD (responses-to (memory-of self words) (other turn)) (prev .bits) no-move) ⌝ }
+        ensures { λ r. ⌜ ((words : List ℕ) → r .bits ≡ getD (responses-to (memory-of self words) (other turn)) (prev .bits)
+            no-move) ⌝ }
     {
         let at = prev.bits as usize;
         match turn {
@@ -367,7 +370,8 @@ impl Node {
     fn order(self, first: Move, state: SearchState, pv: Pv) -> MoveOrder
         requires { ⌜ (0 < self .depth) × (self .depth ≤ console .deepest) ⌝ }
         ensures { λ r. ⌜ ((words : List ℕ) → order-left (self .game) r
-            ≡ candidates (node-game self) (some-move (first .bits)) (memory-of state words) (self .game) (self .prev .bits) (pv-of pv (self .depth))) ⌝ }
+            ≡ candidates (node-game self) (some-move (first .bits)) (memory-of state words) (self .game) (self .prev .bits)
+            (pv-of pv (self .depth))) ⌝ }
     {
         let game = self.game;
         let turn = game.next_player;

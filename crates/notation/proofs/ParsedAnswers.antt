@@ -18,7 +18,8 @@ use Rattle.rules.specs.declared.NextBoard.the-variants.{Any}
 use Rattle.rules.specs.Board.{other, in-play, won-by, result}
 use Rattle.rules.specs.Hash.{hash}
 use Rattle.text.specs.Bytes.{semicolon}
-use Rattle.text.specs.Reading.{Reading, reads, refuses, sections, first-bad, last-at, first-fault, said, read-cells, read-marks, read-overall, lone-side, read-side, read}
+use Rattle.text.specs.Reading.{Reading, reads, refuses, sections, first-bad, last-at, first-fault, said, read-cells, read-marks}
+use Rattle.text.specs.Reading.{read-overall, lone-side, read-side, read}
 use Rattle.text.proofs.ReadingScan.{one-section, two-sections, three-sections, more-sections, slice-at, first-bad→, last-at-cases}
 use Rattle.text.proofs.Reading.{too-long, not-three, answer-is-read}
 use Rattle.boards.specs.declared.local.LocalBoards.{LocalBoards}
@@ -41,7 +42,8 @@ use Rattle.notation.specs.Parsed.{kind-number, game-for, Parses}
 use Rattle.notation.specs.Parts.{refused, AnswersReading, Finds, Marks-say, Reads-overall, Cells-say, Answers-cells, Reads-cells}
 
 -- ---- a refusal
-pub refusal-gives : (x : Reading) (r : Parsed) (why : ErrorKind) (o l : ℕ) → r ≡ refused why o l → x ≡ refuses (kind-number why) o l → AnswersReading x r
+pub refusal-gives : (x : Reading) (r : Parsed) (why : ErrorKind) (o l : ℕ) → r ≡ refused why o l →
+    x ≡ refuses (kind-number why) o l → AnswersReading x r
 refusal-gives x r why o l e f = rw (e, f) (record { says = refl; game-is = refl })
 
 -- its number is not 0
@@ -98,7 +100,8 @@ module _ (s os cs : List ℕ) where
 
       module _ (f : first-bad os ≡ none) where
         -- a cell or a `/` is bad or lacks
-        pub cells-bad : (why : ErrorKind) → kind-number why ≡ first-fault cs (from 0 89) → answer ≡ refuses (kind-number why) 12 (length cs)
+        pub cells-bad : (why : ErrorKind) → kind-number why ≡ first-fault cs (from 0 89) →
+            answer ≡ refuses (kind-number why) 12 (length cs)
         unfolding read-cells if_then_else_
         cells-bad why e' = by-marks ∙ rw (f, ne-eqb (first-fault cs (from 0 89)) 0 (λ z. kind-is-a-fault why (e' ∙ z)), e')
 
@@ -115,13 +118,16 @@ next-is-neat n os l e =
     subst (λ (d : NextBoard). T (neat-next d)) (sym e) bound
 
 -- the game of what was read
-module _ (w : Player) (os cs : List ℕ) (s : GlobalStates) (n : NextBoard) (l : LocalBoards) (nine : length os ≡ 9) (ms : Marks-say os s n) (c : Cells-say cs l) where
+module _ (w : Player) (os cs : List ℕ) (s : GlobalStates) (n : NextBoard) (l : LocalBoards) (nine : length os ≡ 9)
+    (ms : Marks-say os s n) (c : Cells-say cs l) where
   abbrev g : Game
   g = recalculated (packed w n l s InPlay)
 
   g-neat : T (neat g)
   unfolding packed
-  g-neat = recalculated-neat (packed w n l s InPlay) (→neat (packed w n l s InPlay) (record { next = next-is-neat n os nine (ms .due-is); three = c .three; each = c .each; xs = ms .x-fits; os = ms .o-fits }))
+  g-neat =
+      recalculated-neat (packed w n l s InPlay) (→neat (packed w n l s InPlay)
+      (record { next = next-is-neat n os nine (ms .due-is); three = c .three; each = c .each; xs = ms .x-fits; os = ms .o-fits }))
 
   g-fresh : Fresh g
   g-fresh = recalculated-hash (packed w n l s InPlay) (packed-hash w n l s InPlay)
@@ -140,7 +146,8 @@ module _ (w : Player) (os cs : List ℕ) (s : GlobalStates) (n : NextBoard) (l :
   g-is = sym (neat-is-fixed g g-neat) ∙ ap₂ game-of g-means (g-fresh ∙ ap hash g-means)
 
   -- it is the neat game of the position, with its fresh hash
-  pub accepted-gives : (x : Reading) (h : Game) → x ≡ reads (said w os cs) → h ≡ g → AnswersReading x (record { game = h; answer = Accepted })
+  pub accepted-gives : (x : Reading) (h : Game) → x ≡ reads (said w os cs) → h ≡ g →
+      AnswersReading x (record { game = h; answer = Accepted })
   accepted-gives x h e f = rw (e, f) (record { says = ap reads g-means; game-is = g-is })
 
 -- ---- a text
@@ -172,24 +179,36 @@ module _ (t : List ℕ) (r : Parsed) where
     parses-one i a h = parses-not-three (λ m. omega (arith, ap length (one-section t (λ k p q. a .before k p (omega arith)))))
 
     -- one alone
-    pub parses-two : (i j : ℕ) → Finds t 0 semicolon i → i < length t → Finds t (i + 1) semicolon j → j ≡ length t → r ≡ refused MissingSection 0 (length t) → Parses t r
-    parses-two i j a h b k = parses-not-three (λ m. omega (arith, ap length (two-sections t i h (a .before) (a .found h) (λ n p q. b .before n (omega arith) (omega arith)))))
+    pub parses-two : (i j : ℕ) → Finds t 0 semicolon i → i < length t → Finds t (i + 1) semicolon j → j ≡ length t →
+        r ≡ refused MissingSection 0 (length t) → Parses t r
+    parses-two i j a h b k =
+        parses-not-three (λ m. omega
+        (arith, ap length (two-sections t i h (a .before) (a .found h) (λ n p q. b .before n (omega arith) (omega arith)))))
 
-    module _ (i j k : ℕ) (a : Finds t 0 semicolon i) (b : Finds t (i + 1) semicolon j) (h : j < length t) (d : Finds t (j + 1) semicolon k) where
+    module _ (i j k : ℕ) (a : Finds t 0 semicolon i) (b : Finds t (i + 1) semicolon j) (h : j < length t)
+        (d : Finds t (j + 1) semicolon k) where
       ordered : (i < j) × (j < k) × (i < length t)
       ordered = (omega (arith, b .low), omega (arith, d .low), omega (arith, b .low))
 
       -- a third
       pub parses-four : k < length t → r ≡ refused MissingSection 0 (length t) → Parses t r
-      parses-four l = parses-not-three (λ m. omega (arith, more-sections t i j k (ordered .0) (ordered .1) l (a .found (ordered .2)) (b .found h) (d .found l)))
+      parses-four l =
+          parses-not-three (λ m. omega (
+            arith,
+            more-sections t i j k (ordered .0) (ordered .1) l (a .found (ordered .2)) (b .found h)
+                (d .found l),
+          ))
 
       three : k ≡ length t → sections t ≡ take i t ∷ part t (i + 1) j ∷ part t (j + 1) (length t) ∷ []
-      three l = three-sections t i j (ordered .0) h (a .before) (a .found (ordered .2)) (λ n p q. b .before n (omega arith) q) (b .found h) (λ n p q. d .before n (omega arith) (omega arith))
+      three l =
+          three-sections t i j (ordered .0) h (a .before) (a .found (ordered .2)) (λ n p q. b .before n (omega arith) q) (b .found h)
+          (λ n p q. d .before n (omega arith) (omega arith))
           ∙ ap₂ (λ (os cs : List ℕ). take i t ∷ os ∷ cs ∷ [])
           (rw (← add-one i) (slice-is-part t (i + 1) j (omega (arith, ordered)) (omega arith)))
           (rw (← add-one j) (sym (take-all (length t - (j + 1)) (drop (j + 1) t) (omega (arith, length-drop (j + 1) t)))))
 
       -- two: what the three sections give
-      pub parses-three : k ≡ length t → AnswersReading (read-side (lone-side (take i t)) (take i t) (part t (i + 1) j) (part t (j + 1) (length t))) r → Parses t r
+      pub parses-three : k ≡ length t →
+          AnswersReading (read-side (lone-side (take i t)) (take i t) (part t (i + 1) j) (part t (j + 1) (length t))) r → Parses t r
       unfolding read if_then_else_
       parses-three l = gives-parses t _ r (rw (le-ltb 256 (length t) short, three l))

@@ -28,7 +28,8 @@ same-number Read m = refl
 same-number BadLength m = refl
 same-number (BadCharacter c) m = refl
 
-parsed : (t : List ℕ) (a : MoveTextAnswer) (m : ℕ) → read-move t ≡ move-reading-of a m → m ≡ move-for (move-reading-of a m) → Parses-move t (answered a m)
+parsed : (t : List ℕ) (a : MoveTextAnswer) (m : ℕ) → read-move t ≡ move-reading-of a m → m ≡ move-for (move-reading-of a m) →
+    Parses-move t (answered a m)
 parsed t a m e f = record { number = same-number a m ∙ ap move-refusal (sym e); says = sym e; move-is = f ∙ ap move-for (sym e) }
 
 two : (t : List ℕ) → length t ≡ 2 → read-move t ≡ read-letters (getD t 0 0) (getD t 1 0)
@@ -61,6 +62,8 @@ module _ (t : List ℕ) where
       second-lettered g = lettered (getD t 1 0) (sym e' ∙ not-false ok' g)
 
       -- both are
-      pub both-good : (m : ℕ) → not ok' ≡ false → m ≡ (getD t 0 0 - 0x61) * 16 + (getD t 1 0 - 0x61) → Parses-move t (answered Read m)
+      pub both-good : (m : ℕ) → not ok' ≡ false → m ≡ (getD t 0 0 - 0x61) * 16 + (getD t 1 0 - 0x61) →
+          Parses-move t (answered Read m)
       unfolding read-letters if_then_else_
-      both-good m g q = parsed t Read m (two t n ∙ rw (sym e ∙ not-false ok f, sym e' ∙ not-false ok' g) (ap reads-move (omega arith))) refl
+      both-good m g q =
+          parsed t Read m (two t n ∙ rw (sym e ∙ not-false ok f, sym e' ∙ not-false ok' g) (ap reads-move (omega arith))) refl

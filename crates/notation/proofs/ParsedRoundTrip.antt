@@ -19,5 +19,6 @@ pub render-reads-back : (ms : List ℕ) → let g = games-after new-game ms in
     (read (text-of (position-of g)) ≡ reads (position-of g)) × (game-for (read (text-of (position-of g))) ≡ g)
 render-reads-back ms =
     let g = games-after new-game ms in
-    let r : read (text-of (position-of g)) ≡ reads (position-of g) = subst (λ (p : Position). read (text-of p) ≡ reads p) (sym (new-played-means ms)) (reached-reads-back ms) in
+    let r : read (text-of (position-of g)) ≡ reads (position-of g) = subst (λ (p : Position). read (text-of p) ≡ reads p)
+    (sym (new-played-means ms)) (reached-reads-back ms) in
     (r, ap game-for r ∙ ap (game-of (position-of g)) (sym (new-played-hash ms)) ∙ neat-is-fixed g (new-played-neat ms))

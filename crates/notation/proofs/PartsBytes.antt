@@ -56,7 +56,8 @@ module _ (p : Position) (i : ℕ) where
       pub at-slash : (i - 12) % 10 ≡ 9 → slash ≡ byte-at p i
       at-slash e = sym (by-cell ∙ slash-every-tenth p (i - 12) e)
 
-      pub at-cell : (s : CellState) → ((i - 12) % 10 ≡ 9 → ⊥) → s ≡ p .cells ((i - 12) / 10) ((i - 12) % 10) → cell-byte s ≡ byte-at p i
+      pub at-cell : (s : CellState) → ((i - 12) % 10 ≡ 9 → ⊥) → s ≡ p .cells ((i - 12) / 10) ((i - 12) % 10) →
+          cell-byte s ≡ byte-at p i
       at-cell s n e = rw e (sym (by-cell ∙ cell-elsewhere p (i - 12) n))
 
 -- ---- an array, written from the front
@@ -68,7 +69,8 @@ pub record Rendered (p : Position) (out : List ℕ) (i : ℕ) : Type 0 where
 pub none-rendered : (p : Position) (out : List ℕ) → length out ≡ 101 → Rendered p out 0
 none-rendered p out n = record { size = n; done = λ k h. absurd (omega arith) }
 
-pub one-rendered : (p : Position) (out : List ℕ) (i c : ℕ) → i < 101 → Rendered p out i → c ≡ byte-at p i → Rendered p (set out i c) (i + 1)
+pub one-rendered : (p : Position) (out : List ℕ) (i c : ℕ) → i < 101 → Rendered p out i → c ≡ byte-at p i →
+    Rendered p (set out i c) (i + 1)
 one-rendered p out i c h r e = record {
   size = length-set out i c ∙ r .size;
   done = λ k l. elim (ℕ-discrete k i) [
@@ -78,4 +80,6 @@ one-rendered p out i c h r e = record {
 }
 
 pub all-rendered : (p : Position) (out : List ℕ) → Rendered p out 101 → out ≡ text-of p
-all-rendered p out r = ext-getD 0 out (text-of p) (r .size ∙ sym (text-has-101-bytes p)) (λ k h. let l : k < 101 = omega (arith, r .size) in r .done k l ∙ sym (text-at p k l))
+all-rendered p out r =
+    ext-getD 0 out (text-of p) (r .size ∙ sym (text-has-101-bytes p)) (λ k h. let l : k < 101 = omega (arith, r .size) in
+    r .done k l ∙ sym (text-at p k l))

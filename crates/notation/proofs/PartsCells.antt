@@ -44,18 +44,23 @@ module _ (l : LocalBoards) (b c : ℕ) where
     marked-here none = e
     marked-here (some Empty) = e
     marked-here (some (Played w)) = ap (λ (f : ℕ → ℕ → CellState). f b c) (cell-after l b c w n hb hc free)
-        ∙ update-at (λ (r : ℕ → CellState). r c ≡ Played w) (cell-at l) b (update (cell-at l b) c (Played w)) (update-at (λ (s : CellState). s ≡ Played w) (cell-at l b) c (Played w) refl)
+        ∙ update-at (λ (r : ℕ → CellState). r c ≡ Played w) (cell-at l) b (update (cell-at l b) c (Played w))
+        (update-at (λ (s : CellState). s ≡ Played w) (cell-at l b) c (Played w) refl)
 
-    marked-there : (m : Option CellState) (i j : ℕ) → (i ≡ b → j ≡ c → ⊥) → cell-at (with-cell-mark l b c m) i j ≡ cell-at l i j
+    marked-there : (m : Option CellState) (i j : ℕ) → (i ≡ b → j ≡ c → ⊥) →
+        cell-at (with-cell-mark l b c m) i j ≡ cell-at l i j
     marked-there none i j h = refl
     marked-there (some Empty) i j h = refl
-    marked-there (some (Played w)) i j h = ap (λ (f : ℕ → ℕ → CellState). f i j) (cell-after l b c w n hb hc free) ∙ elim (ℕ-discrete i b) [
-      | yes q ↦ rw q (update-at (λ (r : ℕ → CellState). r j ≡ cell-at l b j) (cell-at l) b (update (cell-at l b) c (Played w))
-          (update-off (λ (s : CellState). s ≡ cell-at l b j) (cell-at l b) c (Played w) j (λ p. h q (sym p)) refl))
-      | no q ↦ update-off (λ (r : ℕ → CellState). r j ≡ cell-at l i j) (cell-at l) b (update (cell-at l b) c (Played w)) i (λ p. q (sym p)) refl
-    ]
+    marked-there (some (Played w)) i j h =
+        ap (λ (f : ℕ → ℕ → CellState). f i j) (cell-after l b c w n hb hc free) ∙ elim (ℕ-discrete i b) [
+          | yes q ↦ rw q (update-at (λ (r : ℕ → CellState). r j ≡ cell-at l b j) (cell-at l) b (update (cell-at l b) c (Played w))
+              (update-off (λ (s : CellState). s ≡ cell-at l b j) (cell-at l b) c (Played w) j (λ p. h q (sym p)) refl))
+          | no q ↦ update-off (λ (r : ℕ → CellState). r j ≡ cell-at l i j) (cell-at l) b (update (cell-at l b) c (Played w)) i
+              (λ p. q (sym p)) refl
+        ]
 
-    marked-neat : (m : Option CellState) → T (all neat-row (l .rows)) → (length (with-cell-mark l b c m .rows) ≡ 3) × T (all neat-row (with-cell-mark l b c m .rows))
+    marked-neat : (m : Option CellState) → T (all neat-row (l .rows)) → (length (with-cell-mark l b c m .rows) ≡ 3) ×
+        T (all neat-row (with-cell-mark l b c m .rows))
     marked-neat none a = (n, a)
     marked-neat (some Empty) a = (n, a)
     marked-neat (some (Played w)) a = with-cell-neat l b c w hb hc free n a

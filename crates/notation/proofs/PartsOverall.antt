@@ -71,9 +71,12 @@ module _ (os : List ℕ) (s : GlobalStates) (n : NextBoard) (i : ℕ) (nine : le
       known = λ k l. elim (ℕ-discrete k i) [ yes q ↦ rw (q, e) tt | no q ↦ m .known k (omega arith) ];
       read = λ b l. elim (ℕ-discrete b i) [
         | yes q ↦ rw q (state-of i ∙ update-at (λ (z : GameState). z ≡ state-in os i) (state-at s) i g (sym said))
-        | no q ↦ state-of b ∙ update-off (λ (z : GameState). z ≡ state-in os b) (state-at s) i g b (λ p. q (sym p)) (m .read b (omega arith))
+        | no q ↦ state-of b ∙ update-off (λ (z : GameState). z ≡ state-in os b) (state-at s) i g b (λ p. q (sym p))
+            (m .read b (omega arith))
       ];
-      unread = λ b l. state-of b ∙ update-off (λ (z : GameState). z ≡ InPlay) (state-at s) i g b (λ p. omega arith) (m .unread b (omega arith));
+      unread =
+          λ b l. state-of b ∙ update-off (λ (z : GameState). z ≡ InPlay) (state-at s) i g b (λ p. omega arith)
+          (m .unread b (omega arith));
       x-fits = with-state-neat s i h (m .x-fits) (m .o-fits) g .0;
       o-fits = with-state-neat s i h (m .x-fits) (m .o-fits) g .1;
       due-is = rw (add-one i, d, due-kept (getD os i 0) i n) (sym (last-at-steps i os n (omega arith)) ∙ m .due-is);

@@ -1,6 +1,6 @@
 // Positions and moves as text.
-// Ported from src/lib/game/notation.rs of nelhage/ultimattt at commit 87ef0d9c7c (Apache-2.0, see NOTICE), changed: bytes for characters, at
-// most 256 of them, refusals with offset and length, and the rows set directly.
+// Ported from src/lib/game/notation.rs of nelhage/ultimattt at commit 87ef0d9c7c (Apache-2.0, see NOTICE), changed: bytes for characters,
+// at most 256 of them, refusals with offset and length, and the rows set directly.
 ghost use mathlib.Core.Path.{_≡_};
 ghost use Prim.Native.Nat.{_≤_, _<_};
 ghost use lib.ListN.{length};
@@ -11,7 +11,8 @@ ghost use Rattle.text.specs.Writing.{state-byte, cell-byte, text-of, byte-at};
 ghost use Rattle.text.specs.MoveText.{coordinate, move-text};
 ghost use Rattle.game.specs.Meaning.{position-of};
 ghost use Rattle.notation.specs.Parsed.{kind-number, parse-number, move-number, Parses, Parses-move};
-ghost use Rattle.notation.specs.Parts.{refused, AnswersReading, Finds, side-said, mark-said, next-board-by, next-board-or, Reads-overall, cell-said, with-cell-mark, fault-number, Reads-cells};
+ghost use Rattle.notation.specs.Parts.{refused, AnswersReading, Finds, side-said, mark-said, next-board-by, next-board-or};
+ghost use Rattle.notation.specs.Parts.{Reads-overall, cell-said, with-cell-mark, fault-number, Reads-cells};
 use boards::GlobalStates;
 use boards::LocalBoards;
 use boards::Move;
@@ -129,7 +130,8 @@ pub fn parse(text: &[u8]) -> Parsed
 
 // With one byte for the side and nine overall marks, the sections start at 0, 2 and 12.
 fn parse_sections(side: &[u8], overall: &[u8], cells: &[u8]) -> Parsed
-    ensures { λ r. ⌜ AnswersReading (read-side (lone-side (now (side .entry))) (now (side .entry)) (now (overall .entry)) (now (cells .entry))) r ⌝ }
+    ensures { λ r. ⌜ AnswersReading (read-side (lone-side (now (side .entry))) (now (side .entry)) (now (overall .entry))
+        (now (cells .entry))) r ⌝ }
 {
     let Side::Of(who) = parse_player(side) else {
         return refuse(ErrorKind::BadPlayer, 0, side.len());

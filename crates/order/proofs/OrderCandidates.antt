@@ -46,14 +46,18 @@ module _ (o : Candidates) (none : Move) where
   abbrev pub no-second : Candidates
   no-second = record { first = o .first; second = none; list = o .list }
 
-  pub next-first : none .bits ≡ no-move → (b : Bool) → b ≡ not (eqb (o .first .bits) no-move) → b ≡ true → NextCandidateIs (candidates-left o) (Next (o .first) no-first)
+  pub next-first : none .bits ≡ no-move → (b : Bool) → b ≡ not (eqb (o .first .bits) no-move) → b ≡ true →
+      NextCandidateIs (candidates-left o) (Next (o .first) no-first)
   unfolding candidates-left
   next-first z b e h = rw (is-some (o .first .bits) b e h) (refl, rw (emptied (none .bits) z))
 
   module _ (b : Bool) (e : b ≡ not (eqb (o .first .bits) no-move)) (h : b ≡ false) where
-    pub next-second : none .bits ≡ no-move → (c : Bool) → c ≡ not (eqb (o .second .bits) no-move) → c ≡ true → NextCandidateIs (candidates-left o) (Next (o .second) no-second)
+    pub next-second : none .bits ≡ no-move → (c : Bool) → c ≡ not (eqb (o .second .bits) no-move) → c ≡ true →
+        NextCandidateIs (candidates-left o) (Next (o .second) no-second)
     unfolding candidates-left
-    next-second z c f k = rw (is-none (o .first .bits) b e h, is-some (o .second .bits) c f k) (refl, rw (is-none (o .first .bits) b e h, emptied (none .bits) z))
+    next-second z c f k =
+        rw (is-none (o .first .bits) b e h, is-some (o .second .bits) c f k)
+        (refl, rw (is-none (o .first .bits) b e h, emptied (none .bits) z))
 
     module _ (c : Bool) (f : c ≡ not (eqb (o .second .bits) no-move)) (k : c ≡ false) where
       list-left : candidates-left o ≡ moves-left (o .list)
@@ -66,14 +70,18 @@ module _ (o : Candidates) (none : Move) where
       from-list [] m rest q p = absurd (let z : _≡_ {A = ℕ} 0 1 = cc in omega arith)
       from-list (n ∷ ns) m rest q p =
           let r : rest ≡ cursor-over ns = cc in
-          let s : m ≡ record { bits = n } = cc in
-          (ap (λ (x : Move). x .bits) s, rw (is-none (o .first .bits) b e h, is-none (o .second .bits) c f k, r) (rest-left (o .list) n ns q))
+          let s : m ≡ record { bits = n } = cc in (
+            ap (λ (x : Move). x .bits) s,
+            rw (is-none (o .first .bits) b e h, is-none (o .second .bits) c f k, r)
+                (rest-left (o .list) n ns q),
+          )
 
       from-none : (ms : List ℕ) → Listed-end ≡ listed ms → NextCandidateIs ms End
       from-none [] p = tt
       from-none (n ∷ ns) p = let z : _≡_ {A = ℕ} 0 1 = cc in omega arith
 
-      pub next-listed : (l : Listed) → l ≡ listed (moves-left (o .list)) → (m : Move) (rest : MoveIterator) → l ≡ Listed-next m rest
+      pub next-listed : (l : Listed) → l ≡ listed (moves-left (o .list)) → (m : Move) (rest : MoveIterator) →
+          l ≡ Listed-next m rest
           → NextCandidateIs (candidates-left o) (Next m (record { first = o .first; second = o .second; list = rest }))
       next-listed l p m rest q = rw list-left (from-list (moves-left (o .list)) m rest refl (sym q ∙ p))
 
@@ -81,7 +89,8 @@ module _ (o : Candidates) (none : Move) where
       next-ended l p q = rw list-left (from-none (moves-left (o .list)) (sym q ∙ p))
 
 -- ---- as the caller has it
-pub was-next : (ms : List ℕ) (r : NextCandidate) → NextCandidateIs ms r → (m : Move) (rest : Candidates) → r ≡ Next m rest → ms ≡ m .bits ∷ candidates-left rest
+pub was-next : (ms : List ℕ) (r : NextCandidate) → NextCandidateIs ms r → (m : Move) (rest : Candidates) → r ≡ Next m rest →
+    ms ≡ m .bits ∷ candidates-left rest
 was-next [] r h m rest e = absurd (subst (NextCandidateIs []) e h)
 was-next (n ∷ ns) r h m rest e = let p = subst (NextCandidateIs (n ∷ ns)) e h in ap₂ _∷_ (sym (p .0)) (sym (p .1))
 

@@ -22,7 +22,10 @@ module _ (f : ℕ → Bool) (m : ℕ) where
   others k = f k && not (eqb k m)
 
   absent : (xs : List ℕ) → T (not (elem m xs)) → filter others xs ≡ filter f xs
-  absent xs n = filter-same others f xs (λ k i. ap (λ (b : Bool). f k && not b) (false-by (eqb k m) (λ t. T-not (elem m xs) n (in-elem m xs (subst (λ (z : ℕ). In z xs) (eqb→eq k m t) i)))) ∙ and-true (f k))
+  absent xs n =
+      filter-same others f xs
+      (λ k i. ap (λ (b : Bool). f k && not b)
+      (false-by (eqb k m) (λ t. T-not (elem m xs) n (in-elem m xs (subst (λ (z : ℕ). In z xs) (eqb→eq k m t) i)))) ∙ and-true (f k))
 
   -- by the test's answer at the first
   step : (x : ℕ) (xs ms : List ℕ) → T (unique (x ∷ xs)) → (filter f xs ≡ m ∷ ms → filter others xs ≡ ms) → (b : Bool)
@@ -46,7 +49,12 @@ module _ (it : MoveIterator) where
 
   over-part : cursor-over (filter there places) ≡ cursor-over (moves-left it)
   unfolding row-over
-  over-part = λ i. record { top = row-over-kept there 0 (lit< tt) i; middle = row-over-kept there 1 (lit< tt) i; bottom = row-over-kept there 2 (lit< tt) i }
+  over-part =
+      λ i. record {
+        top = row-over-kept there 0 (lit< tt) i;
+        middle = row-over-kept there 1 (lit< tt) i;
+        bottom = row-over-kept there 2 (lit< tt) i;
+      }
 
   a-part : filter there places ≡ moves-left it
   unfolding moves-left
@@ -57,4 +65,5 @@ module _ (it : MoveIterator) where
   pub rest-left : (m : ℕ) (ms : List ℕ) → moves-left it ≡ m ∷ ms → moves-left (cursor-over ms) ≡ ms
   unfolding places concat-map unique elem
   rest-left m ms e =
-      subst (λ (l : List ℕ). moves-left (cursor-over l) ≡ l) (kept-rest there m places ms tt (a-part ∙ e)) (cursor-kept (others there m))
+      subst (λ (l : List ℕ). moves-left (cursor-over l) ≡ l) (kept-rest there m places ms tt (a-part ∙ e))
+      (cursor-kept (others there m))

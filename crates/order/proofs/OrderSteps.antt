@@ -39,7 +39,8 @@ use Rattle.order.specs.Order.{marked, candidates-left, Step, with-mark, 
 
 -- ---- a new walk
 pub new-order : (g : Game) (first second : Move) (list : MoveIterator) → list ≡ cursor-over (moves (position-of g))
-    → candidates-left (record { first = first; second = second; list = list }) ≡ some-move (first .bits) ++ (some-move (second .bits) ++ moves (position-of g))
+    → candidates-left (record { first = first; second = second; list = list }) ≡ some-move (first .bits) ++
+    (some-move (second .bits) ++ moves (position-of g))
 unfolding candidates-left
 new-order g first second list e = rw (e, all-moves-listed g)
 
@@ -53,7 +54,8 @@ module _ (ok : ℕ → Bool) (seen : ℕ → Bool) (m : ℕ) (ms : List ℕ) whe
   unfolding step if_then_else_
   step-refused e a = rw (e, a)
 
-  step-accepted : seen m ≡ false → ok m ≡ true → step ok seen (m ∷ ms) ≡ record { found = m; marks = with-mark seen m; left = ms }
+  step-accepted : seen m ≡ false → ok m ≡ true → step ok seen (m ∷ ms) ≡ record
+      { found = m; marks = with-mark seen m; left = ms }
   unfolding step if_then_else_
   step-accepted e a = rw (e, a)
 
@@ -79,7 +81,8 @@ abbrev pub step-from : Game → Candidates → Seen → Step
 step-from g left seen = step-of g (record { left = left; seen = seen })
 
 -- what comes back, by what the step is
-next-by : (g : Game) (w : MoveOrder) (r : NextMove) (s : Step) → step-of g w ≡ s → r .m .bits ≡ s .found → r .game ≡ game-after g (s .found)
+next-by : (g : Game) (w : MoveOrder) (r : NextMove) (s : Step) → step-of g w ≡ s → r .m .bits ≡ s .found →
+    r .game ≡ game-after g (s .found)
     → ((k : ℕ) → marked (r .order .seen) k ≡ s .marks k) → candidates-left (r .order .left) ≡ s .left → NextOf g w r
 next-by g w r s e m a k l = record {
   move-is = m ∙ sym (ap (λ (x : Step). x .found) e);
@@ -88,11 +91,14 @@ next-by g w r s e m a k l = record {
   left-are = l ∙ sym (ap (λ (x : Step). x .left) e);
 }
 
-module _ (g : Game) (left : Candidates) (seen : Seen) (m : Move) (rest : Candidates) (e : candidates-left left ≡ m .bits ∷ candidates-left rest) where
+module _ (g : Game) (left : Candidates) (seen : Seen) (m : Move) (rest : Candidates)
+    (e : candidates-left left ≡ m .bits ∷ candidates-left rest) where
   pub repeated : (b : Bool) → b ≡ marked seen (m .bits) → b ≡ true → step-from g rest seen ≡ step-from g left seen
-  repeated b f h = sym (ap (step (ok g) (marked seen)) e ∙ step-repeat (ok g) (marked seen) (m .bits) (candidates-left rest) (sym f ∙ h))
+  repeated b f h =
+      sym (ap (step (ok g) (marked seen)) e ∙ step-repeat (ok g) (marked seen) (m .bits) (candidates-left rest) (sym f ∙ h))
 
-  module _ (b : Bool) (f : b ≡ marked seen (m .bits)) (h : b ≡ false) (new : Seen) (more : (k : ℕ) → marked new k ≡ (eqb k (m .bits) || marked seen k))
+  module _ (b : Bool) (f : b ≡ marked seen (m .bits)) (h : b ≡ false) (new : Seen)
+      (more : (k : ℕ) → marked new k ≡ (eqb k (m .bits) || marked seen k))
       (made : MoveResult) (p : Plays g m made) where
     pub refused : (r : MoveError) → made .answer ≡ Refused r → step-from g rest new ≡ step-from g left seen
     refused r q =
@@ -104,15 +110,19 @@ module _ (g : Game) (left : Candidates) (seen : Seen) (m : Move) (rest : Candida
     pub accepted : made .answer ≡ Accepted → (w : MoveOrder) → step-from g left seen ≡ step-of g w
         → NextOf g w (record { m = m; game = made .game; order = record { left = rest; seen = new } })
     accepted q w s =
-        let a : ok g (m .bits) ≡ true = is-true (ok g (m .bits)) (nought-accepts (position-of g) (m .bits) (sym (p .number) ∙ ap answer-number q)) in
-        next-by g w _ _ (sym s ∙ ap (step (ok g) (marked seen)) e ∙ step-accepted (ok g) (marked seen) (m .bits) (candidates-left rest) (sym f ∙ h) a)
+        let a : ok g (m .bits)
+        ≡ true = is-true (ok g (m .bits)) (nought-accepts (position-of g) (m .bits) (sym (p .number) ∙ ap answer-number q)) in
+        next-by g w _ _ (sym s ∙ ap (step (ok g) (marked seen)) e ∙ step-accepted (ok g) (marked seen) (m .bits) (candidates-left rest)
+        (sym f ∙ h) a)
         refl (p .exact) more refl
 
-pub ended : (g : Game) (left : Candidates) (seen : Seen) (w : MoveOrder) → candidates-left left ≡ [] → step-from g left seen ≡ step-of g w → (m : Move) → m .bits ≡ no-move
+pub ended : (g : Game) (left : Candidates) (seen : Seen) (w : MoveOrder) → candidates-left left ≡ [] →
+    step-from g left seen ≡ step-of g w → (m : Move) → m .bits ≡ no-move
     → NextOf g w (record { m = m; game = g; order = record { left = left; seen = seen } })
 unfolding step
 ended g left seen w e s m z =
-    next-by g w _ _ (sym s ∙ ap (step (ok g) (marked seen)) e) z (sym (game-refused g no-move (none-refused (position-of g)))) (λ k. refl) e
+    next-by g w _ _ (sym s ∙ ap (step (ok g) (marked seen)) e) z (sym (game-refused g no-move (none-refused (position-of g))))
+    (λ k. refl) e
 
 -- ---- what a move order has left
 module _ (ok : ℕ → Bool) where
@@ -127,7 +137,8 @@ module _ (ok : ℕ → Bool) where
   unfolding unmarked
   left-accepted seen [] m rest = λ e. absurd (let z : _≡_ {A = ℕ} 0 1 = cc in omega arith)
   left-accepted seen (x ∷ ms) m rest = if-ind (λ l. l ≡ m ∷ rest → T (ok m)) (seen x) _ _ (λ _ e. left-accepted _ ms m rest e)
-      (λ _. if-ind (λ l. l ≡ m ∷ rest → T (ok m)) (ok x) _ _ (λ t e. let q : x ≡ m = cc in subst (λ (z : ℕ). T (ok z)) q t) (λ _ e. left-accepted _ ms m rest e))
+      (λ _. if-ind (λ l. l ≡ m ∷ rest → T (ok m)) (ok x) _ _ (λ t e. let q : x ≡ m = cc in subst (λ (z : ℕ). T (ok z)) q t)
+      (λ _ e. left-accepted _ ms m rest e))
 
   -- a step gives the first of those left, and leaves the others
   abbrev FirstOf : List ℕ → Step → Type 0
@@ -141,7 +152,8 @@ module _ (ok : ℕ → Bool) where
       (λ _. if-both FirstOf (ok m) _ _ _ _ (λ _. (refl, refl)) (λ _. step-first (with-mark seen m) ms))
 
 -- with no mark, the order's moves with no repeat
-pub walk-new : (g : Game) (w : MoveOrder) (ms : List ℕ) → (candidates-left (w .left) ≡ ms) × ((k : ℕ) → marked (w .seen) k ≡ false)
+pub walk-new : (g : Game) (w : MoveOrder) (ms : List ℕ) → (candidates-left (w .left) ≡ ms) ×
+    ((k : ℕ) → marked (w .seen) k ≡ false)
     → order-left g w ≡ fresh (accepts (position-of g)) [] ms
 unfolding elem
 walk-new g w ms e = (λ i. unmarked (ok g) (λ k. e .1 k i) (e .0 i)) ∙ unmarked-listed (ok g) [] ms

@@ -133,7 +133,8 @@ pub struct NextMove {
 
 impl MoveOrder {
     pub fn new(game: Game, first: Move, second: Move) -> MoveOrder
-        ensures { λ r. ⌜ (candidates-left (r .left) ≡ some-move (first .bits) ++ (some-move (second .bits) ++ moves (position-of game))) × ((k : ℕ) → marked (r .seen) k ≡ false) ⌝ }
+        ensures { λ r. ⌜ (candidates-left (r .left) ≡ some-move (first .bits) ++
+            (some-move (second .bits) ++ moves (position-of game))) × ((k : ℕ) → marked (r .seen) k ≡ false) ⌝ }
     {
         let list = game.all_moves();
         let left = Candidates {

@@ -54,8 +54,10 @@ use Rattle.answer_text.proofs.AnswerBytes.{written-whole}
 use Rattle.program_line.proofs.AnsweredBounds.{moves-short, Small, searched-small}
 
 -- ---- the search, from fresh memory and with no words
-pub search-searched : (r : Report) (m : Minimax) (g : Game) (depth : ℕ) (words : List ℕ) → T (neat g) → g .hash ≡ hash (position-of g) → m ≡ empty-responses → length words ≡ 0 →
-    report-of r words ≡ reported-of m g (record { «max_depth» = depth; allowance = 1000000; «draw_winner» = Nobody }) [] → report-of r [] ≡ program-search depth (position-of g)
+pub search-searched : (r : Report) (m : Minimax) (g : Game) (depth : ℕ) (words : List ℕ) → T (neat g) →
+    g .hash ≡ hash (position-of g) → m ≡ empty-responses → length words ≡ 0 →
+    report-of r words ≡ reported-of m g (record { «max_depth» = depth; allowance = 1000000; «draw_winner» = Nobody }) [] →
+    report-of r [] ≡ program-search depth (position-of g)
 search-searched r m g depth [] n f e l h =
     h ∙ ap (λ (m : Minimax). reported-of m g (record { «max_depth» = depth; allowance = 1000000; «draw_winner» = Nobody }) []) e
     ∙ ap (λ (xs : List ℕ). reported (structs no-draw-winner) (settings depth) g (record { to-x = xs; to-o = xs }) []) (bytes-empty 256)
@@ -68,14 +70,16 @@ module _ (s : Set) (legal : ℕ) (r : Reported) where
   unfolding report-text if_then_else_
   report-refused n = rw (ne-eqb (r .number) 0 n)
 
-  pub report-answered : (o : AnswerText) (n : ℕ) (z : ℤ) → n ≡ legal → z ≡ r .score → r .number ≡ 0 → o ≡ text-of-bytes (answer-text s n (r .depth) z (r .count) (r .pv)) → o ≡ text-of-bytes (report-text s legal r)
+  pub report-answered : (o : AnswerText) (n : ℕ) (z : ℤ) → n ≡ legal → z ≡ r .score → r .number ≡ 0 →
+      o ≡ text-of-bytes (answer-text s n (r .depth) z (r .count) (r .pv)) → o ≡ text-of-bytes (report-text s legal r)
   unfolding report-text if_then_else_
   report-answered o n z e f g h = h ∙ rw (e, f, eq-eqb (r .number) 0 g)
 
 -- ---- a position: 14, or the search
 set-again : (s : Set) → set-of (status-of s) ≡ s
 unfolding bit
-set-again s = λ i. record { x = go (s .x) (s .o) (s .draw) .0 i; o = go (s .x) (s .o) (s .draw) .1 i; draw = go (s .x) (s .o) (s .draw) .2 i }
+set-again s =
+    λ i. record { x = go (s .x) (s .o) (s .draw) .0 i; o = go (s .x) (s .o) (s .draw) .1 i; draw = go (s .x) (s .o) (s .draw) .2 i }
   where
     again : Bool → Bool → Bool → Set
     again x o d = set-of (status-of (record { x = x; o = o; draw = d }))
@@ -95,14 +99,17 @@ module _ (p : Position) (depth : ℕ) where
   unfolding position-text if_then_else_
   position-refused n e f = rw (sym e, ne-eqb n 0 f)
 
-  pub position-searched : (s : Status) (r : Reported) → 0 ≡ analysis p .refusal → s ≡ status-of (analysis p .status) → r ≡ program-search depth p → report-text (set-of s) (length (moves p)) r ≡ position-text p depth
+  pub position-searched : (s : Status) (r : Reported) → 0 ≡ analysis p .refusal → s ≡ status-of (analysis p .status) →
+      r ≡ program-search depth p → report-text (set-of s) (length (moves p)) r ≡ position-text p depth
   unfolding position-text if_then_else_
   position-searched s r e f g = rw (sym e, f, g, set-again (analysis p .status))
 
 -- ---- the text
 module _ (text : List ℕ) (r : Parsed) (h : Parses text r) where
-  pub text-refused : (e : ParseError) → r .answer ≡ Refused e → (depth : ℕ) → refusal-text (kind-number (e .why)) ≡ reading-text (read text) depth
-  text-refused e a depth = ap (λ (z : Reading). reading-text z depth) (sym (ap (λ (z : ParseAnswer). reading-of z (r .game)) a) ∙ h .says)
+  pub text-refused : (e : ParseError) → r .answer ≡ Refused e → (depth : ℕ) →
+      refusal-text (kind-number (e .why)) ≡ reading-text (read text) depth
+  text-refused e a depth =
+      ap (λ (z : Reading). reading-text z depth) (sym (ap (λ (z : ParseAnswer). reading-of z (r .game)) a) ∙ h .says)
 
   module _ (a : r .answer ≡ Accepted) where
     text-reads : read text ≡ reads (position-of (r .game))
@@ -114,8 +121,10 @@ module _ (text : List ℕ) (r : Parsed) (h : Parses text r) where
     -- the game is neat, and its hash the fresh one
     pub text-game : T (neat (r .game)) × (r .game .hash ≡ hash (position-of (r .game)))
     text-game =
-        let e = h .game-is ∙ ap game-for text-reads in
-        (subst (λ (g : Game). T (neat g)) (sym e) (read-gives-a-game text (position-of (r .game)) text-reads .is-neat), ap (λ (g : Game). g .hash) e)
+        let e = h .game-is ∙ ap game-for text-reads in (
+          subst (λ (g : Game). T (neat g)) (sym e) (read-gives-a-game text (position-of (r .game)) text-reads .is-neat),
+          ap (λ (g : Game). g .hash) e,
+        )
 
 -- ---- the line
 module _ (text : List ℕ) (d : Option ℕ) (r : Depth) (h : DepthIs d r) where
@@ -138,14 +147,19 @@ refusal-room n h = omega (arith, decimal-short 1 n (omega arith))
 report-room : (s : Set) (legal : ℕ) (r : Reported) → legal ≤ 81 → Small r → length (report-text s legal r) ≤ 224
 unfolding report-text
 report-room s legal r l h = if-ind (λ (t : List ℕ). length t ≤ 224) (eqb (r .number) 0) _ _
-    (λ _. omega (arith, answer-short s legal (r .depth) (r .score) (r .count) (r .pv) (omega arith) (omega arith) (omega arith) (omega arith) (omega arith)))
+    (λ _. omega (
+      arith,
+      answer-short s legal (r .depth) (r .score) (r .count) (r .pv) (omega arith) (omega arith) (omega arith)
+          (omega arith) (omega arith),
+    ))
     (λ _. refusal-room (r .number) (omega arith))
 
 position-room : (p : Position) (depth : ℕ) → length (position-text p depth) ≤ 224
 unfolding position-text
 position-room p depth = if-ind (λ (t : List ℕ). length t ≤ 224) (eqb (analysis p .refusal) 0) _ _
     (λ _. report-room (analysis p .status) (length (moves p)) (program-search depth p) (moves-short p) (searched-small depth p))
-    (λ _. refusal-room (analysis p .refusal) (analysis-cases p (λ (a : Analysed). a .refusal ≤ 19) (λ _. omega arith) (λ _ _. omega arith) (λ _ _. omega arith)))
+    (λ _. refusal-room (analysis p .refusal) (analysis-cases p (λ (a : Analysed). a .refusal ≤ 19) (λ _. omega arith)
+    (λ _ _. omega arith) (λ _ _. omega arith)))
 
 reading-room : (text : List ℕ) (r : Reading) → read text ≡ r → (depth : ℕ) → length (reading-text r depth) ≤ 224
 reading-room text (reads p) e depth = position-room p depth
@@ -159,12 +173,14 @@ asked-room (asks text depth) = reading-room text (read text) refl depth
 pub answer-fits : (line : List ℕ) → length (answer-line line) ≤ 224
 answer-fits line = asked-room (asked line)
 
--- ---- for every list of bytes: what `answer` promises of the line held, pushed byte by byte, is the answer to the line, and all of it is written
+-- ---- for every list of bytes: what `answer` promises of the line held, pushed byte by byte, is the answer to the line, and all of it is
+-- written
 pub record Answers (line : List ℕ) (r : AnswerText) : Type 0 where
   pub out-is : r ≡ text-of-bytes (answer-line line)
   pub written-is : written-bytes r ≡ answer-line line
 
-pub line-is-answered : (line : List ℕ) (r : AnswerText) → r ≡ text-of-bytes (asked-text (buffer-asks (pushed-all new-buffer line))) → Answers line r
+pub line-is-answered : (line : List ℕ) (r : AnswerText) → r ≡ text-of-bytes (asked-text (buffer-asks (pushed-all new-buffer line)))
+    → Answers line r
 line-is-answered line r e =
     let f = e ∙ ap text-of-bytes (same-text (buffer-asks (pushed-all new-buffer line)) (asked line) (held-asks-the-same line)) in
     record { out-is = f; written-is = ap written-bytes f ∙ written-whole (answer-line line) (asked-room (asked line)) }

@@ -36,7 +36,9 @@ use Rattle.program_line.specs.Answered.{settings, program-search}
 keep-short : (f : ℕ → Bool) (xs : List ℕ) → length (filter f xs) ≤ length xs
 unfolding filter
 keep-short f [] = omega arith
-keep-short f (x ∷ xs) = if-ind (λ (l : List ℕ). length l ≤ suc (length xs)) (f x) _ _ (λ _. omega (arith, keep-short f xs)) (λ _. omega (arith, keep-short f xs))
+keep-short f (x ∷ xs) =
+    if-ind (λ (l : List ℕ). length l ≤ suc (length xs)) (f x) _ _ (λ _. omega (arith, keep-short f xs))
+    (λ _. omega (arith, keep-short f xs))
 
 pub moves-short : (p : Position) → length (moves p) ≤ 81
 unfolding moves places concat-map
@@ -49,18 +51,23 @@ pub record Bounded (limit n : ℕ) (x : SearchAnswer) : Type 0 where
   pub high : x .completed .score ≤ℤ highest
   pub counted : x .memory .count ≤ n
 
-on-outcome-both : (P : ℤ → Type 0) (M : Memory → Type 0) (Q : SearchAnswer → Type 0) (o : Outcome) (f : Memory → SearchAnswer) (g : ℤ → List ℕ → Memory → SearchAnswer) →
-    Gives (λ r _ _. P r) o → Ends M o → ((s : Memory) → M s → Q (f s)) → ((r : ℤ) (line : List ℕ) (s : Memory) → P r → M s → Q (g r line s)) → Q (on-outcome o f g)
+on-outcome-both : (P : ℤ → Type 0) (M : Memory → Type 0) (Q : SearchAnswer → Type 0) (o : Outcome) (f : Memory → SearchAnswer)
+    (g : ℤ → List ℕ → Memory → SearchAnswer) →
+    Gives (λ r _ _. P r) o → Ends M o → ((s : Memory) → M s → Q (f s)) →
+    ((r : ℤ) (line : List ℕ) (s : Memory) → P r → M s → Q (g r line s)) → Q (on-outcome o f g)
 unfolding on-outcome Gives Ends
 on-outcome-both P M Q (stopped s) f g h k i j = i s k
 on-outcome-both P M Q (found r line s) f g h k i j = j r line s h k
 
 module _ (G : Game) (values : (p : G .Pos) → (lowest ≤ℤ G .value p) × (G .value p ≤ℤ highest)) (n : ℕ) (p : G .Pos) where
-  deepen-bounded : (limit k : ℕ) (w : Completed) (s : Memory) → k + w .depth ≤ limit → lowest ≤ℤ w .score → w .score ≤ℤ highest → s .count ≤ n → Bounded limit n (deepen G (at-most n) k p w s)
+  deepen-bounded : (limit k : ℕ) (w : Completed) (s : Memory) → k + w .depth ≤ limit → lowest ≤ℤ w .score →
+      w .score ≤ℤ highest → s .count ≤ n → Bounded limit n (deepen G (at-most n) k p w s)
   unfolding deepen begin hi lo
   deepen-bounded limit zero w s d a b c = record { deep = omega arith; low = a; high = b; counted = c }
-  deepen-bounded limit (suc k) w s d a b c = on-outcome-both (λ r. (lowest ≤ℤ r) × (r ≤ℤ highest)) (λ z. z .count ≤ n) (Bounded limit n) _ _ _
-      (search-range G values (at-most n) (suc (w .depth)) p lowest highest (w .pv ++ (no-move ∷ [])) no-move (begin s) (omega zarith) (omega zarith) (omega zarith) (omega zarith))
+  deepen-bounded limit (suc k) w s d a b c =
+      on-outcome-both (λ r. (lowest ≤ℤ r) × (r ≤ℤ highest)) (λ z. z .count ≤ n) (Bounded limit n) _ _ _
+      (search-range G values (at-most n) (suc (w .depth)) p lowest highest (w .pv ++ (no-move ∷ [])) no-move (begin s) (omega zarith)
+      (omega zarith) (omega zarith) (omega zarith))
       (search-allowed G n (suc (w .depth)) p lowest highest (w .pv ++ (no-move ∷ [])) no-move (begin s) c)
       (λ _ e. record { deep = omega arith; low = a; high = b; counted = e })
       (λ r line s' h e. if-ind (Bounded limit n) (decided r) _ _
@@ -86,18 +93,27 @@ module _ (c : Settings) (words : ℕ) where
       (λ _. if-ind (λ (n : ℕ). n ≤ 18) _ _ _
       (λ _. if-ind (λ (n : ℕ). n ≤ 18) _ _ _ (λ _. omega arith) (λ _. omega arith)) (λ _. omega arith)) (λ _. omega arith)
 
-report-small : (G : Game) (p : G .Pos) (x : SearchAnswer) → Bounded (console .deepest) 1000000 x → length (x .completed .pv) ≡ x .completed .depth
+report-small : (G : Game) (p : G .Pos) (x : SearchAnswer) → Bounded (console .deepest) 1000000 x →
+    length (x .completed .pv) ≡ x .completed .depth
     → Small (report G p x)
 report-small G p x b e = record {
   number-small = if-ind (λ (n : ℕ). n ≤ 18) _ _ _ (λ _. omega arith) (λ _. omega arith);
   depth-small = b .deep;
-  score-small = within-abs (2 ^ 60 + 1) (x .completed .score) (hi-le (x .completed .score) _ (b .high), lo-le (x .completed .score) _ (b .low));
+  score-small =
+      within-abs (2 ^ 60 + 1) (x .completed .score) (hi-le (x .completed .score) _ (b .high), lo-le (x .completed .score) _ (b .low));
   count-small = b .counted;
   line-long = simp (length-append, length-replicate) (omega (arith, b .deep));
 }
 
 refused-small : (n : ℕ) (rs : Responses) (words : List ℕ) → n ≤ 18 → Small (refused-entry n rs words)
-refused-small n rs words h = record { number-small = h; depth-small = omega arith; score-small = omega arith; count-small = omega arith; line-long = length-replicate (console .deepest) no-move }
+refused-small n rs words h =
+    record {
+      number-small = h;
+      depth-small = omega arith;
+      score-small = omega arith;
+      count-small = omega arith;
+      line-long = length-replicate (console .deepest) no-move;
+    }
 
 pub searched-small : (depth : ℕ) (p : Position) → Small (program-search depth p)
 unfolding reported
@@ -106,5 +122,7 @@ searched-small depth p =
     (λ t. let l = limits (settings depth) 0 (sym (eqb→eq _ 0 t)) in
     let s = fresh-memory no-responses [] in
     let a = analyze-bounded (game no-draw-winner) (value-within no-draw-winner) 1000000 p (settings depth .max-depth) s (omega arith) in
-    report-small (game no-draw-winner) p (analyze (game no-draw-winner) (at-most 1000000) (settings depth .max-depth) p s) (record { deep = omega arith; low = a .low; high = a .high; counted = a .counted }) (analyze-places (game no-draw-winner) (at-most 1000000) (settings depth .max-depth) p s))
+    report-small (game no-draw-winner) p (analyze (game no-draw-winner) (at-most 1000000) (settings depth .max-depth) p s)
+    (record { deep = omega arith; low = a .low; high = a .high; counted = a .counted })
+    (analyze-places (game no-draw-winner) (at-most 1000000) (settings depth .max-depth) p s))
     (λ _. refused-small _ no-responses [] (entry-small (settings depth) 0))

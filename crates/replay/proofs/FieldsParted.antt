@@ -37,16 +37,21 @@ unfolding until-tab indexOf indexAfter if_then_else_
 until-index [] = refl
 until-index (b ∷ bs) = go (eqb b 9) (until-index bs)
   where
-    go : (c : Bool) → indexOf 9 bs ≡ length (until-tab bs) → indexAfter c (indexOf 9 bs) ≡ length (if c then (λ _. []) else λ _. b ∷ until-tab bs)
+    go : (c : Bool) → indexOf 9 bs ≡ length (until-tab bs) → indexAfter c (indexOf 9 bs)
+        ≡ length (if c then (λ _. []) else λ _. b ∷ until-tab bs)
     go true e = refl
     go false e = ap suc e
 
-pub ends-at : (line : List ℕ) (at r : ℕ) → r ≡ at + indexOf 9 (slice at (length line) line) → r ≡ at + length (until-tab (drop at line))
+pub ends-at : (line : List ℕ) (at r : ℕ) → r ≡ at + indexOf 9 (slice at (length line) line) →
+    r ≡ at + length (until-tab (drop at line))
 unfolding slice
-ends-at line at r e = e ∙ ap (λ (bs : List ℕ). at + indexOf 9 (drop at bs)) (take-all (length line) line (omega arith)) ∙ ap (λ (n : ℕ). at + n) (until-index (drop at line))
+ends-at line at r e =
+    e ∙ ap (λ (bs : List ℕ). at + indexOf 9 (drop at bs)) (take-all (length line) line (omega arith))
+    ∙ ap (λ (n : ℕ). at + n) (until-index (drop at line))
 
 -- ---- a field and the rest are parts of the line
-until-step : (c : Bool) (b : ℕ) (bs u : List ℕ) → u ≡ take (length u) bs → (if c then (λ _. []) else λ _. b ∷ u) ≡ take (length (if c then (λ _. []) else λ _. b ∷ u)) (b ∷ bs)
+until-step : (c : Bool) (b : ℕ) (bs u : List ℕ) → u ≡ take (length u) bs →
+    (if c then (λ _. []) else λ _. b ∷ u) ≡ take (length (if c then (λ _. []) else λ _. b ∷ u)) (b ∷ bs)
 unfolding if_then_else_
 until-step true b bs u e = refl
 until-step false b bs u e = ap {B = List ℕ} (λ l. b ∷ l) e
@@ -56,7 +61,8 @@ unfolding until-tab
 until-part [] = refl
 until-part (b ∷ bs) = until-step (eqb b 9) b bs (until-tab bs) (until-part bs)
 
-past-step : (c : Bool) (b : ℕ) (bs u p : List ℕ) → p ≡ drop (suc (length u)) bs → (if c then (λ _. bs) else λ _. p) ≡ drop (length (if c then (λ _. []) else λ _. b ∷ u)) bs
+past-step : (c : Bool) (b : ℕ) (bs u p : List ℕ) → p ≡ drop (suc (length u)) bs →
+    (if c then (λ _. bs) else λ _. p) ≡ drop (length (if c then (λ _. []) else λ _. b ∷ u)) bs
 unfolding if_then_else_
 past-step true b bs u p e = refl
 past-step false b bs u p e = e

@@ -1,5 +1,5 @@
-// What a record expects of a search. The numbers are, from 0 on: ending, count, depth, the score's sign and size, the digest and the number of
-// the response tables and of the table's entries, the line, and eight numbers of each depth (tools/lists.py).
+// What a record expects of a search. The numbers are, from 0 on: ending, count, depth, the score's sign and size, the digest and the number
+// of the response tables and of the table's entries, the line, and eight numbers of each depth (tools/lists.py).
 ghost use Prim.Native.Nat.{_<_, _≤_};
 ghost use Rattle.theory.specs.Limits.{console};
 use crate::digest;

@@ -89,22 +89,28 @@ no-line-mono f g h t = not-T (has-line f) (λ u. T-not (has-line g) t (line-mono
 module _ (w : Player) (own left : ℕ → Bool) where
   -- the three cases of a result
   pub result-cases {κ} : (P : GameState → Type κ) →
-      (T (has-line own) → P (Won w)) → (T (not (has-line own)) → T (any left nine) → P InPlay) → (T (not (has-line own)) → T (not (any left nine)) → P Drawn) →
+      (T (has-line own) → P (Won w)) → (T (not (has-line own)) → T (any left nine) → P InPlay) →
+      (T (not (has-line own)) → T (not (any left nine)) → P Drawn) →
       P (result w own left)
   unfolding result
   result-cases P a b c = if-ind P (has-line own) _ _ a (λ n. if-ind P (any left nine) _ _ (b n) (c n))
 
   -- a line wins
   pub result-line : T (has-line own) → result w own left ≡ Won w
-  result-line t = result-cases (λ g. g ≡ Won w) (λ _. refl) (λ n _. absurd (T-not (has-line own) n t)) (λ n _. absurd (T-not (has-line own) n t))
+  result-line t =
+      result-cases (λ g. g ≡ Won w) (λ _. refl) (λ n _. absurd (T-not (has-line own) n t)) (λ n _. absurd (T-not (has-line own) n t))
 
   -- without a line, and with something left, it is in play
   pub result-left : T (not (has-line own)) → T (any left nine) → result w own left ≡ InPlay
-  result-left n t = result-cases (λ g. g ≡ InPlay) (λ u. absurd (T-not (has-line own) n u)) (λ _ _. refl) (λ _ u. absurd (T-not (any left nine) u t))
+  result-left n t =
+      result-cases (λ g. g ≡ InPlay) (λ u. absurd (T-not (has-line own) n u)) (λ _ _. refl)
+      (λ _ u. absurd (T-not (any left nine) u t))
 
   -- in play there is no line, and something is left
   pub result-open : T (in-play (result w own left)) → T (not (has-line own)) × T (any left nine)
-  result-open = result-cases (λ g. T (in-play g) → T (not (has-line own)) × T (any left nine)) (λ _ t. absurd t) (λ n u _. (n, u)) (λ _ _ t. absurd t)
+  result-open =
+      result-cases (λ g. T (in-play g) → T (not (has-line own)) × T (any left nine)) (λ _ t. absurd t) (λ n u _. (n, u))
+      (λ _ _ t. absurd t)
 
   -- it is never the other side's
   pub result-other : T (not (won-by (other w) (result w own left)))

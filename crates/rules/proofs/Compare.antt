@@ -1,4 +1,5 @@
--- Laws of what is counted of a position and of the Rust's comparison. A move fills an empty cell of an open board and opens none, so the bound falls.
+-- Laws of what is counted of a position and of the Rust's comparison. A move fills an empty cell of an open board and opens none, so the
+-- bound falls.
 use mathlib.Core.Path.{_≡_, refl, sym, ap, subst}
 use mathlib.Core.Bool.{Bool, true, false, cond}
 use mathlib.Core.List.{List, [], _∷_}
@@ -32,7 +33,8 @@ total-le f g [] h = omega arith
 total-le f g (x ∷ xs) h = omega (arith, h x, total-le f g xs h)
 
 -- one place less makes the sum less
-total-lt : (f g : ℕ → ℕ) (b : ℕ) (xs : List ℕ) → In b xs → ((i : ℕ) → f i ≤ g i) → f b < g b → total f xs < total g xs
+total-lt : (f g : ℕ → ℕ) (b : ℕ) (xs : List ℕ) → In b xs → ((i : ℕ) → f i ≤ g i) → f b < g b →
+    total f xs < total g xs
 unfolding total
 total-lt f g b [] k h d = absurd k
 total-lt f g b (x ∷ xs) (inl e) h d = let d' = subst (λ (i : ℕ). f i < g i) e d in omega (arith, d', total-le f g xs h)
@@ -49,10 +51,14 @@ empty-cells g r = cond (in-play g) (count (λ c. blank (r c)) nine) 0
 
 module _ (p : Position) (b c : ℕ) (l : Legal p b c) where
   filled-le : (i : ℕ) → cond (blank (row p b c i)) 1 0 ≤ cond (free-cell p b i) 1 0
-  filled-le i = update-ind (λ (s : CellState). cond (blank s) 1 0 ≤ cond (free-cell p b i) 1 0) (p .cells b) c (Played (p .turn)) i (λ _. omega arith) (omega arith)
+  filled-le i =
+      update-ind (λ (s : CellState). cond (blank s) 1 0 ≤ cond (free-cell p b i) 1 0) (p .cells b) c (Played (p .turn)) i
+      (λ _. omega arith) (omega arith)
 
   filled-lt : cond (blank (row p b c c)) 1 0 < cond (free-cell p b c) 1 0
-  filled-lt = update-at (λ (s : CellState). cond (blank s) 1 0 < cond (free-cell p b c) 1 0) (p .cells b) c (Played (p .turn)) (one (free-cell p b c) (l .empty))
+  filled-lt =
+      update-at (λ (s : CellState). cond (blank s) 1 0 < cond (free-cell p b c) 1 0) (p .cells b) c (Played (p .turn))
+      (one (free-cell p b c) (l .empty))
     where
       one : (t : Bool) → T t → 0 < cond t 1 0
       one true t = omega arith
@@ -78,14 +84,20 @@ module _ (p : Position) (b c : ℕ) (l : Legal p b c) where
   after-lowers-bound : bound-depth (after p b c) < bound-depth p
   unfolding bound-depth after empty-cells
   after-lowers-bound = total-lt _ (λ i. empty-cells (p .states i) (p .cells i)) b nine (in-nine b (l .board))
-      (λ i. update-ind₂ (λ (s : GameState) (r : ℕ → CellState). empty-cells s r ≤ empty-cells (p .states i) (p .cells i)) (p .states) (p .cells) b (made p b c) (row p b c) i
-      (λ e. subst (λ (x : ℕ). empty-cells (made p b c) (row p b c) ≤ empty-cells (p .states x) (p .cells x)) e (omega (arith, board-lt (made p b c)))) (omega arith))
-      (update-at (λ (s : GameState). empty-cells s (update (p .cells) b (row p b c) b) < empty-cells (p .states b) (p .cells b)) (p .states) b (made p b c)
-      (update-at (λ (r : ℕ → CellState). empty-cells (made p b c) r < empty-cells (p .states b) (p .cells b)) (p .cells) b (row p b c) (board-lt (made p b c))))
+      (λ i. update-ind₂ (λ (s : GameState) (r : ℕ → CellState). empty-cells s r ≤ empty-cells (p .states i) (p .cells i))
+      (p .states) (p .cells) b (made p b c) (row p b c) i
+      (λ e. subst (λ (x : ℕ). empty-cells (made p b c) (row p b c) ≤ empty-cells (p .states x) (p .cells x)) e
+      (omega (arith, board-lt (made p b c)))) (omega arith))
+      (update-at (λ (s : GameState). empty-cells s (update (p .cells) b (row p b c) b) < empty-cells (p .states b) (p .cells b))
+      (p .states) b (made p b c)
+      (update-at (λ (r : ℕ → CellState). empty-cells (made p b c) r < empty-cells (p .states b) (p .cells b)) (p .cells) b (row p b c)
+      (board-lt (made p b c))))
 
 -- every accepted move lowers the bound, at every position
 pub play-lowers-bound : (p : Position) (m : ℕ) → T (accepts p m) → bound-depth (tried p m) < bound-depth p
-play-lowers-bound p m t = subst (λ (q : Position). bound-depth q < bound-depth p) (sym (tried-accepted p m t)) (after-lowers-bound p (board-of m) (cell-of m) (accepts→ p m t))
+play-lowers-bound p m t =
+    subst (λ (q : Position). bound-depth q < bound-depth p) (sym (tried-accepted p m t))
+    (after-lowers-bound p (board-of m) (cell-of m) (accepts→ p m t))
 
 pub start-bound-depth : bound-depth start ≡ 81
 unfolding bound-depth total count
@@ -157,15 +169,18 @@ module _ (p q : Position) where
           dues = same-due→eq _ _ (r2 .0);
           game = same-state→eq _ _ (r3 .0);
           open-cells = λ b c h k o. same-cell→eq _ _ (all-each (λ c. same-cell (p .cells b c) (q .cells b c)) c nine
-              (⇒→ (open-board p b) (same-row b) (all-each (λ b. open-board p b ⇒ same-row b) b nine (r4 .1) (in-nine b h)) o) (in-nine c k));
+              (⇒→ (open-board p b) (same-row b) (all-each (λ b. open-board p b ⇒ same-row b) b nine (r4 .1) (in-nine b h)) o)
+              (in-nine c k));
         },
     λ r.
         →and (same (p .turn) (q .turn)) _ (rw (r .turns) (same-self (q .turn)))
         (→and (same-next-board (p .next-board) (q .next-board)) _ (rw (r .dues) (same-due-self (q .next-board)))
         (→and (same-state (p .state) (q .state)) _ (rw (r .game) (same-state-self (q .state)))
-        (→and (all (λ b. same-state (p .states b) (p .states b)) nine) _ (each-all (λ b. same-state (p .states b) (p .states b)) nine (λ b _. same-state-self (p .states b)))
+        (→and (all (λ b. same-state (p .states b) (p .states b)) nine) _
+        (each-all (λ b. same-state (p .states b) (p .states b)) nine (λ b _. same-state-self (p .states b)))
         (each-all (λ b. open-board p b ⇒ same-row b) nine (λ b i. →⇒ (open-board p b) (same-row b) (λ o.
-        each-all (λ c. same-cell (p .cells b c) (q .cells b c)) nine (λ c j. rw (r .open-cells b c (nine-in b i) (nine-in c j) o) (same-cell-self (q .cells b c))))))))),
+        each-all (λ c. same-cell (p .cells b c) (q .cells b c)) nine (λ c j. rw (r .open-cells b c (nine-in b i) (nine-in c j) o)
+        (same-cell-self (q .cells b c))))))))),
   )
 
 -- every position is equivalent to itself

@@ -30,25 +30,33 @@ use Rattle.rules.specs.Position.{Position, unfinished, open-board, won-b
 use Rattle.rules.specs.Play.{board-of, cell-of, may, checks, accepts, after, Tried, played, refused, play}
 use Rattle.rules.specs.Sound.{sound}
 use Rattle.rules.specs.Status.{Status, unproven, for-player, allows, alone, from-byte, merge}
-use Rattle.rules.specs.Endgame.{completes, winning, critical, has-critical, suits, all-suit, lure, attack, prove-attacker, forced, forced-loss, winnable, proven, narrow, combine, merged, no-endgame-stats, endgame-stats, Analysis, or-unproven, analysis, Judged, judge, evaluate-move}
-use Rattle.rules.proofs.Board.{same-self, same→eq, side, in-sides, in-nine, open-not-won, won-by-is, line-mono, no-line-mono, result-line, result-left, result-other, result-won}
+use Rattle.rules.specs.Endgame.{completes, winning, critical, has-critical, suits, all-suit, lure, attack, prove-attacker, forced}
+use Rattle.rules.specs.Endgame.{forced-loss, winnable, proven, narrow, combine, merged, no-endgame-stats, endgame-stats, Analysis}
+use Rattle.rules.specs.Endgame.{or-unproven, analysis, Judged, judge, evaluate-move}
+use Rattle.rules.proofs.Board.{same-self, same→eq, side, in-sides, in-nine, open-not-won, won-by-is, line-mono, no-line-mono}
+use Rattle.rules.proofs.Board.{result-line, result-left, result-other, result-won}
 use Rattle.rules.proofs.Play.{Legal, accepts→, play-accepted, play-refused, refusal-is-first}
 use Rattle.rules.proofs.Sound.{Fair, row, made, states-other}
 
 -- ---- one place more
 pub completes-mono : (f g : ℕ → Bool) (i : ℕ) → ((j : ℕ) → T (f j) → T (g j)) → T (completes f i) → T (completes g i)
 unfolding completes
-completes-mono f g i h = line-mono (update f i true) (update g i true) (λ j. update-ind₂ (λ (x y : Bool). T x → T y) f g i true true j (λ _ t. t) (h j))
+completes-mono f g i h =
+    line-mono (update f i true) (update g i true) (λ j. update-ind₂ (λ (x y : Bool). T x → T y) f g i true true j (λ _ t. t) (h j))
 
 -- a changed at place i has a line only if i completes one, and if it passes the test it has
 module _ {A : Type 0} (test : A → Bool) (f : ℕ → A) (i : ℕ) (a : A) where
   pub line-completes : T (has-line (λ j. test (update f i a j))) → T (completes (λ j. test (f j)) i)
   unfolding completes
-  line-completes = line-mono _ (update (λ j. test (f j)) i true) (λ j. update-ind₂ (λ (x : A) (y : Bool). T (test x) → T y) f (λ j. test (f j)) i a true j (λ _ _. tt) (λ u. u))
+  line-completes =
+      line-mono _ (update (λ j. test (f j)) i true) (λ j. update-ind₂ (λ (x : A) (y : Bool). T (test x) → T y) f (λ j. test (f j)) i
+      a true j (λ _ _. tt) (λ u. u))
 
   pub completes-line : T (test a) → T (completes (λ j. test (f j)) i) → T (has-line (λ j. test (update f i a j)))
   unfolding completes
-  completes-line t = line-mono (update (λ j. test (f j)) i true) _ (λ j. update-ind₂ (λ (y : Bool) (x : A). T y → T (test x)) (λ j. test (f j)) f i true a j (λ _ _. t) (λ u. u))
+  completes-line t =
+      line-mono (update (λ j. test (f j)) i true) _ (λ j. update-ind₂ (λ (y : Bool) (x : A). T y → T (test x)) (λ j. test (f j)) f i
+      true a j (λ _ _. t) (λ u. u))
 
 -- ---- the tests, taken apart
 pub record Crit (p : Position) (w : Player) (b : ℕ) : Type 0 where
@@ -58,7 +66,9 @@ pub record Crit (p : Position) (w : Player) (b : ℕ) : Type 0 where
 
 pub crit→ : (p : Position) (w : Player) (b : ℕ) → T (critical p w b) → Crit p w b
 unfolding critical
-crit→ p w b t = let a = and→ (open-board p b) _ t in let c = and→ (completes (won-boards p w) b) _ (a .1) in record { opened = a .0; boards = c .0; cell = c .1 }
+crit→ p w b t =
+    let a = and→ (open-board p b) _ t in let c = and→ (completes (won-boards p w) b) _ (a .1) in
+    record { opened = a .0; boards = c .0; cell = c .1 }
 
 pub →crit : (p : Position) (w : Player) (b : ℕ) → Crit p w b → T (critical p w b)
 unfolding critical
@@ -69,9 +79,12 @@ pub crit-apart : (p : Position) (w : Player) (k b : ℕ) → T (critical p w k) 
 crit-apart p w k b t u e = T-not (critical p w b) u (subst (λ (x : ℕ). T (critical p w x)) (sym e) t)
 
 -- what `all-suit` says of an empty cell that names an open board
-pub suits-at : (p : Position) (w : Player) (b c : ℕ) → T (all-suit p w b) → c < 9 → T (free-cell p b c) → T (open-board p c) → T (critical p w c)
+pub suits-at : (p : Position) (w : Player) (b c : ℕ) → T (all-suit p w b) → c < 9 → T (free-cell p b c) → T (open-board p c) →
+    T (critical p w c)
 unfolding all-suit suits
-suits-at p w b c t h f o = ⇒→ (open-board p c) (critical p w c) (⇒→ (free-cell p b c) _ (all-each (λ c. free-cell p b c ⇒ (open-board p c ⇒ critical p w c)) c nine t (in-nine c h)) f) o
+suits-at p w b c t h f o =
+    ⇒→ (open-board p c) (critical p w c)
+    (⇒→ (free-cell p b c) _ (all-each (λ c. free-cell p b c ⇒ (open-board p c ⇒ critical p w c)) c nine t (in-nine c h)) f) o
 
 pub record Lure (p : Position) (w : Player) (b i : ℕ) : Type 0 where
   pub empty : T (free-cell p b i)
@@ -89,7 +102,14 @@ lure→ p w b i t =
     let r3 = and→ (not (critical p w i)) _ (r2 .1) in
     let r4 = and→ (not (critical p (other w) i)) _ (r3 .1) in
     let r5 = and→ (not (eqb i b)) _ (r4 .1) in
-    record { empty = r1 .0; opened = r2 .0; not-own = r3 .0; not-others = r4 .0; away = λ e. T-not (eqb i b) (r5 .0) (subst (λ (x : ℕ). T (eqb i x)) (sym e) (eqb-refl i)); all-suited = r5 .1 }
+    record {
+      empty = r1 .0;
+      opened = r2 .0;
+      not-own = r3 .0;
+      not-others = r4 .0;
+      away = λ e. T-not (eqb i b) (r5 .0) (subst (λ (x : ℕ). T (eqb i x)) (sym e) (eqb-refl i));
+      all-suited = r5 .1;
+    }
 
 pub attack→ : (p : Position) (w : Player) (b : ℕ) → T (attack p w (Only b)) → T (critical p w b) ⊎ T (any (lure p w b) nine)
 unfolding attack
@@ -117,7 +137,8 @@ module _ (p : Position) (b c : ℕ) (l : Legal p b c) where
   -- a closed board stays closed
   pub open-before : (i : ℕ) → T (open-board (after p b c) i) → T (open-board p i)
   unfolding after
-  open-before i = update-ind (λ (s : GameState). T (in-play s) → T (open-board p i)) (p .states) b (made p b c) i (λ e _. opened-at i e) (λ t. t)
+  open-before i =
+      update-ind (λ (s : GameState). T (in-play s) → T (open-board p i)) (p .states) b (made p b c) i (λ e _. opened-at i e) (λ t. t)
 
   -- an open board stays open, unless it is played in
   pub open-still : (i : ℕ) → (b ≡ i → ⊥) → T (open-board p i) → T (open-board (after p b c) i)
@@ -131,7 +152,8 @@ module _ (p : Position) (b c : ℕ) (l : Legal p b c) where
       (λ e. absurd (T-not (won-boards p w i) (open-not-won w (p .states i) (opened-at i e)) t)) t
 
   -- the cells of the other boards stay
-  pub cells-still {κ} : (P : (ℕ → CellState) → Type κ) (i : ℕ) → (b ≡ i → ⊥) → P (p .cells i) → P (after p b c .cells i)
+  pub cells-still {κ} : (P : (ℕ → CellState) → Type κ) (i : ℕ) → (b ≡ i → ⊥) → P (p .cells i) →
+      P (after p b c .cells i)
   unfolding after
   cells-still P i n = update-off P (p .cells) b (row p b c) i n
 
@@ -147,7 +169,8 @@ module _ (p : Position) (b c : ℕ) (l : Legal p b c) where
   })
 
   -- the mover makes no other board critical for the other side
-  pub crit-before : (k : ℕ) → (b ≡ k → ⊥) → T (critical (after p b c) (other (p .turn)) k) → T (critical p (other (p .turn)) k)
+  pub crit-before : (k : ℕ) → (b ≡ k → ⊥) → T (critical (after p b c) (other (p .turn)) k) →
+      T (critical p (other (p .turn)) k)
   crit-before k n t = let w = other (p .turn) in let r = crit→ (after p b c) w k t in →crit p w k (record {
     opened = open-before k (r .opened);
     boards = completes-mono (won-boards (after p b c) w) (won-boards p w) k (unfold after in (states-other p b c l)) (r .boards);
@@ -167,28 +190,39 @@ module _ (p : Position) (b c : ℕ) (l : Legal p b c) where
         opened = l .opened;
         boards = line-completes (won-by (p .turn)) (p .states) b (made p b c) t;
         cell = some-any (winning (p .turn) (p .cells b)) c nine (in-nine c (l .cell))
-            (unfold winning in (→and (free-cell p b c) _ (l .empty) (line-completes (mine (p .turn)) (p .cells b) c (Played (p .turn)) (result-won (p .turn) _ _ u))));
+            (unfold winning in (→and (free-cell p b c) _ (l .empty) (line-completes (mine (p .turn)) (p .cells b) c (Played (p .turn))
+            (result-won (p .turn) _ _ u))));
       })
 
-      old : T (not (won-by (p .turn) (made p b c))) → (i : ℕ) → T (won-by (p .turn) (update (p .states) b (made p b c) i)) → T (won-boards p (p .turn) i)
-      old u i = update-ind (λ (s : GameState). T (won-by (p .turn) s) → T (won-boards p (p .turn) i)) (p .states) b (made p b c) i (λ _ v. absurd (T-not (won-by (p .turn) (made p b c)) u v)) (λ v. v)
+      old : T (not (won-by (p .turn) (made p b c))) → (i : ℕ) → T (won-by (p .turn) (update (p .states) b (made p b c) i)) →
+          T (won-boards p (p .turn) i)
+      old u i =
+          update-ind (λ (s : GameState). T (won-by (p .turn) s) → T (won-boards p (p .turn) i)) (p .states) b (made p b c) i
+          (λ _ v. absurd (T-not (won-by (p .turn) (made p b c)) u v)) (λ v. v)
 
   -- a winning cell of a critical board wins the game
   pub critical-wins : T (critical p (p .turn) b) → T (winning (p .turn) (p .cells b) c) → after p b c .state ≡ Won (p .turn)
   unfolding after winning
-  critical-wins t u = result-line (p .turn) _ _ (completes-line (won-by (p .turn)) (p .states) b (made p b c) board (crit→ p (p .turn) b t .boards))
+  critical-wins t u =
+      result-line (p .turn) _ _ (completes-line (won-by (p .turn)) (p .states) b (made p b c) board (crit→ p (p .turn) b t .boards))
     where
       board : T (won-by (p .turn) (made p b c))
-      board = won-by-is (p .turn) (made p b c) (result-line (p .turn) _ _ (completes-line (mine (p .turn)) (p .cells b) c (Played (p .turn)) (same-self (p .turn)) (and→ (free-cell p b c) _ u .1)))
+      board =
+          won-by-is (p .turn) (made p b c)
+          (result-line (p .turn) _ _ (completes-line (mine (p .turn)) (p .cells b) c (Played (p .turn)) (same-self (p .turn))
+          (and→ (free-cell p b c) _ u .1)))
 
   -- with a board left, and no line, the game goes on
-  pub goes-on : (k : ℕ) → k < 9 → T (open-board (after p b c) k) → T (not (has-line (won-boards (after p b c) (p .turn)))) → T (unfinished (after p b c))
+  pub goes-on : (k : ℕ) → k < 9 → T (open-board (after p b c) k) → T (not (has-line (won-boards (after p b c) (p .turn)))) →
+      T (unfinished (after p b c))
   unfolding after
   goes-on k h o n = subst (λ (g : GameState). T (in-play g))
-      (sym (result-left (p .turn) (won-boards (after p b c) (p .turn)) (open-board (after p b c)) n (some-any (open-board (after p b c)) k nine (in-nine k h) o))) tt
+      (sym (result-left (p .turn) (won-boards (after p b c) (p .turn)) (open-board (after p b c)) n
+      (some-any (open-board (after p b c)) k nine (in-nine k h) o))) tt
 
   -- w, who has a critical board elsewhere, is sent to one
-  pub lands : (w : Player) (k : ℕ) → k < 9 → T (critical p w k) → (b ≡ k → ⊥) → (T (open-board p c) → T (critical p w c) × (b ≡ c → ⊥)) →
+  pub lands : (w : Player) (k : ℕ) → k < 9 → T (critical p w k) → (b ≡ k → ⊥) →
+      (T (open-board p c) → T (critical p w c) × (b ≡ c → ⊥)) →
       (j : ℕ) × (j < 9) × T (critical (after p b c) w j) × T (may (after p b c .next-board) j)
   unfolding after
   lands w k h t n s = if-ind (λ (d : NextBoard). (j : ℕ) × (j < 9) × T (critical (after p b c) w j) × T (may d j))
@@ -199,15 +233,18 @@ module _ (p : Position) (b c : ℕ) (l : Legal p b c) where
   -- a side that can no longer win never can again
   pub unwinnable-still : (w : Player) → T (not (winnable p w)) → T (not (winnable (after p b c) w))
   unfolding winnable after
-  unwinnable-still w = no-line-mono (λ i. won-boards (after p b c) w i || open-board (after p b c) i) (λ i. won-boards p w i || open-board p i) (λ i.
-      update-ind (λ (s : GameState). T (won-by w s || in-play s) → T (won-boards p w i || open-board p i)) (p .states) b (made p b c) i (λ e _. →or-r (won-boards p w i) _ (opened-at i e)) (λ t. t))
+  unwinnable-still w =
+      no-line-mono (λ i. won-boards (after p b c) w i || open-board (after p b c) i) (λ i. won-boards p w i || open-board p i) (λ i.
+      update-ind (λ (s : GameState). T (won-by w s || in-play s) → T (won-boards p w i || open-board p i)) (p .states) b (made p b c) i
+      (λ e _. →or-r (won-boards p w i) _ (opened-at i e)) (λ t. t))
 
   -- and has not won the game by this move
   pub unwinnable-not-won : (w : Player) → T (not (winnable (after p b c) w)) → T (not (won-by w (after p b c .state)))
   unfolding winnable after
   unwinnable-not-won = side (λ v. T (not (winnable (after p b c) v)) → T (not (won-by v (after p b c .state)))) (p .turn)
       (λ n. not-T (won-by (p .turn) (after p b c .state)) (λ t. T-not (winnable (after p b c) (p .turn)) n
-      (line-mono (won-boards (after p b c) (p .turn)) _ (λ i u. →or-l (won-boards (after p b c) (p .turn) i) _ u) (result-won (p .turn) _ _ t))))
+      (line-mono (won-boards (after p b c) (p .turn)) _ (λ i u. →or-l (won-boards (after p b c) (p .turn) i) _ u)
+      (result-won (p .turn) _ _ t))))
       (λ _. result-other (p .turn) _ _)
 
 -- ---- a side with a critical board can still win
@@ -215,8 +252,10 @@ pub critical-is-winnable : (p : Position) (w : Player) → T (has-critical p w) 
 unfolding has-critical winnable completes
 critical-is-winnable p w t =
     let k = any-some (critical p w) nine t in let r = crit→ p w (k .0) (k .2) in
-    line-mono (update (won-boards p w) (k .0) true) _ (λ i. update-ind (λ (x : Bool). T x → T (won-boards p w i || open-board p i)) (won-boards p w) (k .0) true i
-    (λ e _. →or-r (won-boards p w i) _ (subst (λ (x : ℕ). T (open-board p x)) e (r .opened))) (λ u. →or-l (won-boards p w i) _ u)) (r .boards)
+    line-mono (update (won-boards p w) (k .0) true) _ (λ i. update-ind (λ (x : Bool). T x → T (won-boards p w i || open-board p i))
+    (won-boards p w) (k .0) true i
+    (λ e _. →or-r (won-boards p w i) _ (subst (λ (x : ℕ). T (open-board p x)) e (r .opened))) (λ u. →or-l (won-boards p w i) _ u))
+    (r .boards)
 
 -- ---- the status
 -- w is proved to win: w is to move and attacks, or the other side is to move, does not attack and is forced to lose
@@ -234,7 +273,8 @@ pub record StatusSays (p : Position) (s : Status) : Type 0 where
   pub unwinnable-is-out : (w : Player) → T (not (winnable p w)) → T (not (allows s w))
   -- which set it is, where a side is proved to win and where none is
   pub decided-set : (w : Player) → Decided p w → s ≡ for-player w
-  pub undecided-set : T (not (prove-attacker p)) → T (not (forced-loss p)) → s ≡ record { x = winnable p X; o = winnable p O; draw = true }
+  pub undecided-set : T (not (prove-attacker p)) → T (not (forced-loss p)) →
+      s ≡ record { x = winnable p X; o = winnable p O; draw = true }
 
 -- the same as tests, of t to move, of the two proofs, and of what X and O can win
 decides : Player → Bool → Bool → Player → Bool
@@ -245,7 +285,9 @@ of-side x o X = x
 of-side x o O = o
 
 says : Player → Bool → Bool → Bool → Bool → Status → Player → Bool
-says t wins loses x o s w = (alone s w ⇒ decides t wins loses w) && ((decides t wins loses w ⇒ alone s w) && ((not (allows s w) ⇒ (not (of-side x o w) || decides t wins loses (other w))) && (not (of-side x o w) ⇒ not (allows s w))))
+says t wins loses x o s w =
+    (alone s w ⇒ decides t wins loses w) && ((decides t wins loses w ⇒ alone s w) &&
+    ((not (allows s w) ⇒ (not (of-side x o w) || decides t wins loses (other w))) && (not (of-side x o w) ⇒ not (allows s w))))
 
 holds : (Status → Bool) → Option Status → Bool
 holds f none = false
@@ -253,7 +295,9 @@ holds f (some s) = f s
 
 -- if no side is proved to win that cannot, the merges give a set, and it says so
 merges-right : Player → Bool → Bool → Bool → Bool → Bool
-merges-right t wins loses x o = all (λ w. decides t wins loses w ⇒ of-side x o w) sides ⇒ holds (λ s. all (says t wins loses x o s) sides) (combine t wins loses x o)
+merges-right t wins loses x o =
+    all (λ w. decides t wins loses w ⇒ of-side x o w) sides ⇒ holds (λ s. all (says t wins loses x o s) sides)
+    (combine t wins loses x o)
 
 -- all 32 cases, computed
 always-merges-right : (t : Player) (wins loses x o : Bool) → T (merges-right t wins loses x o)
@@ -262,7 +306,8 @@ always-merges-right X = always 4 (merges-right X) tt
 always-merges-right O = always 4 (merges-right O) tt
 
 -- where neither side is proved to win
-undecided : (t : Player) (wins loses x o : Bool) → T (not wins) → T (not loses) → combine t wins loses x o ≡ some (record { x = x; o = o; draw = true })
+undecided : (t : Player) (wins loses x o : Bool) → T (not wins) → T (not loses) →
+    combine t wins loses x o ≡ some (record { x = x; o = o; draw = true })
 unfolding combine narrow proven merge from-byte if_then_else_
 undecided t false false true true n m = refl
 undecided t false false true false n m = refl
@@ -286,19 +331,27 @@ module _ (p : Position) where
   unfolding proved decides
   proved→ w u = elim (or→ (prove-attacker p && same w (p .turn)) _ u) [
     | inl v ↦ inl (let r = and→ (prove-attacker p) _ v in (r .0, same→eq w (p .turn) (r .1)))
-    | inr v ↦ inr (let r = and→ (not (prove-attacker p) && forced-loss p) _ v in let q = and→ (not (prove-attacker p)) _ (r .0) in (q .0, q .1, same→eq w (other (p .turn)) (r .1)))
+    | inr v ↦ inr (let r = and→ (not (prove-attacker p) && forced-loss p) _ v in let q = and→ (not (prove-attacker p)) _ (r .0) in
+        (q .0, q .1, same→eq w (other (p .turn)) (r .1)))
   ]
 
   →proved : (w : Player) → Decided p w → T (proved w)
   unfolding proved decides
-  →proved w (inl r) = →or-l (prove-attacker p && same w (p .turn)) _ (→and (prove-attacker p) _ (r .0) (subst (λ (v : Player). T (same w v)) (r .1) (same-self w)))
+  →proved w (inl r) =
+      →or-l (prove-attacker p && same w (p .turn)) _ (→and (prove-attacker p) _ (r .0)
+      (subst (λ (v : Player). T (same w v)) (r .1) (same-self w)))
   →proved w (inr r) = →or-r (prove-attacker p && same w (p .turn)) _
-      (→and (not (prove-attacker p) && forced-loss p) _ (→and (not (prove-attacker p)) _ (r .0) (r .1)) (subst (λ (v : Player). T (same w v)) (r .2) (same-self w)))
+      (→and (not (prove-attacker p) && forced-loss p) _ (→and (not (prove-attacker p)) _ (r .0) (r .1))
+      (subst (λ (v : Player). T (same w v)) (r .2) (same-self w)))
 
   pub decided-is-winnable : (w : Player) → Decided p w → T (winnable p w)
   unfolding prove-attacker forced-loss
-  decided-is-winnable w (inl r) = subst (λ (v : Player). T (winnable p v)) (sym (r .1)) (critical-is-winnable p (p .turn) (and→ (has-critical p (p .turn)) _ (r .0) .0))
-  decided-is-winnable w (inr r) = subst (λ (v : Player). T (winnable p v)) (sym (r .2)) (critical-is-winnable p (other (p .turn)) (and→ (has-critical p (other (p .turn))) _ (r .1) .0))
+  decided-is-winnable w (inl r) =
+      subst (λ (v : Player). T (winnable p v)) (sym (r .1)) (critical-is-winnable p (p .turn)
+      (and→ (has-critical p (p .turn)) _ (r .0) .0))
+  decided-is-winnable w (inr r) =
+      subst (λ (v : Player). T (winnable p v)) (sym (r .2)) (critical-is-winnable p (other (p .turn))
+      (and→ (has-critical p (other (p .turn))) _ (r .1) .0))
 
   winnable-of : (w : Player) → of-side (winnable p X) (winnable p O) w ≡ winnable p w
   unfolding of-side
@@ -308,8 +361,11 @@ module _ (p : Position) where
   -- the merges give a set at every position, so the Rust's two panics cannot occur, and the set says what was proved
   pub status-says : (s : Status) × StatusSays p s
   unfolding merges-right merged says proved
-  status-says = go (merged p) refl (⇒→ (all (λ w. proved w ⇒ can w) sides) _ (always-merges-right (p .turn) (prove-attacker p) (forced-loss p) (winnable p X) (winnable p O))
-      (each-all (λ w. proved w ⇒ can w) sides (λ w _. →⇒ (proved w) (can w) (λ u. subst (λ (x : Bool). T x) (sym (winnable-of w)) (decided-is-winnable w (proved→ w u))))))
+  status-says =
+      go (merged p) refl (⇒→ (all (λ w. proved w ⇒ can w) sides) _ (always-merges-right (p .turn) (prove-attacker p) (forced-loss p)
+      (winnable p X) (winnable p O))
+      (each-all (λ w. proved w ⇒ can w) sides (λ w _. →⇒ (proved w) (can w)
+      (λ u. subst (λ (x : Bool). T x) (sym (winnable-of w)) (decided-is-winnable w (proved→ w u))))))
     where
       can : Player → Bool
       can w = of-side (winnable p X) (winnable p O) w
@@ -335,7 +391,8 @@ module _ (p : Position) where
         },
       )
         where
-          each : (w : Player) → T (alone s w ⇒ proved w) × T ((proved w ⇒ alone s w) && ((not (allows s w) ⇒ (not (can w) || proved (other w))) && (not (can w) ⇒ not (allows s w))))
+          each : (w : Player) → T (alone s w ⇒ proved w) × T ((proved w ⇒ alone s w) &&
+              ((not (allows s w) ⇒ (not (can w) || proved (other w))) && (not (can w) ⇒ not (allows s w))))
           each w = and→ (alone s w ⇒ proved w) _ (all-each (test s) w sides (unfold holds in u) (in-sides w))
 
           lone : (w : Player) → Decided p w → T (alone s w)
@@ -361,7 +418,8 @@ unfolding analysis first-failed if_then_else_
 analysis-cases p P a b c = by (unfinished p) (sound p) a b c
   where
     by : (g s : Bool) → (T (not g) → P (nothing-said 0)) →
-        (T g → T s → P (record { refusal = 0; status = or-unproven (merged p); stats = endgame-stats p })) → (T g → T (not s) → P (nothing-said 14)) →
+        (T g → T s → P (record { refusal = 0; status = or-unproven (merged p); stats = endgame-stats p })) →
+        (T g → T (not s) → P (nothing-said 14)) →
         P (if g && s then (λ _. record { refusal = 0; status = or-unproven (merged p); stats = endgame-stats p }) else
         λ _. nothing-said (first-failed ((not (g && not s), 14) ∷ [])))
     by false s a b c = a tt
@@ -370,26 +428,33 @@ analysis-cases p P a b c = by (unfinished p) (sound p) a b c
 
 -- a finished game gives the full set and no counts
 pub analysis-finished : (p : Position) → T (not (unfinished p)) → analysis p ≡ nothing-said 0
-analysis-finished p t = analysis-cases p (λ a. a ≡ nothing-said 0) (λ _. refl) (λ u _. absurd (T-not (unfinished p) t u)) (λ u _. absurd (T-not (unfinished p) t u))
+analysis-finished p t =
+    analysis-cases p (λ a. a ≡ nothing-said 0) (λ _. refl) (λ u _. absurd (T-not (unfinished p) t u))
+    (λ u _. absurd (T-not (unfinished p) t u))
 
 -- an unfinished sound position is not refused, and its status says what was proved
-pub analysis-sound : (p : Position) → T (unfinished p) → T (sound p) → (s : Status) × StatusSays p s × (analysis p ≡ record { refusal = 0; status = s; stats = endgame-stats p })
+pub analysis-sound : (p : Position) → T (unfinished p) → T (sound p) → (s : Status) × StatusSays p s ×
+    (analysis p ≡ record { refusal = 0; status = s; stats = endgame-stats p })
 unfolding or-unproven
 analysis-sound p t u = let r = status-says p in (
   r .0,
   r .1,
   analysis-cases p (λ a. a ≡ record { refusal = 0; status = r .0; stats = endgame-stats p }) (λ v. absurd (T-not (unfinished p) v t))
-      (λ _ _. ap (λ (o : Option Status). record { refusal = 0; status = or-unproven o; stats = endgame-stats p }) (r .1 .is-merged)) (λ _ v. absurd (T-not (sound p) v u)),
+      (λ _ _. ap (λ (o : Option Status). record { refusal = 0; status = or-unproven o; stats = endgame-stats p }) (r .1 .is-merged))
+      (λ _ v. absurd (T-not (sound p) v u)),
 )
 
 -- an unfinished unsound position is refused with 14
 pub analysis-unsound : (p : Position) → T (unfinished p) → T (not (sound p)) → analysis p ≡ nothing-said 14
-analysis-unsound p t u = analysis-cases p (λ a. a ≡ nothing-said 14) (λ v. absurd (T-not (unfinished p) v t)) (λ _ v. absurd (T-not (sound p) u v)) (λ _ _. refl)
+analysis-unsound p t u =
+    analysis-cases p (λ a. a ≡ nothing-said 14) (λ v. absurd (T-not (unfinished p) v t)) (λ _ v. absurd (T-not (sound p) u v))
+    (λ _ _. refl)
 
 -- and no other is
 pub analysis-refuses : (p : Position) → (analysis p .refusal ≡ 14) ↔ (T (unfinished p) × T (not (sound p)))
 analysis-refuses p = (
-  analysis-cases p (λ a. a .refusal ≡ 14 → T (unfinished p) × T (not (sound p))) (λ _ e. absurd (omega arith)) (λ _ _ e. absurd (omega arith)) (λ t u _. (t, u)),
+  analysis-cases p (λ a. a .refusal ≡ 14 → T (unfinished p) × T (not (sound p))) (λ _ e. absurd (omega arith))
+      (λ _ _ e. absurd (omega arith)) (λ t u _. (t, u)),
   λ h. ap (λ (a : Analysis). a .refusal) (analysis-unsound p (h .0) (h .1)),
 )
 
@@ -399,7 +464,8 @@ abbrev pub number-of : Tried → ℕ
 number-of (played q) = 0
 number-of (refused n) = n
 
--- what a move takes to be called lost: v, the other side, has a critical board, the move is not in one, and sends v to one or to a closed board
+-- what a move takes to be called lost: v, the other side, has a critical board, the move is not in one, and sends v to one or to a closed
+-- board
 pub record CalledLost (p : Position) (m : ℕ) (v : Player) : Type 0 where
   pub accepted : T (accepts p m)
   pub sound-before : T (sound p)
@@ -430,13 +496,15 @@ module _ (p : Position) (m : ℕ) where
     pub evaluate-refused : T (not (accepts p m)) → evaluate-move p m ≡ record { refusal = first-failed cs; status = unproven }
     unfolding accepts
     evaluate-refused t = by-play ∙ if-ind
-        (λ (s : Status). _≡_ {A = Judged} (record { refusal = first-failed cs; status = s }) (record { refusal = first-failed cs; status = unproven }))
+        (λ (s : Status). _≡_ {A = Judged} (record { refusal = first-failed cs; status = s })
+        (record { refusal = first-failed cs; status = unproven }))
         (all-pass cs) _ _ (λ u. absurd (T-not (all-pass cs) t u)) (λ _. refl)
 
     pub evaluate-judged : T (accepts p m) → evaluate-move p m ≡ record { refusal = 0; status = judge p m }
     unfolding accepts
     evaluate-judged t = by-play ∙ if-ind
-        (λ (s : Status). _≡_ {A = Judged} (record { refusal = first-failed cs; status = s }) (record { refusal = 0; status = judge p m }))
+        (λ (s : Status). _≡_ {A = Judged} (record { refusal = first-failed cs; status = s })
+        (record { refusal = 0; status = judge p m }))
         (all-pass cs) _ _ (λ _ i. record { refusal = all-pass-0 cs t i; status = judge p m }) (λ u. absurd (T-not (all-pass cs) u t))
 
   -- the four cases
@@ -444,7 +512,8 @@ module _ (p : Position) (m : ℕ) where
       (T (unfinished p) → T (not (sound p)) → P (record { refusal = 14; status = unproven })) →
       ((n : ℕ) → play p m ≡ refused n → (T (unfinished p) → T (sound p)) → P (record { refusal = n; status = unproven })) →
       (CalledLost p m v → P (record { refusal = 0; status = for-player v })) →
-      (T (accepts p m) → T (sound p) → (CalledLost p m v → ⊥) → P (record { refusal = 0; status = unproven })) → P (evaluate-move p m)
+      (T (accepts p m) → T (sound p) → (CalledLost p m v → ⊥) → P (record { refusal = 0; status = unproven })) →
+      P (evaluate-move p m)
   unfolding judge suits lost-test
   evaluate-cases P a b c d = elim (is (unfinished p && not (sound p))) [
     | inl t ↦ (let r = and→ (unfinished p) _ t in subst P (sym (evaluate-unsound t)) (a (r .0) (r .1)))
@@ -464,12 +533,14 @@ module _ (p : Position) (m : ℕ) where
   ]
     where
       fine : T (not (unfinished p && not (sound p))) → T (unfinished p) → T (sound p)
-      fine t g = elim (is (sound p)) [ inl s ↦ s | inr n ↦ absurd (T-not (unfinished p && not (sound p)) t (→and (unfinished p) _ g n)) ]
+      fine t g =
+          elim (is (sound p)) [ inl s ↦ s | inr n ↦ absurd (T-not (unfinished p && not (sound p)) t (→and (unfinished p) _ g n)) ]
 
   -- its number is 14 exactly for an unfinished unsound position
   pub evaluate-move-14 : (evaluate-move p m .refusal ≡ 14) ↔ (T (unfinished p) × T (not (sound p)))
   evaluate-move-14 = (
-    evaluate-cases (λ j. j .refusal ≡ 14 → T (unfinished p) × T (not (sound p))) (λ t u _. (t, u)) (λ n e _ h. absurd (omega (arith, refusal-is-first p m n e .highest)))
+    evaluate-cases (λ j. j .refusal ≡ 14 → T (unfinished p) × T (not (sound p))) (λ t u _. (t, u))
+        (λ n e _ h. absurd (omega (arith, refusal-is-first p m n e .highest)))
         (λ _ h. absurd (omega arith)) (λ _ _ _ h. absurd (omega arith)),
     λ h. evaluate-cases (λ j. j .refusal ≡ 14) (λ _ _. refl) (λ _ _ f. absurd (T-not (sound p) (h .1) (f (h .0))))
         (λ l. absurd (T-not (sound p) (h .1) (l .sound-before))) (λ _ s _. absurd (T-not (sound p) (h .1) s)),
@@ -477,15 +548,18 @@ module _ (p : Position) (m : ℕ) where
 
   -- else it is play's
   pub evaluate-move-number : (T (unfinished p) → T (sound p)) → evaluate-move p m .refusal ≡ number-of (play p m)
-  evaluate-move-number f = evaluate-cases (λ j. j .refusal ≡ number-of (play p m)) (λ t u. absurd (T-not (sound p) u (f t))) (λ n e _. sym (ap number-of e))
+  evaluate-move-number f =
+      evaluate-cases (λ j. j .refusal ≡ number-of (play p m)) (λ t u. absurd (T-not (sound p) u (f t))) (λ n e _. sym (ap number-of e))
       (λ l. sym (ap number-of (play-accepted p m (l .accepted)))) (λ t _ _. sym (ap number-of (play-accepted p m t)))
 
   -- its status is the other side's win exactly for a move that is called lost
   pub evaluate-move-lost : (evaluate-move p m .status ≡ for-player v) ↔ CalledLost p m v
   evaluate-move-lost = (
-    evaluate-cases (λ j. j .status ≡ for-player v → CalledLost p m v) (λ _ _ e. absurd (full e)) (λ _ _ _ e. absurd (full e)) (λ l _. l) (λ _ _ _ e. absurd (full e)),
+    evaluate-cases (λ j. j .status ≡ for-player v → CalledLost p m v) (λ _ _ e. absurd (full e)) (λ _ _ _ e. absurd (full e))
+        (λ l _. l) (λ _ _ _ e. absurd (full e)),
     λ l. evaluate-cases (λ j. j .status ≡ for-player v) (λ _ n. absurd (T-not (sound p) n (l .sound-before)))
-        (λ n e _. let x = play-accepted p m (l .accepted) in let z : _≡_ {A = ℕ} 0 1 = cc in absurd (omega arith)) (λ _. refl) (λ _ _ n. absurd (n l)),
+        (λ n e _. let x = play-accepted p m (l .accepted) in let z : _≡_ {A = ℕ} 0 1 = cc in absurd (omega arith)) (λ _. refl)
+        (λ _ _ n. absurd (n l)),
   )
     where
       full : unproven ≡ for-player v → ⊥

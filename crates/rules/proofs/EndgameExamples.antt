@@ -59,7 +59,8 @@ shown s =
 -- the byte of the status, and the six counts
 abbrev pub told : Analysis → List ℕ
 told a = let s = a .stats in
-    as-byte (a .status) ∷ s .attacker-critical ∷ s .defender-critical ∷ s .both-critical ∷ s .unwinnable ∷ s .prove-attacker ∷ s .prove-defender ∷ []
+    as-byte (a .status) ∷ s .attacker-critical ∷ s .defender-critical ∷ s .both-critical ∷ s .unwinnable ∷ s .prove-attacker ∷
+    s .prove-defender ∷ []
 
 -- each move, and the byte of what is said of it as a last digit
 abbrev pub judged : Position → List ℕ
@@ -83,7 +84,8 @@ unfoldable pub both-proofs : Position
 both-proofs = shown "O;XO..@.XO.;X.X.X.XX./.XOO..XO./OOX.OOO.X/OX.OXXX../OXXOXX.OO/.....O.../.XXO...O./OO.XOXOX./XOX....X."
 
 pub both-proofs-told : let p = both-proofs in
-    (prove-attacker p ≡ true) × (forced-loss p ≡ true) × (told (analysis p) ≡ 2 ∷ 1 ∷ 1 ∷ 1 ∷ 0 ∷ 1 ∷ 0 ∷ []) × (judged p ≡ 0x461 ∷ [])
+    (prove-attacker p ≡ true) × (forced-loss p ≡ true) × (told (analysis p) ≡ 2 ∷ 1 ∷ 1 ∷ 1 ∷ 0 ∷ 1 ∷ 0 ∷ []) ×
+    (judged p ≡ 0x461 ∷ [])
 unfolding both-proofs judging
 both-proofs-told = (refl, refl, refl, refl)
 
@@ -91,7 +93,8 @@ both-proofs-told = (refl, refl, refl, refl)
 unfoldable pub lost-endgame : Position
 lost-endgame = shown "O;OO..X@XX#;X.XXO.OO./.OXXXXX.X/XXOX..OX./.O.OXOOOX/.X..OXXX./OOXOXX.XO/OOO.O.OX./.X.OX..../..O...O.."
 
-pub lost-endgame-told : (told (analysis lost-endgame) ≡ 1 ∷ 1 ∷ 1 ∷ 1 ∷ 0 ∷ 0 ∷ 1 ∷ []) × (judged lost-endgame ≡ 0x561 ∷ [])
+pub lost-endgame-told : (told (analysis lost-endgame) ≡ 1 ∷ 1 ∷ 1 ∷ 1 ∷ 0 ∷ 0 ∷ 1 ∷ []) ×
+    (judged lost-endgame ≡ 0x561 ∷ [])
 unfolding lost-endgame judging
 lost-endgame-told = (refl, refl)
 
@@ -106,7 +109,8 @@ x-or-draw = shown "O;XX..#.OO#;X.X...X../.X.OX.OOX/O.XXX.OOX/XX.X...../.........
 
 pub x-or-draw-told :
     (told (analysis x-or-draw) ≡ 5 ∷ 0 ∷ 1 ∷ 0 ∷ 1 ∷ 0 ∷ 0 ∷ [])
-    × (judged x-or-draw ≡ 0x217 ∷ 0x257 ∷ 0x321 ∷ 0x341 ∷ 0x357 ∷ 0x361 ∷ 0x371 ∷ 0x381 ∷ 0x537 ∷ 0x541 ∷ 0x557 ∷ [])
+    × (judged x-or-draw ≡ 0x217 ∷ 0x257 ∷ 0x321 ∷ 0x341 ∷ 0x357 ∷ 0x361 ∷ 0x371 ∷ 0x381 ∷ 0x537 ∷ 0x541 ∷ 0x557 ∷
+    [])
 unfolding x-or-draw judging
 x-or-draw-told = (refl, refl)
 
@@ -114,7 +118,8 @@ x-or-draw-told = (refl, refl)
 unfoldable pub o-or-draw : Position
 o-or-draw = shown "X;X##OO.#O.;........./.....XO.X/XXOXXXOXO/O..OO..../........./.OO.OX.X./X.OO.XOXO/..X..XO../..XOOXOX."
 
-pub o-or-draw-told : (told (analysis o-or-draw) ≡ 6 ∷ 0 ∷ 1 ∷ 0 ∷ 1 ∷ 0 ∷ 0 ∷ []) × (judged o-or-draw ≡ 0x507 ∷ 0x537 ∷ 0x567 ∷ 0x587 ∷ 0x802 ∷ 0x812 ∷ 0x887 ∷ [])
+pub o-or-draw-told : (told (analysis o-or-draw) ≡ 6 ∷ 0 ∷ 1 ∷ 0 ∷ 1 ∷ 0 ∷ 0 ∷ []) ×
+    (judged o-or-draw ≡ 0x507 ∷ 0x537 ∷ 0x567 ∷ 0x587 ∷ 0x802 ∷ 0x812 ∷ 0x887 ∷ [])
 unfolding o-or-draw judging
 o-or-draw-told = (refl, refl)
 
@@ -122,7 +127,8 @@ o-or-draw-told = (refl, refl)
 unfoldable pub unthreatened : Position
 unthreatened = shown "O;OO...OO@.;XX.OO...O/.X.XO..../O......../XOXXX..OO/X....O.../X.OXOX.XO/XX.O.XOO./XO......X/OO.X..X.."
 
-pub unthreatened-told : (told (analysis unthreatened) ≡ 6 ∷ 1 ∷ 0 ∷ 0 ∷ 1 ∷ 0 ∷ 0 ∷ []) × (judged unthreatened ≡ 0x727 ∷ 0x737 ∷ 0x747 ∷ 0x757 ∷ 0x767 ∷ 0x777 ∷ [])
+pub unthreatened-told : (told (analysis unthreatened) ≡ 6 ∷ 1 ∷ 0 ∷ 0 ∷ 1 ∷ 0 ∷ 0 ∷ []) ×
+    (judged unthreatened ≡ 0x727 ∷ 0x737 ∷ 0x747 ∷ 0x757 ∷ 0x767 ∷ 0x777 ∷ [])
 unfolding unthreatened judging
 unthreatened-told = (refl, refl)
 
@@ -165,6 +171,7 @@ all-full = shown "O;O@X..##.O;O...O.OX./OXXOOOXXO/OOXX.O.OO/XOOXXOOXO/OOXXOOXOO/
 unfoldable pub none-open : Position
 none-open = shown "X;OXXXOOOXX;OXOXXOXOO/XO.X.XX.O/XXX...X.O/XXXO.OOO./OOO....X./OOOXXOX../X...O.OOO/XO.OXOOXX/.X..X.XXO"
 
-pub counts : (bound-depth four-open ≡ 19) × (open-boards four-open ≡ 4) × (bound-depth all-full ≡ 0) × (open-boards all-full ≡ 4) × (bound-depth none-open ≡ 0) × (open-boards none-open ≡ 0) × (none-open .state ≡ Drawn)
+pub counts : (bound-depth four-open ≡ 19) × (open-boards four-open ≡ 4) × (bound-depth all-full ≡ 0) ×
+    (open-boards all-full ≡ 4) × (bound-depth none-open ≡ 0) × (open-boards none-open ≡ 0) × (none-open .state ≡ Drawn)
 unfolding four-open all-full none-open comparing
 counts = (refl, refl, refl, refl, refl, refl, refl)

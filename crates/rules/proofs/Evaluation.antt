@@ -20,7 +20,8 @@ use Rattle.rules.specs.declared.DrawWinner.{DrawWinner}
 use Rattle.rules.specs.declared.DrawWinner.the-variants.{Nobody, Side}
 use Rattle.rules.specs.Board.{other, in-play, Line, lines}
 use Rattle.rules.specs.Position.{Position, unfinished, open-board, won-boards, has}
-use Rattle.rules.specs.Evaluation.{Scoring, won, lost, places-in, unless-both, worth, board-line, board-score, overall-line, score, seen-by, draw-value, state-value, evaluate}
+use Rattle.rules.specs.Evaluation.{Scoring, won, lost, places-in, unless-both, worth, board-line, board-score, overall-line, score}
+use Rattle.rules.specs.Evaluation.{seen-by, draw-value, state-value, evaluate}
 
 -- ---- a won game and a lost one
 pub won-is : won ≡ pos (2 ^ 60)
@@ -47,7 +48,8 @@ value-of-turned sc p (Won w) = refl
 -- with the other side to move the evaluation is the exact negative
 pub other-side-negates : (sc : Scoring) (p : Position) → evaluate sc (turned p) ≡ negℤ (evaluate sc p)
 unfolding evaluate
-other-side-negates sc p = ap (seen-by (other (p .turn))) (value-of-turned sc p (p .state)) ∙ seen-by-other (p .turn) (state-value sc p (p .state))
+other-side-negates sc p =
+    ap (seen-by (other (p .turn))) (value-of-turned sc p (p .state)) ∙ seen-by-other (p .turn) (state-value sc p (p .state))
 
 -- ---- as a side sees it
 within-seen : (k : ℕ) (w : Player) (z : ℤ) → Within k z → Within k (seen-by w z)
@@ -75,24 +77,30 @@ count-le own l = omega (arith, bit-le (own (l .i)), bit-le (own (l .j)), bit-le 
 
 pub board-line-within : (xs os : ℕ → Bool) (l : Line) → Within 3 (board-line xs os l)
 unfolding board-line
-board-line-within xs os l = within-unless 3 (places-in xs l) (places-in os l) _ (within-minus 3 _ _ (worth-le (places-in xs l)) (worth-le (places-in os l)))
+board-line-within xs os l =
+    within-unless 3 (places-in xs l) (places-in os l) _ (within-minus 3 _ _ (worth-le (places-in xs l)) (worth-le (places-in os l)))
 
 -- eight lines of at most 3
 pub board-score-within : (p : Position) (b : ℕ) → Within 24 (board-score p b)
 unfolding board-score times
 board-score-within p b = if-ind (Within 24) (open-board p b) _ _
-    (λ _. within-sum 3 (board-line (has p X b) (has p O b)) (board-line-within (has p X b) (has p O b)) lines) (λ _. within-pos 24 0 (omega arith))
+    (λ _. within-sum 3 (board-line (has p X b) (has p O b)) (board-line-within (has p X b) (has p O b)) lines)
+    (λ _. within-pos 24 0 (omega arith))
 
-overall-line-within : (xs os : ℕ → Bool) (s : ℕ → ℤ) → ((b : ℕ) → Within 24 (s b)) → (l : Line) → Within 132 (overall-line xs os s l)
+overall-line-within : (xs os : ℕ → Bool) (s : ℕ → ℤ) → ((b : ℕ) → Within 24 (s b)) → (l : Line) →
+    Within 132 (overall-line xs os s l)
 unfolding overall-line
 overall-line-within xs os s h l = within-unless 132 (places-in xs l) (places-in os l) _
-    (within-+ 60 72 _ _ (within-minus 60 (places-in xs l * 20) (places-in os l * 20) (omega (arith, count-le xs l)) (omega (arith, count-le os l)))
+    (within-+ 60 72 _ _ (within-minus 60 (places-in xs l * 20) (places-in os l * 20) (omega (arith, count-le xs l))
+    (omega (arith, count-le os l)))
     (within-+ 24 48 _ _ (h (l .i)) (within-+ 24 24 _ _ (h (l .j)) (h (l .k)))))
 
 -- eight lines of at most 3 × 20 + 3 × 24
 pub score-within : (p : Position) → Within 1056 (score p)
 unfolding score times
-score-within p = within-sum 132 (overall-line (won-boards p X) (won-boards p O) (board-score p)) (overall-line-within (won-boards p X) (won-boards p O) (board-score p) (board-score-within p)) lines
+score-within p =
+    within-sum 132 (overall-line (won-boards p X) (won-boards p O) (board-score p))
+    (overall-line-within (won-boards p X) (won-boards p O) (board-score p) (board-score-within p)) lines
 
 -- ---- an unfinished position
 -- its two halves, as omega reads them

@@ -25,10 +25,14 @@ use Rattle.rules.specs.Play.{accepts, after, refused, play, left-by, tri
 use Rattle.rules.specs.Moves.{places, moves}
 use Rattle.rules.specs.Sound.{sound, proper}
 use Rattle.rules.specs.Keys.{x-cell-keys, o-cell-keys, drawn-keys, x-board-keys, o-board-keys, next-board-keys}
-use Rattle.rules.specs.Hash.{cell-key, board-key, next-board-key, xors, cells-hash, board-hash, hash, with-turn, zobrist, hash-after}
-use Rattle.rules.specs.Evaluation.{scoring-with, no-draw-winner, won, lost, places-in, unless-both, board-line, board-score, overall-line, score, evaluate}
+use Rattle.rules.specs.Hash.{cell-key, board-key, next-board-key, xors, cells-hash, board-hash, hash, with-turn, zobrist}
+use Rattle.rules.specs.Hash.{hash-after}
+use Rattle.rules.specs.Evaluation.{scoring-with, no-draw-winner, won, lost, places-in, unless-both, board-line, board-score}
+use Rattle.rules.specs.Evaluation.{overall-line, score, evaluate}
 use Rattle.rules.specs.Status.{unproven, for-player, as-byte, from-byte, merge}
-use Rattle.rules.specs.Endgame.{completes, winning, critical, has-critical, suits, all-suit, lure, attack, prove-attacker, forced, forced-loss, winnable, proven, narrow, combine, merged, endgame-stats, or-unproven, analysis, judge, evaluate-move}
+use Rattle.rules.specs.Endgame.{completes, winning, critical, has-critical, suits, all-suit, lure, attack, prove-attacker, forced}
+use Rattle.rules.specs.Endgame.{forced-loss, winnable, proven, narrow, combine, merged, endgame-stats, or-unproven, analysis, judge}
+use Rattle.rules.specs.Endgame.{evaluate-move}
 
 -- ---- what the facts compute with
 unfoldable pub playing : Unit {0}
@@ -48,12 +52,14 @@ unfolding evaluate score board-score sum places-in unless-both board-line overal
 valuing = tt
 
 unfoldable pub analysing : Unit {0}
-unfolding analysis or-unproven endgame-stats merged combine narrow proven merge from-byte prove-attacker attack forced-loss forced has-critical critical completes winning lure suits all-suit winnable sound playing
+unfolding analysis or-unproven endgame-stats merged combine narrow proven merge from-byte prove-attacker attack forced-loss forced
+    has-critical critical completes winning lure suits all-suit winnable sound playing
 analysing = tt
 
 -- ---- positions from lists: boards in play and empty cells where a list ends
 unfoldable pub position : Player → NextBoard → List GameState → List (List CellState) → Position
-position w d states cells = record { turn = w; next-board = d; cells = λ b c. getD (getD cells b []) c Empty; states = λ b. getD states b InPlay; state = InPlay }
+position w d states cells =
+    record { turn = w; next-board = d; cells = λ b c. getD (getD cells b []) c Empty; states = λ b. getD states b InPlay; state = InPlay }
 
 abbrev x : CellState
 x = Played X
@@ -101,7 +107,8 @@ second-hash = (refl, refl)
 pub second-analysis : (as-byte (analysis second .status) ≡ 1) × (analysis second ≡ record {
   refusal = 0;
   status = for-player X;
-  stats = record { attacker-critical = 1; defender-critical = 0; both-critical = 0; unwinnable = 0; prove-attacker = 1; prove-defender = 0 };
+  stats =
+      record { attacker-critical = 1; defender-critical = 0; both-critical = 0; unwinnable = 0; prove-attacker = 1; prove-defender = 0 };
 })
 unfolding second position analysing
 second-analysis = (refl, refl)
@@ -136,10 +143,13 @@ refusals = (refl, refl, refl, refl, refl, refl)
 
 -- ---- a move that draws a board, by the last cell, and sends to that board: it is neither side's, and the choice is free
 unfoldable pub last-cell : Position
-last-cell = position X (Only 8) [] ([] ∷ [] ∷ [] ∷ [] ∷ [] ∷ [] ∷ [] ∷ [] ∷ (x ∷ o ∷ x ∷ x ∷ o ∷ o ∷ o ∷ x ∷ e ∷ []) ∷ [])
+last-cell =
+    position X (Only 8) []
+    ([] ∷ [] ∷ [] ∷ [] ∷ [] ∷ [] ∷ [] ∷ [] ∷ (x ∷ o ∷ x ∷ x ∷ o ∷ o ∷ o ∷ x ∷ e ∷ []) ∷ [])
 
 pub drawn-board : let q = tried last-cell 0x88 in
-    (q .states 8 ≡ Drawn) × (won-boards q X 8 ≡ false) × (won-boards q O 8 ≡ false) × (q .next-board ≡ Any) × (q .state ≡ InPlay)
+    (q .states 8 ≡ Drawn) × (won-boards q X 8 ≡ false) × (won-boards q O 8 ≡ false) × (q .next-board ≡ Any) ×
+    (q .state ≡ InPlay)
 unfolding last-cell position playing
 drawn-board = (refl, refl, refl, refl, refl)
 
@@ -165,15 +175,19 @@ unsound-positions = (refl, refl, refl)
 -- ---- a whole game of 40 moves that ends in a draw, with the Rust's hash
 unfoldable pub drawn-game : Position
 drawn-game = reached start (
-    0x62 ∷ 0x21 ∷ 0x18 ∷ 0x84 ∷ 0x41 ∷ 0x13 ∷ 0x35 ∷ 0x55 ∷ 0x58 ∷ 0x87 ∷ 0x75 ∷ 0x53 ∷ 0x30 ∷ 0x04 ∷ 0x43 ∷ 0x34 ∷ 0x47 ∷ 0x74 ∷ 0x44 ∷ 0x54 ∷
-    0x33 ∷ 0x32 ∷ 0x20 ∷ 0x08 ∷ 0x86 ∷ 0x64 ∷ 0x36 ∷ 0x68 ∷ 0x80 ∷ 0x00 ∷ 0x83 ∷ 0x60 ∷ 0x72 ∷ 0x22 ∷ 0x24 ∷ 0x77 ∷ 0x78 ∷ 0x10 ∷ 0x28 ∷ 0x16 ∷ [])
+    0x62 ∷ 0x21 ∷ 0x18 ∷ 0x84 ∷ 0x41 ∷ 0x13 ∷ 0x35 ∷ 0x55 ∷ 0x58 ∷ 0x87 ∷ 0x75 ∷ 0x53 ∷ 0x30 ∷ 0x04 ∷ 0x43 ∷
+    0x34 ∷ 0x47 ∷ 0x74 ∷ 0x44 ∷ 0x54 ∷
+    0x33 ∷ 0x32 ∷ 0x20 ∷ 0x08 ∷ 0x86 ∷ 0x64 ∷ 0x36 ∷ 0x68 ∷ 0x80 ∷ 0x00 ∷ 0x83 ∷ 0x60 ∷ 0x72 ∷ 0x22 ∷ 0x24 ∷
+    0x77 ∷ 0x78 ∷ 0x10 ∷ 0x28 ∷ 0x16 ∷ [])
 
-pub drawn-game-is : (drawn-game .state ≡ Drawn) × (hash drawn-game ≡ 10475654663856873763) × (zobrist drawn-game ≡ 15738742503763087636)
+pub drawn-game-is : (drawn-game .state ≡ Drawn) × (hash drawn-game ≡ 10475654663856873763) ×
+    (zobrist drawn-game ≡ 15738742503763087636)
 unfolding drawn-game playing hashing
 drawn-game-is = (refl, refl, refl)
 
 -- X is to move: nothing, or as won or lost by the draw winner
-pub drawn-game-value : (evaluate no-draw-winner drawn-game ≡ pos 0) × (evaluate (scoring-with (Side X)) drawn-game ≡ won) × (evaluate (scoring-with (Side O)) drawn-game ≡ lost)
+pub drawn-game-value : (evaluate no-draw-winner drawn-game ≡ pos 0) × (evaluate (scoring-with (Side X)) drawn-game ≡ won) ×
+    (evaluate (scoring-with (Side O)) drawn-game ≡ lost)
 unfolding drawn-game playing valuing
 drawn-game-value = (refl, refl, refl)
 
@@ -182,8 +196,10 @@ unfoldable pub weighed : ℕ → List ℕ → ℕ
 weighed i [] = 0
 weighed i (k ∷ ks) = i * k + weighed (suc i) ks
 
-pub keys-are : (weighed 1 x-cell-keys ≡ 32058457650697761632088) × (weighed 1 o-cell-keys ≡ 31175264090485458965237) × (weighed 1 drawn-keys ≡ 489363686111434220960) ×
-    (weighed 1 x-board-keys ≡ 435448663095389928648) × (weighed 1 o-board-keys ≡ 327614487108354100565) × (weighed 1 next-board-keys ≡ 375033712546283715090)
+pub keys-are : (weighed 1 x-cell-keys ≡ 32058457650697761632088) × (weighed 1 o-cell-keys ≡ 31175264090485458965237) ×
+    (weighed 1 drawn-keys ≡ 489363686111434220960) ×
+    (weighed 1 x-board-keys ≡ 435448663095389928648) × (weighed 1 o-board-keys ≡ 327614487108354100565) ×
+    (weighed 1 next-board-keys ≡ 375033712546283715090)
 unfolding weighed
 keys-are = (refl, refl, refl, refl, refl, refl)
 
@@ -204,11 +220,14 @@ pub beside-drawn-value : evaluate no-draw-winner beside-drawn ≡ pos 40
 unfolding beside-drawn position valuing
 beside-drawn-value = refl
 
--- an overall line with both sides in it gives nothing, not even what its third board scores: X's 2 × 20 and O's 20 in other lines, and 4 in two of board 2's three lines
+-- an overall line with both sides in it gives nothing, not even what its third board scores: X's 2 × 20 and O's 20 in other lines, and 4
+-- in two of board 2's three lines
 unfoldable pub both-sides : Position
 both-sides = position X Any (Won X ∷ Won O ∷ []) ([] ∷ [] ∷ (e ∷ e ∷ e ∷ e ∷ x ∷ []) ∷ [])
 
-pub both-sides-value : let p = both-sides in (board-score p 2 ≡ pos 4) × (overall-line (won-boards p X) (won-boards p O) (board-score p) (line 0 1 2) ≡ pos 0) × (evaluate no-draw-winner p ≡ pos 28)
+pub both-sides-value : let p =
+    both-sides in (board-score p 2 ≡ pos 4) × (overall-line (won-boards p X) (won-boards p O) (board-score p) (line 0 1 2) ≡ pos 0) ×
+    (evaluate no-draw-winner p ≡ pos 28)
 unfolding both-sides position valuing
 both-sides-value = (refl, refl, refl)
 
@@ -216,7 +235,9 @@ both-sides-value = (refl, refl, refl)
 unfoldable pub three-boards : Position
 three-boards = position X Any (Won X ∷ Won X ∷ Won X ∷ []) []
 
-pub three-boards-value : let p = three-boards in (overall-line (won-boards p X) (won-boards p O) (board-score p) (line 0 1 2) ≡ pos 60) × (evaluate no-draw-winner p ≡ pos 160)
+pub three-boards-value : let p =
+    three-boards in (overall-line (won-boards p X) (won-boards p O) (board-score p) (line 0 1 2) ≡ pos 60) ×
+    (evaluate no-draw-winner p ≡ pos 160)
 unfolding three-boards position valuing
 three-boards-value = (refl, refl)
 
@@ -231,7 +252,9 @@ blockable-status = (refl, refl)
 
 -- each side wins by a board of its own, and O is to move
 unfoldable pub race : Position
-race = position O Any (Won X ∷ Won X ∷ InPlay ∷ Won O ∷ Won O ∷ []) ([] ∷ [] ∷ (x ∷ x ∷ []) ∷ [] ∷ [] ∷ (e ∷ o ∷ o ∷ []) ∷ [])
+race =
+    position O Any (Won X ∷ Won X ∷ InPlay ∷ Won O ∷ Won O ∷ []) ([] ∷ [] ∷ (x ∷ x ∷ []) ∷ [] ∷ [] ∷
+    (e ∷ o ∷ o ∷ []) ∷ [])
 
 pub judged-moves :
     (evaluate-move unseen 0x99 ≡ record { refusal = 14; status = unproven })  -- unsound, and no such board

@@ -1,4 +1,5 @@
--- The hash that play keeps is the hash worked out afresh: a move changes what one board gives, and the keys that go out cancel those that stood there.
+-- The hash that play keeps is the hash worked out afresh: a move changes what one board gives, and the keys that go out cancel those that
+-- stood there.
 use mathlib.Core.Path.{_≡_, refl, sym, ap, ap₂, _∙_}
 use Prim.Native.Nat.{ℕ}
 use lib.Bits.{bitXor, xor-zero-r, xor-self}
@@ -23,11 +24,15 @@ use Rattle.rules.proofs.HashXor.{xors-change}
 
 -- a board that stays in play: its cells gave r before, and k besides now
 stays : (r k h r' : ℕ) → r' ≡ bitXor k r → bitXor (bitXor r r') h ≡ bitXor k h
-stays r k h r' e = ap (λ (z : ℕ). bitXor (bitXor r z) h) e ∙ ap (λ (z : ℕ). bitXor z h) (xor-left-comm r k r ∙ ap (λ (z : ℕ). bitXor k z) (xor-self r) ∙ xor-zero-r k)
+stays r k h r' e =
+    ap (λ (z : ℕ). bitXor (bitXor r z) h) e ∙ ap (λ (z : ℕ). bitXor z h)
+    (xor-left-comm r k r ∙ ap (λ (z : ℕ). bitXor k z) (xor-self r) ∙ xor-zero-r k)
 
 -- and one that is closed: now it gives b
 closes : (r k h r' b : ℕ) → r' ≡ bitXor k r → bitXor (bitXor r b) h ≡ bitXor b (bitXor r' (bitXor k h))
-closes r k h r' b e = xor-assoc r b h ∙ xor-left-comm r b h ∙ ap (λ (z : ℕ). bitXor b z) (sym (ap (λ (z : ℕ). bitXor z (bitXor k h)) e ∙ xor-swap k r h))
+closes r k h r' b e =
+    xor-assoc r b h ∙ xor-left-comm r b h
+    ∙ ap (λ (z : ℕ). bitXor b z) (sym (ap (λ (z : ℕ). bitXor z (bitXor k h)) e ∙ xor-swap k r h))
 
 unique-nine : T (unique nine)
 unfolding unique elem
@@ -60,10 +65,12 @@ module _ (p : Position) (b c : ℕ) (l : Legal p b c) where
   unfolding cells-hash
   row-hash = xors-change (λ i. cell-key b i (p .cells b i)) (λ i. cell-key b i (row p b c i)) c nine unique-nine (in-nine c (l .cell))
       (λ i n. update-off (λ (s : CellState). cell-key b i s ≡ cell-key b i (p .cells b i)) (p .cells b) c (Played (p .turn)) i n refl)
-      ∙ ap₂ (λ (x y : ℕ). bitXor (bitXor x y) before) (blank-key b c (p .cells b c) (l .empty)) (update-at (λ (s : CellState). cell-key b c s ≡ k) (p .cells b) c (Played (p .turn)) refl)
+      ∙ ap₂ (λ (x y : ℕ). bitXor (bitXor x y) before) (blank-key b c (p .cells b c) (l .empty))
+      (update-at (λ (s : CellState). cell-key b c s ≡ k) (p .cells b) c (Played (p .turn)) refl)
 
   -- what the board gives now, for what it gave before
-  board-change : (g : GameState) (h : ℕ) → bitXor (bitXor before (board-hash b (row p b c) g)) h ≡ bitXor (board-key b g) (bitXor (if in-play g then (λ _. 0) else λ _. now) (bitXor k h))
+  board-change : (g : GameState) (h : ℕ) → bitXor (bitXor before (board-hash b (row p b c) g)) h
+      ≡ bitXor (board-key b g) (bitXor (if in-play g then (λ _. 0) else λ _. now) (bitXor k h))
   unfolding board-hash board-key if_then_else_
   board-change InPlay h = stays before k h now row-hash
   board-change Drawn h = closes before k h now _ row-hash
@@ -72,10 +79,13 @@ module _ (p : Position) (b c : ℕ) (l : Legal p b c) where
   -- the hash kept by play equals the hash worked out afresh
   pub hash-kept-is-fresh : hash (after p b c) ≡ hash-after p b c (hash p)
   unfolding hash hash-after after
-  hash-kept-is-fresh = xors-change gave gives b nine unique-nine (in-nine b (l .board)) (λ i n. update-off (λ (r : ℕ → CellState). board-hash i r (states i) ≡ gave i) (p .cells) b (row p b c) i n
+  hash-kept-is-fresh =
+      xors-change gave gives b nine unique-nine (in-nine b (l .board)) (λ i n. update-off
+      (λ (r : ℕ → CellState). board-hash i r (states i) ≡ gave i) (p .cells) b (row p b c) i n
       (update-off (λ (g : GameState). board-hash i (p .cells i) g ≡ gave i) (p .states) b (made p b c) i n refl))
       ∙ ap₂ (λ (x y : ℕ). bitXor (bitXor x y) (hash p)) (open-hash b (p .cells b) (p .states b) (l .opened))
-      (update-at (λ (r : ℕ → CellState). board-hash b r (states b) ≡ board-hash b (row p b c) (states b)) (p .cells) b (row p b c) refl)
+      (update-at (λ (r : ℕ → CellState). board-hash b r (states b) ≡ board-hash b (row p b c) (states b)) (p .cells) b (row p b c)
+      refl)
       ∙ board-change (states b) (hash p)
     where
       states : ℕ → GameState

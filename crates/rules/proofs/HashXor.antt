@@ -15,15 +15,19 @@ use Rattle.rules.specs.Hash.{xors}
 pub xors-same : (f g : ℕ → ℕ) (xs : List ℕ) → ((i : ℕ) → In i xs → g i ≡ f i) → xors g xs ≡ xors f xs
 unfolding xors
 xors-same f g [] h = refl
-xors-same f g (x ∷ xs) h = ap (λ (z : ℕ). bitXor z (xors g xs)) (h x (inl refl)) ∙ ap (λ (z : ℕ). bitXor (f x) z) (xors-same f g xs (λ i k. h i (inr k)))
+xors-same f g (x ∷ xs) h =
+    ap (λ (z : ℕ). bitXor z (xors g xs)) (h x (inl refl)) ∙ ap (λ (z : ℕ). bitXor (f x) z) (xors-same f g xs (λ i k. h i (inr k)))
 
 -- changed at one place of a list that has each number once
-pub xors-change : (f g : ℕ → ℕ) (b : ℕ) (xs : List ℕ) → T (unique xs) → In b xs → ((i : ℕ) → (b ≡ i → ⊥) → g i ≡ f i) → xors g xs ≡ bitXor (bitXor (f b) (g b)) (xors f xs)
+pub xors-change : (f g : ℕ → ℕ) (b : ℕ) (xs : List ℕ) → T (unique xs) → In b xs →
+    ((i : ℕ) → (b ≡ i → ⊥) → g i ≡ f i) → xors g xs ≡ bitXor (bitXor (f b) (g b)) (xors f xs)
 unfolding xors unique
 xors-change f g b [] o k h = absurd k
 xors-change f g b (x ∷ xs) o (inl e) h =
     let r = and→ (not (elem x xs)) _ o in
-    ap (λ (z : ℕ). bitXor (g x) z) (xors-same f g xs (λ i k. h i (λ q. T-not (elem x xs) (r .0) (in-elem x xs (subst (λ (z : ℕ). In z xs) (sym (sym e ∙ q)) k)))))
+    ap (λ (z : ℕ). bitXor (g x) z)
+    (xors-same f g xs (λ i k. h i
+    (λ q. T-not (elem x xs) (r .0) (in-elem x xs (subst (λ (z : ℕ). In z xs) (sym (sym e ∙ q)) k)))))
     ∙ sym (xor-swap (f x) (g x) (xors f xs)) ∙ ap (λ (z : ℕ). bitXor (bitXor (f z) (g z)) (bitXor (f x) (xors f xs))) (sym e)
 xors-change f g b (x ∷ xs) o (inr k) h =
     let r = and→ (not (elem x xs)) _ o in

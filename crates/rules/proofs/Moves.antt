@@ -25,12 +25,17 @@ in-map b c (x ∷ xs) (inr h) = inr (in-map b c xs h)
 in-places : (m : ℕ) → board-of m < 9 → cell-of m < 9 → In m places
 unfolding places
 in-places m h k = subst (λ (x : ℕ). In x (concat-map (λ b. map (move-of b) nine) nine)) (move-of-parts m)
-    (in-concat-map (λ b. map (move-of b) nine) (board-of m) (move-of (board-of m) (cell-of m)) nine (in-nine (board-of m) h) (in-map (board-of m) (cell-of m) nine (in-nine (cell-of m) k)))
+    (in-concat-map (λ b. map (move-of b) nine) (board-of m) (move-of (board-of m) (cell-of m)) nine (in-nine (board-of m) h)
+    (in-map (board-of m) (cell-of m) nine (in-nine (cell-of m) k)))
 
 -- the list holds exactly what play accepts, at every position
 pub moves-are-accepted : (p : Position) (m : ℕ) → In m (moves p) ↔ T (accepts p m)
 unfolding moves
-moves-are-accepted p m = (λ i. filter-in (accepts p) m places i .1, λ t. let l = accepts→ p m t in in-filter (accepts p) m places (in-places m (l .board) (l .cell)) t)
+moves-are-accepted p m = (
+  λ i. filter-in (accepts p) m places i .1,
+  λ t. let l = accepts→ p m t in
+      in-filter (accepts p) m places (in-places m (l .board) (l .cell)) t,
+)
 
 pub legal-is-listed : (p : Position) (b c : ℕ) → Legal p b c → In (move-of b c) (moves p)
 legal-is-listed p b c l = moves-are-accepted p (move-of b c) .1 (→accepts-at p b c l)
@@ -52,7 +57,8 @@ rising-filter f [] t = tt
 rising-filter f (x ∷ xs) t =
     let r = and→ (all (ltb x) xs) _ t in
     if-ind (λ l. T (rising l)) (f x) _ _
-    (λ _. →and (all (ltb x) (filter f xs)) _ (each-all (ltb x) (filter f xs) (λ y i. all-each (ltb x) y xs (r .0) (filter-in f y xs i .0))) (rising-filter f xs (r .1)))
+    (λ _. →and (all (ltb x) (filter f xs)) _ (each-all (ltb x) (filter f xs)
+    (λ y i. all-each (ltb x) y xs (r .0) (filter-in f y xs i .0))) (rising-filter f xs (r .1)))
     (λ _. rising-filter f xs (r .1))
 
 -- boards rising, cells rising

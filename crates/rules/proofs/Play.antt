@@ -62,7 +62,8 @@ unfolding accepts all-pass all
 pub →accepts-at : (p : Position) (b c : ℕ) → Legal p b c → T (accepts p (move-of b c))
 →accepts-at p b c l =
     let e = board-of-move b c (omega arith) in let f = cell-of-move b c (omega arith) in
-    →accepts p (move-of b c) (subst (λ (x : ℕ). Legal p x (cell-of (move-of b c))) (sym e) (subst (λ (x : ℕ). Legal p b x) (sym f) l))
+    →accepts p (move-of b c) (subst (λ (x : ℕ). Legal p x (cell-of (move-of b c))) (sym e)
+    (subst (λ (x : ℕ). Legal p b x) (sym f) l))
 
 -- ---- a move, tried
 pub play-accepted : (p : Position) (m : ℕ) → T (accepts p m) → play p m ≡ played (after p (board-of m) (cell-of m))
@@ -70,7 +71,8 @@ unfolding play
 play-accepted p m t = if-ind (λ r. r ≡ played (after p (board-of m) (cell-of m))) (accepts p m) _ _
     (λ _. refl) (λ u. absurd (T-not (accepts p m) u t))
 
-pub play-refused : (p : Position) (m : ℕ) → T (not (accepts p m)) → play p m ≡ refused (first-failed (checks p (board-of m) (cell-of m)))
+pub play-refused : (p : Position) (m : ℕ) → T (not (accepts p m)) → play p m
+    ≡ refused (first-failed (checks p (board-of m) (cell-of m)))
 unfolding play
 play-refused p m t = if-ind (λ r. r ≡ refused (first-failed (checks p (board-of m) (cell-of m)))) (accepts p m) _ _
     (λ u. absurd (T-not (accepts p m) t u)) (λ _. refl)
@@ -110,5 +112,6 @@ first-failing p m t = let cs = checks p (board-of m) (cell-of m) in record {
 pub refusal-is-first : (p : Position) (m n : ℕ) → play p m ≡ refused n → FirstFailing n (checks p (board-of m) (cell-of m))
 refusal-is-first p m n e = elim (is (accepts p m)) [
   | inl t ↦ (let x = play-accepted p m t in let z : _≡_ {A = ℕ} 0 1 = cc in absurd (omega arith))
-  | inr t ↦ (let x = play-refused p m t in subst (λ (k : ℕ). FirstFailing k (checks p (board-of m) (cell-of m))) (cc) (first-failing p m t))
+  | inr t ↦ (let x = play-refused p m t in subst (λ (k : ℕ). FirstFailing k (checks p (board-of m) (cell-of m))) (cc)
+      (first-failing p m t))
 ]

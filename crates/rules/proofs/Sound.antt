@@ -41,20 +41,25 @@ unfolding sound fair-board
 sound→ p t = record {
   no-line = λ w. all-each (λ v. not (has-line (won-boards p v))) w sides (r .0) (in-sides w);
   room = λ b h o. and→ (any (free-cell p b) nine) _ (board b h o) .0;
-  no-board = λ b h o w. all-each (λ v. not (has-line (has p v b))) w sides (and→ (any (free-cell p b) nine) _ (board b h o) .1) (in-sides w);
+  no-board =
+      λ b h o w. all-each (λ v. not (has-line (has p v b))) w sides (and→ (any (free-cell p b) nine) _ (board b h o) .1) (in-sides w);
 }
   where
     r : T (all (λ w. not (has-line (won-boards p w))) sides) × T (all (λ b. not (open-board p b) || fair-board p b) nine)
     r = and→ (all (λ w. not (has-line (won-boards p w))) sides) _ t
 
     board : (b : ℕ) → b < 9 → T (open-board p b) → T (fair-board p b)
-    board b h o = ⇒→ (open-board p b) (fair-board p b) (all-each (λ b. not (open-board p b) || fair-board p b) b nine (r .1) (in-nine b h)) o
+    board b h o =
+        ⇒→ (open-board p b) (fair-board p b) (all-each (λ b. not (open-board p b) || fair-board p b) b nine (r .1) (in-nine b h)) o
 
 pub →sound : (p : Position) → Fair p → T (sound p)
 unfolding sound fair-board
-→sound p f = →and (all (λ w. not (has-line (won-boards p w))) sides) _ (each-all (λ w. not (has-line (won-boards p w))) sides (λ w _. f .no-line w))
+→sound p f =
+    →and (all (λ w. not (has-line (won-boards p w))) sides) _ (each-all (λ w. not (has-line (won-boards p w))) sides
+    (λ w _. f .no-line w))
     (each-all (λ b. not (open-board p b) || fair-board p b) nine (λ b i. →⇒ (open-board p b) (fair-board p b) (λ o.
-    →and (any (free-cell p b) nine) _ (f .room b (nine-in b i) o) (each-all (λ w. not (has-line (has p w b))) sides (λ w _. f .no-board b (nine-in b i) o w)))))
+    →and (any (free-cell p b) nine) _ (f .room b (nine-in b i) o) (each-all (λ w. not (has-line (has p w b))) sides
+    (λ w _. f .no-board b (nine-in b i) o w)))))
 
 -- proper, and sound while unfinished
 pub record Good (p : Position) : Type 0 where
@@ -62,13 +67,19 @@ pub record Good (p : Position) : Type 0 where
   pub some-open : T (unfinished p) → T (any (open-board p) nine)
   pub fair : T (unfinished p) → Fair p
 
-pub →proper : (p : Position) → T (next-board-open p (p .next-board)) → (T (unfinished p) → T (any (open-board p) nine)) → T (proper p)
+pub →proper : (p : Position) → T (next-board-open p (p .next-board)) → (T (unfinished p) → T (any (open-board p) nine)) →
+    T (proper p)
 unfolding proper
 →proper p d o = →and (next-board-open p (p .next-board)) _ d (→⇒ (unfinished p) _ o)
 
 pub good : (p : Position) → T (proper p) → (T (unfinished p) → T (sound p)) → Good p
 unfolding proper
-good p t s = let r = and→ (next-board-open p (p .next-board)) _ t in record { due-is = r .0; some-open = ⇒→ (unfinished p) _ (r .1); fair = λ o. sound→ p (s o) }
+good p t s =
+    let r = and→ (next-board-open p (p .next-board)) _ t in record {
+      due-is = r .0;
+      some-open = ⇒→ (unfinished p) _ (r .1);
+      fair = λ o. sound→ p (s o);
+    }
 
 pub good-is-sound : (p : Position) → Good p → T (unfinished p) → T (sound p)
 good-is-sound p g t = →sound p (g .fair t)
@@ -88,12 +99,15 @@ made p b c = result (p .turn) (λ i. mine (p .turn) (row p b c i)) (λ i. blank 
 module _ (p : Position) (b c : ℕ) (l : Legal p b c) where
   -- the other side has nothing new in the board
   pub row-other : (i : ℕ) → T (mine (other (p .turn)) (row p b c i)) → T (has p (other (p .turn)) b i)
-  row-other i = update-ind (λ (s : CellState). T (mine (other (p .turn)) s) → T (has p (other (p .turn)) b i)) (p .cells b) c (Played (p .turn)) i
+  row-other i =
+      update-ind (λ (s : CellState). T (mine (other (p .turn)) s) → T (has p (other (p .turn)) b i)) (p .cells b) c (Played (p .turn)) i
       (λ _ t. absurd (T-not (mine (other (p .turn)) (Played (p .turn))) (other-differs (p .turn)) t)) (λ t. t)
 
   -- and no new board
-  pub states-other : (i : ℕ) → T (won-by (other (p .turn)) (update (p .states) b (made p b c) i)) → T (won-boards p (other (p .turn)) i)
-  states-other i = update-ind (λ (s : GameState). T (won-by (other (p .turn)) s) → T (won-boards p (other (p .turn)) i)) (p .states) b (made p b c) i
+  pub states-other : (i : ℕ) → T (won-by (other (p .turn)) (update (p .states) b (made p b c) i)) →
+      T (won-boards p (other (p .turn)) i)
+  states-other i =
+      update-ind (λ (s : GameState). T (won-by (other (p .turn)) s) → T (won-boards p (other (p .turn)) i)) (p .states) b (made p b c) i
       (λ _ t. absurd (T-not (won-by (other (p .turn)) (made p b c)) (result-other (p .turn) _ _) t)) (λ t. t)
 
   -- the next board is open, whatever the position
@@ -103,7 +117,8 @@ module _ (p : Position) (b c : ℕ) (l : Legal p b c) where
       (λ t. →and (ltb c 9) _ (lt→ltb c 9 (l .cell)) t) (λ _. tt)
 
   -- in an unfinished game the mover has no line of boards, and a board is open
-  open-after : T (unfinished (after p b c)) → T (not (has-line (won-boards (after p b c) (p .turn)))) × T (any (open-board (after p b c)) nine)
+  open-after : T (unfinished (after p b c)) → T (not (has-line (won-boards (after p b c) (p .turn)))) ×
+      T (any (open-board (after p b c)) nine)
   unfolding after
   open-after o = result-open (p .turn) (won-boards (after p b c) (p .turn)) (open-board (after p b c)) o
 
@@ -135,7 +150,8 @@ module _ (p : Position) (b c : ℕ) (l : Legal p b c) where
       }
 
 -- ---- a move, tried: what holds of p and after an accepted move holds where a try leaves the position
-pub tried-keeps {κ} : (P : Position → Type κ) (p : Position) (m : ℕ) → (Legal p (board-of m) (cell-of m) → P (after p (board-of m) (cell-of m))) → P p → P (tried p m)
+pub tried-keeps {κ} : (P : Position → Type κ) (p : Position) (m : ℕ) → (Legal p (board-of m) (cell-of m) →
+    P (after p (board-of m) (cell-of m))) → P p → P (tried p m)
 tried-keeps P p m a x = elim (is (accepts p m)) [
   | inl t ↦ subst P (sym (tried-accepted p m t)) (a (accepts→ p m t))
   | inr t ↦ subst P (sym (tried-refused p m t)) x
@@ -150,7 +166,8 @@ pub play-stays-proper : (p : Position) → T (proper p) → (m : ℕ) → T (pro
 play-stays-proper p t m = tried-keeps (λ q. T (proper q)) p m (λ l. after-is-proper p (board-of m) (cell-of m) l) t
 
 -- while unfinished, play stays sound
-pub play-stays-sound : (p : Position) → T (sound p) → T (proper p) → (m : ℕ) → T (unfinished (tried p m)) → T (sound (tried p m)) × T (proper (tried p m))
+pub play-stays-sound : (p : Position) → T (sound p) → T (proper p) → (m : ℕ) → T (unfinished (tried p m)) →
+    T (sound (tried p m)) × T (proper (tried p m))
 play-stays-sound p s t m o = (good-is-sound (tried p m) (play-stays-good p (good p t (λ _. s)) m) o, play-stays-proper p t m)
 
 -- ---- all play from the empty board
@@ -188,5 +205,8 @@ playable-board p g t = go (p .next-board) (g .due-is)
 pub some-move : (p : Position) → Good p → T (unfinished p) → (m : ℕ) × In m (moves p)
 some-move p g t =
     let d = playable-board p g t in
-    let c = any-some (free-cell p (d .0)) nine (g .fair t .room (d .0) (d .1) (d .2)) in
-    (move-of (d .0) (c .0), legal-is-listed p (d .0) (c .0) (record { board = d .1; cell = nine-in (c .0) (c .1); unfinished = t; opened = d .2; allowed = d .3; empty = c .2 }))
+    let c = any-some (free-cell p (d .0)) nine (g .fair t .room (d .0) (d .1) (d .2)) in (
+      move-of (d .0) (c .0),
+      legal-is-listed p (d .0) (c .0)
+          (record { board = d .1; cell = nine-in (c .0) (c .1); unfinished = t; opened = d .2; allowed = d .3; empty = c .2 }),
+    )

@@ -27,7 +27,9 @@ from-byte-takes = refl
 -- and no number from 8 on
 pub from-byte-none : (v : ℕ) → 8 ≤ v → from-byte v ≡ none
 unfolding from-byte
-from-byte-none v h = if-ind (λ r. r ≡ none) (ltb v 8 && (not (eqb v 0) && not (eqb v 3))) _ _ (λ t. absurd (omega (arith, ltb→lt v 8 (and→ (ltb v 8) _ t .0)))) (λ _. refl)
+from-byte-none v h =
+    if-ind (λ r. r ≡ none) (ltb v 8 && (not (eqb v 0) && not (eqb v 3))) _ _
+    (λ t. absurd (omega (arith, ltb→lt v 8 (and→ (ltb v 8) _ t .0)))) (λ _. refl)
 
 -- back to the byte, where there is a set
 back : ℕ → Option Status → Bool
@@ -42,7 +44,8 @@ all-back = tt
 pub byte-of-from-byte : (v : ℕ) (s : Status) → from-byte v ≡ some s → as-byte s ≡ v
 unfolding back
 byte-of-from-byte v s e = elim (is (ltb v 8)) [
-  | inl t ↦ eqb→eq (as-byte s) v (subst (λ (r : Option Status). T (back v r)) e (all-each (λ n. back n (from-byte n)) v (from 0 8) all-back
+  | inl t ↦ eqb→eq (as-byte s) v (subst (λ (r : Option Status). T (back v r)) e
+      (all-each (λ n. back n (from-byte n)) v (from 0 8) all-back
       (in-from 0 8 v (omega arith) (omega (arith, ltb→lt v 8 t)))))
   | inr t ↦ (let n = from-byte-none v (nltb→le v 8 t) in let z : _≡_ {A = ℕ} 0 1 = cc in absurd (omega arith))
 ]
@@ -52,7 +55,8 @@ pub from-byte-of-byte : (s : Status) → (from-byte (as-byte s) ≡ some s) ⊎ 
 unfolding from-byte if_then_else_
 from-byte-of-byte s = of (s .x) (s .o) (s .draw)
   where
-    of : (x o d : Bool) → let s : Status = record { x = x; o = o; draw = d } in (from-byte (as-byte s) ≡ some s) ⊎ (from-byte (as-byte s) ≡ none)
+    of : (x o d : Bool) → let s : Status =
+        record { x = x; o = o; draw = d } in (from-byte (as-byte s) ≡ some s) ⊎ (from-byte (as-byte s) ≡ none)
     of true true true = inl refl
     of true true false = inr refl
     of true false true = inl refl

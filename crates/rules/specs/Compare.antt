@@ -12,8 +12,8 @@ bound-depth p = total (λ b. cond (open-board p b) (count (free-cell p b) nine) 
 unfoldable pub open-boards : Position → ℕ
 open-boards p = count (open-board p) nine
 
--- the Rust's `equivalent`: side, next board and game state agree, and the cells of the boards that are open in the first position. The states
--- of the first position's boards are compared with themselves, so positions with unlike ones may pass
+-- the Rust's `equivalent`: side, next board and game state agree, and the cells of the boards that are open in the first position. The
+-- states of the first position's boards are compared with themselves, so positions with unlike ones may pass
 unfoldable pub equivalent : Position → Position → Bool
 equivalent p q =
     same (p .turn) (q .turn) &&

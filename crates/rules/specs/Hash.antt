@@ -65,8 +65,8 @@ with-turn p h = bitXor h (bitXor (next-board-key (p .next-board)) (player-key (p
 unfoldable pub zobrist : Position → ℕ
 zobrist p = with-turn p (hash p)
 
--- the hash after a move in cell c of board b, from the hash h before it: the cell's key comes in, and where the move closes the board the keys of
--- its cells go out and the key of its state comes in
+-- the hash after a move in cell c of board b, from the hash h before it: the cell's key comes in, and where the move closes the board the
+-- keys of its cells go out and the key of its state comes in
 unfoldable pub hash-after : Position → ℕ → ℕ → ℕ → ℕ
 hash-after p b c h =
     let w = p .turn in

@@ -63,7 +63,9 @@ pub data Tried : Type 0 where
   refused : ℕ → Tried
 
 unfoldable pub play : Position → ℕ → Tried
-play p m = if accepts p m then (λ _. played (after p (board-of m) (cell-of m))) else λ _. refused (first-failed (checks p (board-of m) (cell-of m)))
+play p m =
+    if accepts p m then (λ _. played (after p (board-of m) (cell-of m)))
+    else λ _. refused (first-failed (checks p (board-of m) (cell-of m)))
 
 -- where a try leaves the position: a refused one changes nothing
 unfoldable pub left-by : Position → Tried → Position

@@ -1,4 +1,5 @@
--- What a search says of a game from the empty board, table off: it is plain minimax to the last completed depth, so what holds of that holds of it.
+-- What a search says of a game from the empty board, table off: it is plain minimax to the last completed depth, so what holds of that
+-- holds of it.
 use mathlib.Core.Path.{_≡_, refl, sym, ap, _∙_, subst}
 use mathlib.Core.Bool.{not}
 use mathlib.Core.List.{List}
@@ -41,7 +42,8 @@ not-nothing O X e = omega zarith
 not-nothing O O e = omega zarith
 
 -- for every list of tried moves, refused ones among them, that leaves the game unfinished; response tables of any kind
-module _ (ms : List ℕ) (t : T (unfinished (reached start ms))) (s : Memory) (table-off : T (off (s .table))) (from-none : s .count ≡ 0) (k : ℕ) where
+module _ (ms : List ℕ) (t : T (unfinished (reached start ms))) (s : Memory) (table-off : T (off (s .table))) (from-none : s .count ≡ 0)
+    (k : ℕ) where
   abbrev p : Position
   p = reached start ms
 
@@ -80,7 +82,8 @@ module _ (ms : List ℕ) (t : T (unfinished (reached start ms))) (s : Memory) (t
   tells = good-status-tells p g t
 
   -- a side that it leaves alone, without a draw: every search that is not stopped, to a limit of three or more, scores that side's win
-  pub alone-scores : (n : ℕ) → entries no-draw-winner (suc k) p s ≤ n → 2 ≤ k → (w : Player) → T (alone (analysis p .status) w) →
+  pub alone-scores : (n : ℕ) → entries no-draw-winner (suc k) p s ≤ n → 2 ≤ k → (w : Player) →
+      T (alone (analysis p .status) w) →
       analyze (game no-draw-winner) (at-most n) (suc k) p s .completed .score ≡ win-for w p
   alone-scores n h two w a = unstopped-right no-draw-winner n h .right .score-is ∙ tells .alone-wins w a (suc k) (omega arith)
 
@@ -88,8 +91,10 @@ module _ (ms : List ℕ) (t : T (unfinished (reached start ms))) (s : Memory) (t
     never-right : (j : ℕ) (x : Completed) → AttainsMinimax (game no-draw-winner) j p x → x .score ≡ win-for w p → ⊥
     never-right j x r e = tells .left-out-never w out (suc j) (sym (r .score-is) ∙ e)
 
-    stopped-never : (a : Allowance) → T (analyze (game no-draw-winner) a (suc k) p s .is-stopped) → analyze (game no-draw-winner) a (suc k) p s .completed .score ≡ win-for w p → ⊥
-    stopped-never unlimited u e = T-not (analyze (game no-draw-winner) unlimited (suc k) p s .is-stopped) (limited no-draw-winner 0 .unlimited-whole) u
+    stopped-never : (a : Allowance) → T (analyze (game no-draw-winner) a (suc k) p s .is-stopped) →
+        analyze (game no-draw-winner) a (suc k) p s .completed .score ≡ win-for w p → ⊥
+    stopped-never unlimited u e =
+        T-not (analyze (game no-draw-winner) unlimited (suc k) p s .is-stopped) (limited no-draw-winner 0 .unlimited-whole) u
     stopped-never (at-most n) u e = by-depth (x .completed .depth) refl
       where
         x : SearchAnswer

@@ -20,11 +20,14 @@ use Rattle.base.specs.Checks.{all-pass, first-failed}
 use Rattle.rules.specs.Play.{no-move, accepts, after, play, left-by, tried}
 use Rattle.rules.specs.Moves.{places, moves}
 use Rattle.rules.specs.Hash.{cell-key, board-key, next-board-key, xors, cells-hash, board-hash, hash, with-turn, zobrist}
-use Rattle.rules.specs.Evaluation.{no-draw-winner, won, lost, places-in, unless-both, board-line, board-score, overall-line, score, evaluate}
+use Rattle.rules.specs.Evaluation.{no-draw-winner, won, lost, places-in, unless-both, board-line, board-score, overall-line, score}
+use Rattle.rules.specs.Evaluation.{evaluate}
 use Rattle.rules.proofs.Examples.{position, second}
 use Rattle.theory.specs.Table.{from-word, entry-of, off, begins, look-up, store, suffices, bound-of}
-use Rattle.theory.specs.Memory.{Tally, Memory, fresh-memory, begin, enter, leaf, hit, answered, cut, some-move, hints, counts, no-responses}
-use Rattle.theory.specs.OrderedSearch.{unlimited, at-most, unless-stopped, entering, probed, on-probe, with-stored, set-first, fresh, candidates, over-moves, search}
+use Rattle.theory.specs.Memory.{Tally, Memory, fresh-memory, begin, enter, leaf, hit, answered, cut, some-move, hints, counts}
+use Rattle.theory.specs.Memory.{no-responses}
+use Rattle.theory.specs.OrderedSearch.{unlimited, at-most, unless-stopped, entering, probed, on-probe, with-stored, set-first, fresh}
+use Rattle.theory.specs.OrderedSearch.{candidates, over-moves, search}
 use Rattle.theory.specs.Deepening.{Stats, Completed, nothing-yet, SearchAnswer, on-outcome, deepen, analyze}
 use Rattle.rules_game.specs.RulesGame.{game}
 
@@ -42,7 +45,8 @@ unfolding zobrist with-turn hash xors board-hash cells-hash cell-key board-key n
 hashing = tt
 
 remembering : Unit {0}
-unfolding begin enter leaf hit answered cut some-move hints probed on-probe with-stored set-first from-word entry-of off begins look-up store suffices bound-of if_then_else_
+unfolding begin enter leaf hit answered cut some-move hints probed on-probe with-stored set-first from-word entry-of off begins look-up
+    store suffices bound-of if_then_else_
 remembering = tt
 
 searching : Unit {0}
@@ -88,9 +92,11 @@ pub one-depth-whole : analyze (game no-draw-winner) (at-most 82) 2 start no-tabl
 unfolding searching
 one-depth-whole = refl
 
--- ---- X;XX@......; and XXX....../XXX....../XX......., the other boards empty: won at depth 1, which ends the search, with all seven moves tried
+-- ---- X;XX@......; and XXX....../XXX....../XX......., the other boards empty: won at depth 1, which ends the search, with all seven moves
+-- tried
 pub second-won : analyze (game no-draw-winner) unlimited 3 second no-table
-    ≡ gives false (record { depth = 1; score = won; pv = 0x22 ∷ []; stats = at-depth 1 won (counts 8 7 0 0 0) ∷ [] }) (counted 8 (counts 8 7 0 0 0))
+    ≡ gives false (record { depth = 1; score = won; pv = 0x22 ∷ []; stats = at-depth 1 won (counts 8 7 0 0 0) ∷ [] })
+    (counted 8 (counts 8 7 0 0 0))
 unfolding searching second position
 second-won = refl
 
@@ -125,7 +131,8 @@ pub illegal-responses :
       score = lost;
       pv = 0x55 ∷ 0x02 ∷ 0x26 ∷ 0x04 ∷ [];
       stats =
-          at-depth 1 (negsuc 17) (counts 3 2 0 0 0) ∷ at-depth 2 (negsuc 44) (counts 14 11 0 0 0) ∷ at-depth 3 (pos 32) (counts 39 25 7 0 0) ∷ at-depth 4 lost (counts 46 24 9 0 0) ∷ [];
+          at-depth 1 (negsuc 17) (counts 3 2 0 0 0) ∷ at-depth 2 (negsuc 44) (counts 14 11 0 0 0) ∷
+          at-depth 3 (pos 32) (counts 39 25 7 0 0) ∷ at-depth 4 lost (counts 46 24 9 0 0) ∷ [];
     })
     (record {
       count = 102;
@@ -147,7 +154,8 @@ pub table-on :
       score = lost;
       pv = 0x50 ∷ 0x02 ∷ 0x26 ∷ 0x04 ∷ [];
       stats =
-          at-depth 1 (negsuc 17) (counts 3 2 0 0 0) ∷ at-depth 2 (negsuc 44) (counts 8 5 1 1 0) ∷ at-depth 3 (pos 32) (counts 17 9 4 4 1) ∷ at-depth 4 lost (counts 38 18 9 8 2) ∷ [];
+          at-depth 1 (negsuc 17) (counts 3 2 0 0 0) ∷ at-depth 2 (negsuc 44) (counts 8 5 1 1 0) ∷
+          at-depth 3 (pos 32) (counts 17 9 4 4 1) ∷ at-depth 4 lost (counts 38 18 9 8 2) ∷ [];
     })
     (record {
       count = 66;

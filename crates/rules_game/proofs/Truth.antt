@@ -24,14 +24,22 @@ use Rattle.rules_game.proofs.TruthWins.{own-win, other-win, forced-lose
 module _ (p : Position) (g : Good p) (t : T (unfinished p)) where
   -- a side that is proved to win wins
   decided-wins : (w : Player) → Decided p w → (d : ℕ) → 3 ≤ d → plain-minimax no-draw-winner d p ≡ win-for w p
-  decided-wins w (inl r) d h = stays-won-to (game no-draw-winner) (rules-lawful no-draw-winner) (d - 3) 3 d p g (omega arith) (attacker-wins p g t (r .0)) ∙ sym (ap (λ (v : Player). win-for v p) (r .1) ∙ own-win (p .turn))
-  decided-wins w (inr r) d h = stays-lost-to (game no-draw-winner) (rules-lawful no-draw-winner) (d - 2) 2 d p g (omega arith) (forced-loses p g t (r .0) (r .1)) ∙ sym (ap (λ (v : Player). win-for v p) (r .2) ∙ other-win (p .turn))
+  decided-wins w (inl r) d h =
+      stays-won-to (game no-draw-winner) (rules-lawful no-draw-winner) (d - 3) 3 d p g (omega arith) (attacker-wins p g t (r .0))
+      ∙ sym (ap (λ (v : Player). win-for v p) (r .1) ∙ own-win (p .turn))
+  decided-wins w (inr r) d h =
+      stays-lost-to (game no-draw-winner) (rules-lawful no-draw-winner) (d - 2) 2 d p g (omega arith) (forced-loses p g t (r .0) (r .1))
+      ∙ sym (ap (λ (v : Player). win-for v p) (r .2) ∙ other-win (p .turn))
 
   -- not both sides win
-  not-the-other : (w : Player) (d : ℕ) → plain-minimax no-draw-winner 3 p ≡ win-for (other w) p → plain-minimax no-draw-winner d p ≡ win-for w p → ⊥
-  not-the-other w d = side (λ v. plain-minimax no-draw-winner 3 p ≡ win-for (other v) p → plain-minimax no-draw-winner d p ≡ win-for v p → ⊥) (p .turn)
+  not-the-other : (w : Player) (d : ℕ) → plain-minimax no-draw-winner 3 p ≡ win-for (other w) p →
+      plain-minimax no-draw-winner d p ≡ win-for w p → ⊥
+  not-the-other w d =
+      side (λ v. plain-minimax no-draw-winner 3 p ≡ win-for (other v) p → plain-minimax no-draw-winner d p ≡ win-for v p → ⊥)
+      (p .turn)
       (λ e f. not-both (game no-draw-winner) (rules-lawful no-draw-winner) d 3 p g (f ∙ own-win (p .turn)) (e ∙ other-win (p .turn)))
-      (λ e f. not-both (game no-draw-winner) (rules-lawful no-draw-winner) 3 d p g (e ∙ ap (λ (v : Player). win-for v p) (other-other (p .turn)) ∙ own-win (p .turn)) (f ∙ other-win (p .turn))) w
+      (λ e f. not-both (game no-draw-winner) (rules-lawful no-draw-winner) 3 d p g
+      (e ∙ ap (λ (v : Player). win-for v p) (other-other (p .turn)) ∙ own-win (p .turn)) (f ∙ other-win (p .turn))) w
 
   -- a good unfinished position
   pub good-status-tells : StatusTells p

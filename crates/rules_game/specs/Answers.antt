@@ -15,15 +15,15 @@ use Rattle.rules_game.specs.RulesGame.{game}
 abbrev pub entries : Scoring → ℕ → Position → Memory → ℕ
 entries sc limit p s = analyze (game sc) unlimited limit p s .memory .count
 
--- x answers a search of p to a limit of k + 1: it is not stopped, and its score is plain minimax's to that limit, attained by its first move, which is
--- listed, and by its variation, whose moves are accepted
+-- x answers a search of p to a limit of k + 1: it is not stopped, and its score is plain minimax's to that limit, attained by its first
+-- move, which is listed, and by its variation, whose moves are accepted
 pub record AnswersWhole (sc : Scoring) (k : ℕ) (p : Position) (x : SearchAnswer) : Type 0 where
   pub unmarked : T (not (x .is-stopped))
   pub right : AttainsMinimax (game sc) k p (x .completed)
   pub first-attains : FirstAttains (game sc) k p (x .completed .pv) (x .completed .score)
 
--- x answers a search of p, begun with the memory s, that was stopped inside such a limit with its allowance of n spent: it is right so for the last
--- completed depth, and nothing where there is none
+-- x answers a search of p, begun with the memory s, that was stopped inside such a limit with its allowance of n spent: it is right so for
+-- the last completed depth, and nothing where there is none
 pub record AnswersSpent (sc : Scoring) (n k : ℕ) (p : Position) (s : Memory) (x : SearchAnswer) : Type 0 where
   pub marked : T (x .is-stopped)
   pub counted : x .memory .count ≡ n

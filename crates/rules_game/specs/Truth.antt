@@ -12,6 +12,8 @@ use Rattle.rules_game.specs.RulesGame.{plain-minimax, win-for}
 
 pub record StatusTells (p : Position) : Type 0 where
   -- a side that it leaves alone, without a draw, wins at every depth of three or more
-  pub alone-wins : (w : Player) → T (alone (analysis p .status) w) → (d : ℕ) → 3 ≤ d → plain-minimax no-draw-winner d p ≡ win-for w p
+  pub alone-wins : (w : Player) → T (alone (analysis p .status) w) → (d : ℕ) → 3 ≤ d →
+      plain-minimax no-draw-winner d p ≡ win-for w p
   -- a side that it leaves out wins at no depth
-  pub left-out-never : (w : Player) → T (not (allows (analysis p .status) w)) → (d : ℕ) → plain-minimax no-draw-winner d p ≡ win-for w p → ⊥
+  pub left-out-never : (w : Player) → T (not (allows (analysis p .status) w)) → (d : ℕ) →
+      plain-minimax no-draw-winner d p ≡ win-for w p → ⊥

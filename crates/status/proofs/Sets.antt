@@ -54,7 +54,8 @@ next-bit-test n =
     min-zero d = omega arith
 
 -- the bytes of two sets have the byte of their common part in common
-pub bytes-in-common : (s t : Status) → bitAnd (as-byte s) (as-byte t) ≡ as-byte (record { x = s .x && t .x; o = s .o && t .o; draw = s .draw && t .draw })
+pub bytes-in-common : (s t : Status) → bitAnd (as-byte s) (as-byte t) ≡ as-byte
+    (record { x = s .x && t .x; o = s .o && t .o; draw = s .draw && t .draw })
 bytes-in-common s t = eqb→eq _ _ (always 6 common tt (s .x) (s .o) (s .draw) (t .x) (t .o) (t .draw))
   where
     common : Bool → Bool → Bool → Bool → Bool → Bool → Bool

@@ -31,18 +31,23 @@ written words i h e = set (set (set words i h) (i + 1) (to-word (e .value))) (i 
 module _ (words : List ℕ) (h : ℕ) (k : length words < 3) where
   pub look-up-off : look-up words h ≡ none
   unfolding look-up off
-  look-up-off = if-ind (λ (o : Option Entry). o ≡ none) (ltb (length words) 3) _ _ (λ _. refl) (λ t. absurd (omega (arith, nltb→le (length words) 3 t)))
+  look-up-off =
+      if-ind (λ (o : Option Entry). o ≡ none) (ltb (length words) 3) _ _ (λ _. refl)
+      (λ t. absurd (omega (arith, nltb→le (length words) 3 t)))
 
   pub store-off : (e : Entry) → store words h e ≡ words
   unfolding store off
-  store-off e = if-ind (λ (l : List ℕ). l ≡ words) (ltb (length words) 3) _ _ (λ _. refl) (λ t. absurd (omega (arith, nltb→le (length words) 3 t)))
+  store-off e =
+      if-ind (λ (l : List ℕ). l ≡ words) (ltb (length words) 3) _ _ (λ _. refl)
+      (λ t. absurd (omega (arith, nltb→le (length words) 3 t)))
 
 -- ---- one that is on, where the words of a hash begin at i
 module _ (words : List ℕ) (h i : ℕ) (k : 3 ≤ length words) (at : i ≡ begins (length words) h) where
   look-up-on : look-up words h ≡ (if eqb (getD words i 0) h then (λ _. held-at words i) else λ _. none)
   unfolding look-up off
   look-up-on =
-      if-ind (λ (o : Option Entry). o ≡ (if eqb (getD words i 0) h then (λ _. held-at words i) else λ _. none)) (ltb (length words) 3) _ _
+      if-ind (λ (o : Option Entry). o ≡ (if eqb (getD words i 0) h then (λ _. held-at words i) else λ _. none)) (ltb (length words) 3)
+      _ _
       (λ t. absurd (omega (arith, ltb→lt (length words) 3 t)))
       (λ _. ap (λ (j : ℕ). if eqb (getD words j 0) h then (λ _. held-at words j) else λ _. none) (sym at))
 
@@ -59,7 +64,8 @@ module _ (words : List ℕ) (h i : ℕ) (k : 3 ≤ length words) (at : i ≡ beg
     store-on : store words h e ≡ (if replaces (e .depth) (held-at words i) then (λ _. written words i h e) else λ _. words)
     unfolding store off
     store-on =
-        if-ind (λ (l : List ℕ). l ≡ (if replaces (e .depth) (held-at words i) then (λ _. written words i h e) else λ _. words)) (ltb (length words) 3) _ _
+        if-ind (λ (l : List ℕ). l ≡ (if replaces (e .depth) (held-at words i) then (λ _. written words i h e) else λ _. words))
+        (ltb (length words) 3) _ _
         (λ t. absurd (omega (arith, ltb→lt (length words) 3 t)))
         (λ _. ap (λ (j : ℕ). if replaces (e .depth) (held-at words j) then (λ _. written words j h e) else λ _. words) (sym at))
 
@@ -72,7 +78,8 @@ module _ (words : List ℕ) (h i : ℕ) (k : 3 ≤ length words) (at : i ≡ beg
     store-taken r = store-on ∙ rw r
 
     -- the same, where the two words are known by equations
-    pub store-wrote : (v r : ℕ) → v ≡ to-word (e .value) → r ≡ rest-of e → replaces (e .depth) (held-at words i) ≡ true → set (set (set words i h) (i + 1) v) (i + 2) r ≡ store words h e
+    pub store-wrote : (v r : ℕ) → v ≡ to-word (e .value) → r ≡ rest-of e → replaces (e .depth) (held-at words i) ≡ true →
+        set (set (set words i h) (i + 1) v) (i + 2) r ≡ store words h e
     store-wrote v r p q t = ap₂ (λ (x y : ℕ). set (set (set words i h) (i + 1) x) (i + 2) y) p q ∙ sym (store-taken t)
 
 -- ---- the one after the other
@@ -104,7 +111,8 @@ module _ (words : List ℕ) (i h : ℕ) (e : Entry) (k : i + 2 < length words) w
       ∙ entry-back e f
 
 -- an entry that was stored is found
-pub look-up-stored : (words : List ℕ) (h : ℕ) (e : Entry) → 3 ≤ length words → Kept e → replaces (e .depth) (held-at words (begins (length words) h)) ≡ true → look-up (store words h e) h ≡ some e
+pub look-up-stored : (words : List ℕ) (h : ℕ) (e : Entry) → 3 ≤ length words → Kept e →
+    replaces (e .depth) (held-at words (begins (length words) h)) ≡ true → look-up (store words h e) h ≡ some e
 look-up-stored words h e k f r =
     let i = begins (length words) h in
     ap (λ (w : List ℕ). look-up w h) (store-taken words h i k refl e r) ∙ found words i h e (begins-within (length words) h k) k refl f

@@ -29,11 +29,15 @@ module _ (z : ℤ) (f : SFits w64 z) where
 
 pub value-low : (w : ℕ) → w < 9223372036854775808 → from-word w ≡ pos w
 unfolding from-word
-value-low w h = if-ind (λ (z : ℤ). z ≡ pos w) (ltb w 9223372036854775808) _ _ (λ _. refl) (λ t. absurd (omega (arith, nltb→le w 9223372036854775808 t)))
+value-low w h =
+    if-ind (λ (z : ℤ). z ≡ pos w) (ltb w 9223372036854775808) _ _ (λ _. refl)
+    (λ t. absurd (omega (arith, nltb→le w 9223372036854775808 t)))
 
 pub value-high : (w : ℕ) → 9223372036854775808 ≤ w → from-word w ≡ negsuc (18446744073709551615 - w)
 unfolding from-word
-value-high w h = if-ind (λ (z : ℤ). z ≡ negsuc (18446744073709551615 - w)) (ltb w 9223372036854775808) _ _ (λ t. absurd (omega (arith, ltb→lt w 9223372036854775808 t))) (λ _. refl)
+value-high w h =
+    if-ind (λ (z : ℤ). z ≡ negsuc (18446744073709551615 - w)) (ltb w 9223372036854775808) _ _
+    (λ t. absurd (omega (arith, ltb→lt w 9223372036854775808 t))) (λ _. refl)
 
 -- the word of a number that 64 bits hold says that number
 pub value-back : (z : ℤ) → negsuc 9223372036854775807 ≤ℤ z → z ≤ℤ pos 9223372036854775807 → from-word (to-word z) ≡ z
@@ -59,7 +63,9 @@ pub record Kept (e : Entry) : Type 0 where
   pub value-most : e .value ≤ℤ highest
 
 abbrev kept : Entry → Bool
-kept e = ltb 0 (e .depth) && (leb (e .depth) 81 && (leb (e .bound) 2 && (leb (e .move) 255 && (leZ lowest (e .value) && leZ (e .value) highest))))
+kept e =
+    ltb 0 (e .depth) && (leb (e .depth) 81 &&
+    (leb (e .bound) 2 && (leb (e .move) 255 && (leZ lowest (e .value) && leZ (e .value) highest))))
 
 kept→ : (e : Entry) → T (kept e) → Kept e
 kept→ e t =
@@ -104,7 +110,9 @@ module _ (value rest : ℕ) where
   -- two words that say an entry that is kept are that entry
   pub present : (e : Entry) → Kept e → e ≡ says → some e ≡ entry-of value rest
   unfolding entry-of
-  present e k s = ap some s ∙ if-ind (λ (o : Option Entry). some says ≡ o) (kept says) _ _ (λ _. refl) (λ t. absurd (T-not (kept says) t (→kept says (subst Kept s k))))
+  present e k s =
+      ap some s ∙ if-ind (λ (o : Option Entry). some says ≡ o) (kept says) _ _ (λ _. refl)
+      (λ t. absurd (T-not (kept says) t (→kept says (subst Kept s k))))
 
 -- entries with the same four parts are the same
 pub same-entry : {v v' : ℤ} {d d' b b' m m' : ℕ} → v ≡ v' → d ≡ d' → b ≡ b' → m ≡ m' →

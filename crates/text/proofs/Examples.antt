@@ -17,7 +17,8 @@ use Rattle.rules.specs.Board.{has-line, result}
 use Rattle.rules.specs.Position.{Position, start}
 use Rattle.rules.specs.Hash.{cell-key, board-key, next-board-key, xors, cells-hash, board-hash, hash}
 use Rattle.text.specs.Bytes.{semicolon}
-use Rattle.text.specs.Reading.{Reading, reads, refuses, side-of, overall-mark, cell-mark, sections, first-bad, last-at, fault-at, first-fault, cell-in, state-in, said, read-cells, read-overall, read}
+use Rattle.text.specs.Reading.{Reading, reads, refuses, side-of, overall-mark, cell-mark, sections, first-bad, last-at, fault-at}
+use Rattle.text.specs.Reading.{first-fault, cell-in, state-in, said, read-cells, read-overall, read}
 use Rattle.text.specs.Writing.{overall-byte, board-text, joined-by, text-of}
 use Rattle.text.specs.MoveText.{reads-move, bad-length, bad-character, read-letters, read-move, move-text}
 use Rattle.text.proofs.WritingRoundTrip.{start-is-written, read-after-write}
@@ -45,7 +46,8 @@ abbrev pub seen : Reading → Option Seen
 seen r = told (λ p. record { text = text-of p; state = p .state; next-board = p .next-board; hash = hash p }) r
 
 reading : Unit {0}
-unfolding bytes read sections read-overall first-bad read-cells first-fault fault-at side-of overall-mark cell-mark said last-at cell-in state-in result has-line any if_then_else_
+unfolding bytes read sections read-overall first-bad read-cells first-fault fault-at side-of overall-mark cell-mark said last-at cell-in
+    state-in result has-line any if_then_else_
 reading = tt
 
 seeing : Unit {0}

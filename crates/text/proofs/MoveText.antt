@@ -25,17 +25,20 @@ coordinate→ c t = let r = and→ (leb first-letter c) _ t in record { low = le
 
 -- the cases of two letters: both good, the first bad, or only the second
 pub letters-cases {κ} : (P : MoveReading → Type κ) (b c : ℕ) →
-    (Lettered b → Lettered c → P (reads-move (move-of (b - 0x61) (c - 0x61)))) → ((Lettered b → ⊥) → P (bad-character b)) → (Lettered b → (Lettered c → ⊥) → P (bad-character c)) →
+    (Lettered b → Lettered c → P (reads-move (move-of (b - 0x61) (c - 0x61)))) → ((Lettered b → ⊥) → P (bad-character b)) →
+    (Lettered b → (Lettered c → ⊥) → P (bad-character c)) →
     P (read-letters b c)
 unfolding read-letters
 letters-cases P b c f g h = if-ind P (coordinate b) _ _
-    (λ t. if-ind P (coordinate c) _ _ (λ u. f (coordinate→ b t) (coordinate→ c u)) (λ n. h (coordinate→ b t) (λ l. T-not (coordinate c) n (→coordinate c l))))
+    (λ t. if-ind P (coordinate c) _ _ (λ u. f (coordinate→ b t) (coordinate→ c u))
+    (λ n. h (coordinate→ b t) (λ l. T-not (coordinate c) n (→coordinate c l))))
     (λ n. g (λ l. T-not (coordinate b) n (→coordinate b l)))
 
 -- ---- a move, written and read
 -- every move of a board and a cell below 9 reads back as itself
 pub move-reads-back : (b c : ℕ) → b < 9 → c < 9 → read-move (move-text (move-of b c)) ≡ reads-move (move-of b c)
-move-reads-back b c h k = letters-cases (λ r. r ≡ reads-move (move-of b c)) (first-letter + board-of (move-of b c)) (first-letter + cell-of (move-of b c))
+move-reads-back b c h k =
+    letters-cases (λ r. r ≡ reads-move (move-of b c)) (first-letter + board-of (move-of b c)) (first-letter + cell-of (move-of b c))
     (λ _ _. ap reads-move (omega arith)) (λ n. absurd (n (omega arith))) (λ _ n. absurd (n (omega arith)))
 
 -- m is in one of the nine cells of one of the nine boards, and t is its text
@@ -53,7 +56,11 @@ read-move-says : (t : List ℕ) → Says t (read-move t)
 read-move-says [] = tt
 read-move-says (b ∷ []) = tt
 read-move-says (b ∷ c ∷ []) = letters-cases (Says (b ∷ c ∷ [])) b c
-    (λ x y. record { board = omega arith; cell = omega arith; text-is = ap₂ (λ (i j : ℕ). i ∷ j ∷ []) (omega arith) (omega arith) }) (λ _. tt) (λ _ _. tt)
+    (λ x y. record {
+      board = omega arith;
+      cell = omega arith;
+      text-is = ap₂ (λ (i j : ℕ). i ∷ j ∷ []) (omega arith) (omega arith);
+    }) (λ _. tt) (λ _ _. tt)
 read-move-says (b ∷ c ∷ d ∷ cs) = tt
 
 -- only such moves are read

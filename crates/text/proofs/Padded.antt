@@ -28,7 +28,8 @@ set-padded n xs b = go (decLe (length xs) n)
     go (yes h) = let e : min (length xs) n ≡ length xs = omega arith in rw e (set-next n xs b)
     go (no h) =
         let l = length-padded n xs in
-        set-out (padded n xs) (min (length xs) n) b (omega arith) ∙ sym (set-out (padded n xs) (length xs) b (omega arith)) ∙ set-next n xs b
+        set-out (padded n xs) (min (length xs) n) b (omega arith) ∙ sym (set-out (padded n xs) (length xs) b (omega arith))
+        ∙ set-next n xs b
 
 pub padded-full : (n : ℕ) (xs ys : List ℕ) → n ≤ length xs → padded n (xs ++ ys) ≡ padded n xs
 unfolding padded

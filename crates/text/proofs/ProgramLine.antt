@@ -16,7 +16,9 @@ use Rattle.rules.specs.declared.Player.the-variants.{X}
 use Rattle.rules.specs.Status.{Status, unproven, for-player}
 use Rattle.rules.specs.Play.{no-move}
 use Rattle.text.specs.Bytes.{space, first-digit}
-use Rattle.text.specs.ProgramLine.{Parted, no-blank, around, parted-with, parted, depth-of, no-depth, asks, asked, in-places, decimal, signed, shown, status-letters, move-letters, or-minus, moves-text, spaced, answer-text, refusal-text}
+use Rattle.text.specs.ProgramLine.{Parted, no-blank, around, parted-with, parted, depth-of, no-depth, asks, asked, in-places}
+use Rattle.text.specs.ProgramLine.{decimal, signed, shown, status-letters, move-letters, or-minus, moves-text, spaced, answer-text}
+use Rattle.text.specs.ProgramLine.{refusal-text}
 use Rattle.text.proofs.Examples.{bytes}
 
 computing : Unit {0}
@@ -90,9 +92,14 @@ parted-other (c ∷ cs) b n = ap (parted-with c (cs ++ (b ∷ []))) (parted-othe
 in-places-short : (f k n : ℕ) → n < 10 ^ suc k → length (in-places f n) ≤ suc k
 unfolding in-places
 in-places-short zero k n h = omega arith
-in-places-short (suc f) zero n h = if-ind (λ (t : List ℕ). length t ≤ 1) (ltb n 10) _ _ (λ _. omega arith) (λ t. absurd (omega (arith, nltb→le n 10 t)))
+in-places-short (suc f) zero n h =
+    if-ind (λ (t : List ℕ). length t ≤ 1) (ltb n 10) _ _ (λ _. omega arith) (λ t. absurd (omega (arith, nltb→le n 10 t)))
 in-places-short (suc f) (suc k) n h = if-ind (λ (t : List ℕ). length t ≤ suc (suc k)) (ltb n 10) _ _ (λ _. omega arith)
-    (λ _. let p = pow-suc 10 (suc k) in omega (arith, in-places-short f k (n / 10) (omega arith), length-append (in-places f (n / 10)) ((first-digit + n % 10) ∷ [])))
+    (λ _. let p = pow-suc 10 (suc k) in omega (
+      arith,
+      in-places-short f k (n / 10) (omega arith),
+      length-append (in-places f (n / 10)) ((first-digit + n % 10) ∷ []),
+    ))
 
 pub decimal-short : (k n : ℕ) → n < 10 ^ suc k → length (decimal n) ≤ suc k
 unfolding decimal
@@ -104,7 +111,15 @@ signed-short k (pos n) h = omega (arith, decimal-short k n h)
 signed-short k (negsuc n) h = omega (arith, decimal-short k (suc n) h)
 
 status-short : (s : Status) → length (status-letters s) ≤ 3
-status-short s = omega (arith, length-append (shown (s .x) 88) (shown (s .o) 79 ++ shown (s .draw) 68), length-append (shown (s .o) 79) (shown (s .draw) 68), one (s .x) 88, one (s .o) 79, one (s .draw) 68)
+status-short s =
+    omega (
+      arith,
+      length-append (shown (s .x) 88) (shown (s .o) 79 ++ shown (s .draw) 68),
+      length-append (shown (s .o) 79) (shown (s .draw) 68),
+      one (s .x) 88,
+      one (s .o) 79,
+      one (s .draw) 68,
+    )
   where
     one : (b : Bool) (c : ℕ) → length (shown b c) ≤ 1
     one true c = omega arith
@@ -113,7 +128,9 @@ status-short s = omega (arith, length-append (shown (s .x) 88) (shown (s .o) 79 
 letters-short : (ms : List ℕ) → length (move-letters ms) ≤ 2 * length ms
 unfolding move-letters
 letters-short [] = omega arith
-letters-short (m ∷ ms) = if-ind (λ (t : List ℕ). length t ≤ 2 * suc (length ms)) (eqb m no-move) _ _ (λ _. omega arith) (λ _. omega (arith, letters-short ms))
+letters-short (m ∷ ms) =
+    if-ind (λ (t : List ℕ). length t ≤ 2 * suc (length ms)) (eqb m no-move) _ _ (λ _. omega arith)
+    (λ _. omega (arith, letters-short ms))
 
 joined-short : (ms : List ℕ) → length ms ≤ 81 → length (moves-text ms) ≤ 162
 joined-short ms h = go (move-letters ms) (omega (arith, letters-short ms))
@@ -126,7 +143,8 @@ spaced-length : (t u : List ℕ) (us : List (List ℕ)) → length (spaced (t �
 spaced-length t u us = length-append t (space ∷ spaced (u ∷ us))
 
 -- the longest answer
-pub answer-short : (s : Status) (legal depth : ℕ) (score : ℤ) (count : ℕ) (line : List ℕ) → legal < 10 ^ 2 → depth < 10 ^ 2 → natAbs score < 10 ^ 19 → count < 10 ^ 7 → length line ≤ 81 →
+pub answer-short : (s : Status) (legal depth : ℕ) (score : ℤ) (count : ℕ) (line : List ℕ) → legal < 10 ^ 2 → depth < 10 ^ 2 →
+    natAbs score < 10 ^ 19 → count < 10 ^ 7 → length line ≤ 81 →
     length (answer-text s legal depth score count line) ≤ 201
 answer-short s legal depth score count line a b c d e =
     omega (

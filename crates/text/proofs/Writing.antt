@@ -70,4 +70,5 @@ cells-have-89-bytes p = ap length (cells-are-bytes p) ∙ run-length (cells-byte
 
 -- what stands at each place of them
 pub cells-at : (p : Position) (k : ℕ) → k < 89 → getD (cells-of p) k 0 ≡ cells-byte p k
-cells-at p k h = ap (λ (t : List ℕ). getD t k 0) (cells-are-bytes p) ∙ run-at (cells-byte p) 0 0 89 k h ∙ ap (cells-byte p) (omega arith)
+cells-at p k h =
+    ap (λ (t : List ℕ). getD t k 0) (cells-are-bytes p) ∙ run-at (cells-byte p) 0 0 89 k h ∙ ap (cells-byte p) (omega arith)

@@ -30,11 +30,15 @@ use Rattle.rules.proofs.Board.{other-other}
 use Rattle.rules.proofs.Play.{same-position, Legal}
 use Rattle.rules.proofs.Sound.{row, made, after-is-proper, start-is-proper, tried-keeps}
 use Rattle.text.specs.Bytes.{semicolon, at-mark, letter}
-use Rattle.text.specs.Reading.{reads, side-of, overall-mark, cell-mark, sections, first-bad, last-at, fault-at, first-fault, cell-in, state-in, said, read}
+use Rattle.text.specs.Reading.{reads, side-of, overall-mark, cell-mark, sections, first-bad, last-at, fault-at, first-fault}
+use Rattle.text.specs.Reading.{cell-in, state-in, said, read}
 use Rattle.text.specs.Writing.{state-byte, cell-byte, overall-byte, text-of, cells-byte, byte-at}
-use Rattle.text.proofs.ReadingScan.{if-equal, Clear, three-sections, →none-bad, last-at-none, last-at-is, slash-stands, cell-stands, no-fault}
-use Rattle.text.proofs.Reading.{good, answer-is-read, state-in-at, cell-in-at, Filled, said-fills, LeftByOther, read-is-proper, read-fills-the-board, read-looks-at-the-mover}
-use Rattle.text.proofs.Writing.{slash-every-tenth, cell-elsewhere, text-has-101-bytes, text-at, marks-of, marks-at, cells-of, cells-have-89-bytes, cells-at}
+use Rattle.text.proofs.ReadingScan.{if-equal, Clear, three-sections, →none-bad, last-at-none, last-at-is, slash-stands}
+use Rattle.text.proofs.ReadingScan.{cell-stands, no-fault}
+use Rattle.text.proofs.Reading.{good, answer-is-read, state-in-at, cell-in-at, Filled, said-fills, LeftByOther, read-is-proper}
+use Rattle.text.proofs.Reading.{read-fills-the-board, read-looks-at-the-mover}
+use Rattle.text.proofs.Writing.{slash-every-tenth, cell-elsewhere, text-has-101-bytes, text-at, marks-of, marks-at, cells-of}
+use Rattle.text.proofs.Writing.{cells-have-89-bytes, cells-at}
 
 -- ---- each byte reads as what it was written for
 side-reads : (w : Player) → side-of (letter w) ≡ some w
@@ -85,11 +89,13 @@ overall-is-plain p b = if-ind Plain (same-next-board (p .next-board) (Only b)) _
 
 cells-are-plain : (p : Position) (k : ℕ) → Plain (cells-byte p k)
 unfolding cells-byte
-cells-are-plain p k = if-equal Plain (k % 10) 9 _ _ (λ _ e. omega arith) (λ _. cell-differs semicolon (lit< tt) (lit< tt) (p .cells (k / 10) (k % 10)))
+cells-are-plain p k =
+    if-equal Plain (k % 10) 9 _ _ (λ _ e. omega arith) (λ _. cell-differs semicolon (lit< tt) (lit< tt) (p .cells (k / 10) (k % 10)))
 
 byte-is-plain : (p : Position) (i : ℕ) → (i ≡ 1 → ⊥) → (i ≡ 11 → ⊥) → Plain (byte-at p i)
 unfolding byte-at
-byte-is-plain p i n m = if-equal Plain i 0 _ _ (λ _. letter-differs semicolon (lit< tt) (lit< tt) (p .turn)) (λ _. if-ind Plain (eqb i 1 || eqb i 11) _ _
+byte-is-plain p i n m =
+    if-equal Plain i 0 _ _ (λ _. letter-differs semicolon (lit< tt) (lit< tt) (p .turn)) (λ _. if-ind Plain (eqb i 1 || eqb i 11) _ _
     (λ t. absurd (elim (or→ (eqb i 1) _ t) [ inl u ↦ n (eqb→eq i 1 u) | inr u ↦ m (eqb→eq i 11 u) ]))
     (λ _. if-ind Plain (ltb i 11) _ _ (λ _. overall-is-plain p (i - 2)) (λ _. cells-are-plain p (i - 12))))
 
@@ -97,9 +103,11 @@ text-parts : (p : Position) → sections (text-of p) ≡ (letter (p .turn) ∷ [
 unfolding text-of
 text-parts p =
     let n = text-has-101-bytes p in
-    three-sections (text-of p) 1 11 (lit< tt) (omega arith) (clear 0 1 (omega arith)) refl (clear 2 11 (omega arith)) refl (clear 12 (length (text-of p)) (omega arith))
+    three-sections (text-of p) 1 11 (lit< tt) (omega arith) (clear 0 1 (omega arith)) refl (clear 2 11 (omega arith)) refl
+    (clear 12 (length (text-of p)) (omega arith))
   where
-    clear : (i j : ℕ) → ((k : ℕ) → i ≤ k → k < j → (k ≡ 1 → ⊥) × (k ≡ 11 → ⊥) × (k < 101)) → Clear (text-of p) i j
+    clear : (i j : ℕ) → ((k : ℕ) → i ≤ k → k < j → (k ≡ 1 → ⊥) × (k ≡ 11 → ⊥) × (k < 101)) →
+        Clear (text-of p) i j
     clear i j f k a b e = let r = f k a b in byte-is-plain p k (r .0) (r .1) (sym (text-at p k (r .2)) ∙ e)
 
 -- ---- the board that is due, and no other, has an `@`
@@ -133,7 +141,9 @@ cells-are-faultless p = no-fault (cells-of p) 0 89 (λ i _ h. go i (omega arith)
   where
     go : (i : ℕ) → i < 89 → Dec (i % 10 ≡ 9) → fault-at (cells-of p) i ≡ 0
     go i h (yes e) = slash-stands (cells-of p) i e (omega (arith, cells-have-89-bytes p)) (cells-at p i h ∙ slash-every-tenth p i e)
-    go i h (no n) = cell-stands (cells-of p) i n (omega (arith, cells-have-89-bytes p)) (rw (cells-at p i h, cell-elsewhere p i n, cell-reads (p .cells (i / 10) (i % 10))) tt)
+    go i h (no n) =
+        cell-stands (cells-of p) i n (omega (arith, cells-have-89-bytes p))
+        (rw (cells-at p i h, cell-elsewhere p i n, cell-reads (p .cells (i / 10) (i % 10))) tt)
 
 module _ (p : Position) (z : Written p) where
   due-is-open : T (next-board-open p (p .next-board))
@@ -177,8 +187,10 @@ module _ (p : Position) (z : Written p) where
 
   cell-back : (b c : ℕ) → b < 9 → c < 9 → cell-in (cells-of p) b c ≡ p .cells b c
   cell-back b c h k =
-      let i : 10 * b + c < 89 = omega arith in let n : (10 * b + c) / 10 ≡ b = omega arith in let m : (10 * b + c) % 10 ≡ c = omega arith in
-      cell-in-at (cells-of p) b c h k (omega (arith, cells-have-89-bytes p)) ∙ rw (cells-at p (10 * b + c) i, cell-elsewhere p (10 * b + c) (omega arith), n, m, cell-reads (p .cells b c))
+      let i : 10 * b + c < 89 = omega arith in let n : (10 * b + c) / 10 ≡ b = omega arith in
+      let m : (10 * b + c) % 10 ≡ c = omega arith in
+      cell-in-at (cells-of p) b c h k (omega (arith, cells-have-89-bytes p))
+      ∙ rw (cells-at p (10 * b + c) i, cell-elsewhere p (10 * b + c) (omega arith), n, m, cell-reads (p .cells b c))
 
   cells-back : (b c : ℕ) → cell-in (cells-of p) b c ≡ p .cells b c
   unfolding said
@@ -193,12 +205,14 @@ module _ (p : Position) (z : Written p) where
   said-back : said (p .turn) (marks-of p) (cells-of p) ≡ p
   unfolding said
   said-back = same-position (said (p .turn) (marks-of p) (cells-of p)) p refl due-back cells-back states-back
-      (ap (λ (f : ℕ → GameState). result (other (p .turn)) (λ b. won-by (other (p .turn)) (f b)) (λ b. in-play (f b))) (fun-ext states-back) ∙ sym (z .left-by-other))
+      (ap (λ (f : ℕ → GameState). result (other (p .turn)) (λ b. won-by (other (p .turn)) (f b)) (λ b. in-play (f b)))
+      (fun-ext states-back) ∙ sym (z .left-by-other))
 
   -- what is written reads back as it was
   pub read-after-write : read (text-of p) ≡ reads p
   read-after-write = answer-is-read (good {w = p .turn} (record {
-    sided = record { parted = record { short = omega (arith, text-has-101-bytes p); parts = text-parts p }; letter-is = side-reads (p .turn) };
+    sided =
+        record { parted = record { short = omega (arith, text-has-101-bytes p); parts = text-parts p }; letter-is = side-reads (p .turn) };
     nine-marks = refl;
     none-bad = marks-are-known;
   }) (cells-are-faultless p)) ∙ ap reads said-back
@@ -206,19 +220,27 @@ module _ (p : Position) (z : Written p) where
 -- ---- what is read, and what is played
 -- what is read can be written
 pub read-is-written : (t : List ℕ) (p : Position) → read t ≡ reads p → Written p
-read-is-written t p e = record { is-proper = read-is-proper t p e; left-by-other = read-looks-at-the-mover t p e; filled = read-fills-the-board t p e }
+read-is-written t p e =
+    record { is-proper = read-is-proper t p e; left-by-other = read-looks-at-the-mover t p e; filled = read-fills-the-board t p e }
 
 -- so can the empty board
 pub start-is-written : Written start
 unfolding result has-line any if_then_else_
-start-is-written = record { is-proper = start-is-proper; left-by-other = refl; filled = record { board-over = λ _ _ _. refl; cell-over = λ _ _ _. refl; state-over = λ _ _. refl } }
+start-is-written =
+    record {
+      is-proper = start-is-proper;
+      left-by-other = refl;
+      filled = record
+          { board-over = λ _ _ _. refl; cell-over = λ _ _ _. refl; state-over = λ _ _. refl };
+    }
 
 after-is-filled : (p : Position) (b c : ℕ) → Legal p b c → Filled p → Filled (after p b c)
 unfolding after
 after-is-filled p b c l f = record {
   board-over = λ i j h. update-off (λ r. r j ≡ Empty) (p .cells) b (row p b c) i (λ e. omega (arith, l .board)) (f .board-over i j h);
   cell-over = λ i j h. update-ind (λ r. r j ≡ Empty) (p .cells) b (row p b c) i
-      (λ _. update-off (λ s. s ≡ Empty) (p .cells b) c (Played (p .turn)) j (λ e. omega (arith, l .cell)) (f .cell-over b j h)) (f .cell-over i j h);
+      (λ _. update-off (λ s. s ≡ Empty) (p .cells b) c (Played (p .turn)) j (λ e. omega (arith, l .cell)) (f .cell-over b j h))
+      (f .cell-over i j h);
   state-over = λ i h. update-off (λ g. g ≡ InPlay) (p .states) b (made p b c) i (λ e. omega (arith, l .board)) (f .state-over i h);
 }
 

@@ -91,7 +91,8 @@ unfoldable pub first-fault : List ℕ → List ℕ → ℕ
 first-fault cs [] = 0
 first-fault cs (i ∷ is) = let f = fault-at cs i in if eqb f 0 then (λ _. first-fault cs is) else λ _. f
 
--- ---- the position that three good sections say: the overall marks are taken on trust, and only the lines of the side not to move are looked at
+-- ---- the position that three good sections say: the overall marks are taken on trust, and only the lines of the side not to move are
+-- looked at
 unfoldable pub cell-in : List ℕ → ℕ → ℕ → CellState
 cell-in cs b c = if ltb b 9 && ltb c 9 then (λ _. or-else (cell-mark (getD cs (10 * b + c) dot)) Empty) else λ _. Empty
 

@@ -1,5 +1,6 @@
--- The allowance: a search that may enter n positions is the unlimited one if that one enters no more, and else stops with n counted, at what the
--- unlimited one answers for the last depth that n positions reach. Both take the same steps up to the position that is one too many.
+-- The allowance: a search that may enter n positions is the unlimited one if that one enters no more, and else stops with n counted, at
+-- what the unlimited one answers for the last depth that n positions reach. Both take the same steps up to the position that is one too
+-- many.
 use mathlib.Core.Path.{_≡_, refl, sym, ap, _∙_, subst}
 use mathlib.Core.Bool.{Bool, true, false, not, _&&_}
 use mathlib.Core.List.{List, [], _∷_, _++_}
@@ -18,7 +19,9 @@ use Rattle.rules.specs.Play.{no-move}
 use Rattle.theory.specs.Game.{Game}
 use Rattle.theory.specs.PlainMinimax.{lowest, highest}
 use Rattle.theory.specs.Memory.{Memory, begin, enter, leaf, cut}
-use Rattle.theory.specs.OrderedSearch.{Allowance, unlimited, at-most, Outcome, stopped, found, unless-stopped, entering, Probed, known, missed, probe, on-probe, set-first, with-stored, candidates, Search, over-moves, search}
+use Rattle.theory.specs.OrderedSearch.{Allowance, unlimited, at-most, Outcome, stopped, found, unless-stopped, entering, Probed}
+use Rattle.theory.specs.OrderedSearch.{known, missed, probe, on-probe, set-first, with-stored, candidates, Search, over-moves}
+use Rattle.theory.specs.OrderedSearch.{search}
 use Rattle.theory.specs.Deepening.{Completed, nothing-yet, one-deeper, SearchAnswer, decided, on-outcome, deepen, analyze}
 use Rattle.theory.specs.Variation.{AttainsMinimax}
 use Rattle.theory.specs.Allowance.{StopsAtAllowance, LimitedBeside}
@@ -47,15 +50,20 @@ module _ (n : ℕ) where
   agree-from : (s s' : Memory) (u o : Outcome) → s' .count ≡ s .count → Agree s' u o → Agree s u o
   unfolding Agree
   agree-from s s' (stopped z) o e w = w
-  agree-from s s' (found r pv z) o e w = record { grows = omega (arith, w .grows); same = w .same; stops = λ i j. w .stops (omega arith) j }
+  agree-from s s' (found r pv z) o e w =
+      record { grows = omega (arith, w .grows); same = w .same; stops = λ i j. w .stops (omega arith) j }
 
-  agree-probe : (s : Memory) (x : Probed) (fu fo : ℤ → ℕ → Memory → Outcome) (ku ko : List ℕ → Memory → Outcome) → Leaves (λ z. z .count ≡ s .count) x →
-      ((v : ℤ) (m : ℕ) (s' : Memory) → Agree s' (fu v m s') (fo v m s')) → ((ms : List ℕ) (s' : Memory) → Agree s' (ku ms s') (ko ms s')) → Agree s (on-probe x fu ku) (on-probe x fo ko)
+  agree-probe : (s : Memory) (x : Probed) (fu fo : ℤ → ℕ → Memory → Outcome) (ku ko : List ℕ → Memory → Outcome) →
+      Leaves (λ z. z .count ≡ s .count) x →
+      ((v : ℤ) (m : ℕ) (s' : Memory) → Agree s' (fu v m s') (fo v m s')) →
+      ((ms : List ℕ) (s' : Memory) → Agree s' (ku ms s') (ko ms s')) → Agree s (on-probe x fu ku) (on-probe x fo ko)
   unfolding on-probe
   agree-probe s (known v m s') fu fo ku ko e f k = agree-from s s' _ _ e (f v m s')
   agree-probe s (missed ms s') fu fo ku ko e f k = agree-from s s' _ _ e (k ms s')
 
-  agree-next : (s : Memory) (u o : Outcome) (ku ko : ℤ → List ℕ → Memory → Outcome) → Agree s u o → ((r : ℤ) (pv : List ℕ) (s' : Memory) → Agree s' (ku r pv s') (ko r pv s')) → Agree s (unless-stopped u ku) (unless-stopped o ko)
+  agree-next : (s : Memory) (u o : Outcome) (ku ko : ℤ → List ℕ → Memory → Outcome) → Agree s u o →
+      ((r : ℤ) (pv : List ℕ) (s' : Memory) → Agree s' (ku r pv s') (ko r pv s')) →
+      Agree s (unless-stopped u ku) (unless-stopped o ko)
   unfolding Agree unless-stopped
   agree-next s (stopped z) o ku ko h f = absurd h
   agree-next s (found r pv s') o ku ko h f = next (ku r pv s') (f r pv s')
@@ -75,7 +83,8 @@ module _ (n : ℕ) where
       }
 
   -- where the unlimited search enters a position, the limited one does so too, or stops before it
-  agree-entering : (s : Memory) (ku ko : Memory → Outcome) → ((s' : Memory) → Agree s' (ku s') (ko s')) → Agree s (entering unlimited s ku) (entering (at-most n) s ko)
+  agree-entering : (s : Memory) (ku ko : Memory → Outcome) → ((s' : Memory) → Agree s' (ku s') (ko s')) →
+      Agree s (entering unlimited s ku) (entering (at-most n) s ko)
   unfolding entering if_then_else_ Agree
   agree-entering s ku ko f = if-ind (Agree s (ku (enter s))) (ltb (s .count) n) _ _
       (λ t. both (ku (enter s)) (ltb→lt (s .count) n t) (f (enter s)))
@@ -83,13 +92,24 @@ module _ (n : ℕ) where
     where
       both : (v : Outcome) → s .count < n → Agree (enter s) v (ko (enter s)) → Agree s v (ko (enter s))
       both (stopped z) h w = w
-      both (found r pv s') h w = record { grows = omega (arith, w .grows, count-enter s); same = w .same; stops = λ i j. w .stops (omega (arith, count-enter s)) j }
+      both (found r pv s') h w =
+          record {
+            grows = omega (arith, w .grows, count-enter s);
+            same = w .same;
+            stops = λ i j. w .stops (omega (arith, count-enter s)) j;
+          }
 
       no-more : (v o : Outcome) → n ≤ s .count → Agree (enter s) v o → Agree s v (stopped s)
       no-more (stopped z) o h w = w
-      no-more (found r pv s') o h w = record { grows = omega (arith, w .grows, count-enter s); same = λ k. absurd (omega (arith, w .grows, count-enter s)); stops = λ i j. (s, refl, omega arith) }
+      no-more (found r pv s') o h w =
+          record {
+            grows = omega (arith, w .grows, count-enter s);
+            same = λ k. absurd (omega (arith, w .grows, count-enter s));
+            stops = λ i j. (s, refl, omega arith);
+          }
 
-  -- ---- depth after depth. y stopped with n counted, after fewer than k depths from w on; `upto j` is the unlimited search's answer to j depths
+  -- ---- depth after depth. y stopped with n counted, after fewer than k depths from w on; `upto j` is the unlimited search's answer to j
+  -- depths
   record Spent-at (k : ℕ) (w : Completed) (upto : ℕ → SearchAnswer) (y : SearchAnswer) : Type 0 where
     marked : T (y .is-stopped)
     counted : y .memory .count ≡ n
@@ -107,11 +127,13 @@ module _ (n : ℕ) where
     y-same : x .memory .count ≤ n → y ≡ x
     y-stops : s .count ≤ n → n < x .memory .count → Spent-at k w upto y
 
-  beside-whole : (k : ℕ) (w w' : Completed) (s : Memory) (upto : ℕ → SearchAnswer) → let x : SearchAnswer = record { is-stopped = false; completed = w'; memory = s } in Beside k w s upto x x
+  beside-whole : (k : ℕ) (w w' : Completed) (s : Memory) (upto : ℕ → SearchAnswer) → let x : SearchAnswer =
+      record { is-stopped = false; completed = w'; memory = s } in Beside k w s upto x x
   beside-whole k w w' s upto = record { x-grows = omega arith; x-whole = tt; y-same = λ _. refl; y-stops = λ h k. absurd (omega arith) }
 
   -- the depth after w came to w', and k depths more are as said
-  beside-suc : (k : ℕ) (w w' : Completed) (s : Memory) (upto' upto : ℕ → SearchAnswer) (x y : SearchAnswer) → w' .depth ≡ suc (w .depth) → ((j : ℕ) → upto' j ≡ upto (suc j)) → Beside k w' s upto' x y → Beside (suc k) w s upto x y
+  beside-suc : (k : ℕ) (w w' : Completed) (s : Memory) (upto' upto : ℕ → SearchAnswer) (x y : SearchAnswer) →
+      w' .depth ≡ suc (w .depth) → ((j : ℕ) → upto' j ≡ upto (suc j)) → Beside k w' s upto' x y → Beside (suc k) w s upto x y
   beside-suc k w w' s upto' upto x y e same h = record {
     x-grows = h .x-grows;
     x-whole = h .x-whole;
@@ -129,8 +151,10 @@ module _ (n : ℕ) where
   }
 
   module _ (G : Game) where
-    module _ (bu bo : Search G) (below : (p : G .Pos) (a b : ℤ) (pv : List ℕ) (m : ℕ) (s : Memory) → Agree s (bu p a b pv m s) (bo p a b pv m s)) (p : G .Pos) (b : ℤ) (prev : ℕ) where
-      agree-moves : (ms : List ℕ) (a : ℤ) (pv low : List ℕ) (s : Memory) → Agree s (over-moves G bu p b prev ms a pv low s) (over-moves G bo p b prev ms a pv low s)
+    module _ (bu bo : Search G) (below : (p : G .Pos) (a b : ℤ) (pv : List ℕ) (m : ℕ) (s : Memory) →
+        Agree s (bu p a b pv m s) (bo p a b pv m s)) (p : G .Pos) (b : ℤ) (prev : ℕ) where
+      agree-moves : (ms : List ℕ) (a : ℤ) (pv low : List ℕ) (s : Memory) →
+          Agree s (over-moves G bu p b prev ms a pv low s) (over-moves G bo p b prev ms a pv low s)
       unfolding over-moves
       agree-moves [] a pv low s = agree-found s a pv s refl
       agree-moves (m ∷ ms) a pv low s = agree-next s _ _ _ _ (below (G .play p m) (negℤ b) (negℤ a) low m s)
@@ -141,7 +165,8 @@ module _ (n : ℕ) where
           (λ _. agree-moves ms a pv low' s'))
 
     -- the unlimited search and the limited one, at every depth and window
-    agree : (d : ℕ) (p : G .Pos) (a b : ℤ) (pv : List ℕ) (prev : ℕ) (s : Memory) → Agree s (search G unlimited d p a b pv prev s) (search G (at-most n) d p a b pv prev s)
+    agree : (d : ℕ) (p : G .Pos) (a b : ℤ) (pv : List ℕ) (prev : ℕ) (s : Memory) →
+        Agree s (search G unlimited d p a b pv prev s) (search G (at-most n) d p a b pv prev s)
     unfolding search
     agree zero p a b pv prev s = agree-entering s _ _ (λ s'. agree-found s' (G .value p) pv (leaf s') (count-leaf s'))
     agree (suc d) p a b pv prev s = agree-entering s _ _ (λ s₁. if-both (Agree s₁) (G .over p) _ _ _ _
@@ -149,8 +174,10 @@ module _ (n : ℕ) where
         (λ _. agree-probe s₁ (probe s₁ (G .key p) (suc d) a b) _ _ _ _ (count-probe s₁ (G .key p) (suc d) a b)
         (λ v m s₂. agree-found s₂ v (set-first m pv) s₂ refl)
         (λ first s₂. agree-next s₂ _ _ _ _
-        (agree-moves (search G unlimited d) (search G (at-most n) d) (agree d) p b prev (candidates G first s₂ p prev pv) a pv (replicate d no-move) s₂)
-        (λ r line' s₃. agree-found s₃ r line' (with-stored s₃ (G .key p) (suc d) a b r line') (count-told s₃ (G .key p) (suc d) a b r line')))))
+        (agree-moves (search G unlimited d) (search G (at-most n) d) (agree d) p b prev (candidates G first s₂ p prev pv) a pv
+        (replicate d no-move) s₂)
+        (λ r line' s₃. agree-found s₃ r line' (with-stored s₃ (G .key p) (suc d) a b r line')
+        (count-told s₃ (G .key p) (suc d) a b r line')))))
 
     module _ (p : G .Pos) where
       -- what `deepen` does with the outcome of the next depth, if after it k depths are left
@@ -160,8 +187,11 @@ module _ (n : ℕ) where
           (λ r pv s'. let w' = one-deeper w r pv (s' .tally) in
           if decided r then (λ _. record { is-stopped = false; completed = w'; memory = s' }) else λ _. deepen G allowed k p w' s')
 
-      beside-next : (k : ℕ) (w : Completed) (s : Memory) (upto : ℕ → SearchAnswer) (u o : Outcome) → record { is-stopped = false; completed = w; memory = s } ≡ upto 0 → ((j : ℕ) → next-depth unlimited j w u ≡ upto (suc j)) → Agree s u o →
-          ((w' : Completed) (s' : Memory) → Beside k w' s' (λ j. deepen G unlimited j p w' s') (deepen G unlimited k p w' s') (deepen G (at-most n) k p w' s')) →
+      beside-next : (k : ℕ) (w : Completed) (s : Memory) (upto : ℕ → SearchAnswer) (u o : Outcome) →
+          record { is-stopped = false; completed = w; memory = s } ≡ upto 0 →
+          ((j : ℕ) → next-depth unlimited j w u ≡ upto (suc j)) → Agree s u o →
+          ((w' : Completed) (s' : Memory) → Beside k w' s' (λ j. deepen G unlimited j p w' s') (deepen G unlimited k p w' s')
+          (deepen G (at-most n) k p w' s')) →
           Beside (suc k) w s upto (next-depth unlimited k w u) (next-depth (at-most n) k w o)
       unfolding Agree on-outcome deepen
       beside-next k w s upto (stopped z) o first later h f = absurd h
@@ -182,7 +212,9 @@ module _ (n : ℕ) where
           at e = ap (next-depth (at-most n) k w) e
 
           not-decided : T (not (decided r)) → (j : ℕ) → deepen G unlimited j p w' s' ≡ next-depth unlimited j w (found r pv s')
-          not-decided t j = if-ind (λ (x : SearchAnswer). deepen G unlimited j p w' s' ≡ x) (decided r) _ _ (λ u. absurd (T-not (decided r) t u)) (λ _. refl)
+          not-decided t j =
+              if-ind (λ (x : SearchAnswer). deepen G unlimited j p w' s' ≡ x) (decided r) _ _ (λ u. absurd (T-not (decided r) t u))
+              (λ _. refl)
 
           deeper : Beside (suc k) w s' upto (next-depth unlimited k w (found r pv s')) (next-depth (at-most n) k w (found r pv s'))
           deeper = if-both (Beside (suc k) w s' upto) (decided r) _ _ _ _ (λ _. beside-whole (suc k) w w' s' upto)
@@ -192,7 +224,8 @@ module _ (n : ℕ) where
           alone : next-depth unlimited 0 w (found r pv s') .memory .count ≡ s' .count
           alone = if-ind (λ (x : SearchAnswer). x .memory .count ≡ s' .count) (decided r) _ _ (λ _. refl) (λ _. refl)
 
-          here : s .count ≤ n → n < s' .count → (z : Memory) × (o ≡ stopped z) × (z .count ≡ n) → Spent-at (suc k) w upto (next-depth (at-most n) k w o)
+          here : s .count ≤ n → n < s' .count → (z : Memory) × (o ≡ stopped z) × (z .count ≡ n) →
+              Spent-at (suc k) w upto (next-depth (at-most n) k w o)
           here i q z = subst (λ (x : Outcome). Spent-at (suc k) w upto (next-depth (at-most n) k w x)) (sym (z .1))
               (record {
                 marked = tt;
@@ -206,11 +239,13 @@ module _ (n : ℕ) where
               })
 
       -- the two answers, k depths more
-      beside : (k : ℕ) (w : Completed) (s : Memory) → Beside k w s (λ j. deepen G unlimited j p w s) (deepen G unlimited k p w s) (deepen G (at-most n) k p w s)
+      beside : (k : ℕ) (w : Completed) (s : Memory) → Beside k w s (λ j. deepen G unlimited j p w s) (deepen G unlimited k p w s)
+          (deepen G (at-most n) k p w s)
       unfolding deepen
       beside zero w s = beside-whole zero w w s _
       beside (suc k) w s = beside-next k w s (λ j. deepen G unlimited j p w s) _ _ refl (λ j. refl)
-          (agree-from s (begin s) _ _ (count-begin s) (agree (suc (w .depth)) p lowest highest (w .pv ++ (no-move ∷ [])) no-move (begin s))) (beside k)
+          (agree-from s (begin s) _ _ (count-begin s) (agree (suc (w .depth)) p lowest highest (w .pv ++ (no-move ∷ [])) no-move
+          (begin s))) (beside k)
 
 -- ---- the claim: with an allowance of n, and no more counted before the search
 module _ (G : Game) (n limit : ℕ) (p : G .Pos) (s : Memory) where
@@ -220,25 +255,30 @@ module _ (G : Game) (n limit : ℕ) (p : G .Pos) (s : Memory) where
   allowance-limits le = let h = beside n G p limit nothing-yet s in record {
     unlimited-whole = h .x-whole;
     enough = h .y-same;
-    spent = λ i. let z = h .y-stops le i in let e : z .depths ≡ analyze G (at-most n) limit p s .completed .depth = omega (arith, z .depth-is) in record {
-      marked = z .marked;
-      counted = z .counted;
-      shallower = omega (arith, z .fewer, z .depth-is);
-      whole-is = subst (λ (j : ℕ). analyze G (at-most n) limit p s .completed ≡ analyze G unlimited j p s .completed) e (z .whole-is);
-      fits = subst (λ (j : ℕ). analyze G unlimited j p s .memory .count ≤ n) e (z .fits);
-      next-too-many = subst (λ (j : ℕ). n < analyze G unlimited (suc j) p s .memory .count) e (z .next-too-many);
-    };
+    spent =
+        λ i. let z = h .y-stops le i in let e : z .depths ≡ analyze G (at-most n) limit p s .completed .depth = omega
+        (arith, z .depth-is) in record {
+          marked = z .marked;
+          counted = z .counted;
+          shallower = omega (arith, z .fewer, z .depth-is);
+          whole-is = subst (λ (j : ℕ). analyze G (at-most n) limit p s .completed ≡ analyze G unlimited j p s .completed) e (z .whole-is);
+          fits = subst (λ (j : ℕ). analyze G unlimited j p s .memory .count ≤ n) e (z .fits);
+          next-too-many = subst (λ (j : ℕ). n < analyze G unlimited (suc j) p s .memory .count) e (z .next-too-many);
+        };
   }
 
   -- the mark means that the allowance is spent, and nothing else
-  pub mark-means-spent : s .count ≤ n → T (analyze G (at-most n) limit p s .is-stopped) → n < analyze G unlimited limit p s .memory .count
+  pub mark-means-spent : s .count ≤ n → T (analyze G (at-most n) limit p s .is-stopped) →
+      n < analyze G unlimited limit p s .memory .count
   mark-means-spent le t = elim (lt-or n (analyze G unlimited limit p s .memory .count)) [
     | inl h ↦ h
-    | inr h ↦ absurd (T-not (analyze G unlimited limit p s .is-stopped) (allowance-limits le .unlimited-whole) (subst (λ (x : SearchAnswer). T (x .is-stopped)) (allowance-limits le .enough h) t))
+    | inr h ↦ absurd (T-not (analyze G unlimited limit p s .is-stopped) (allowance-limits le .unlimited-whole)
+        (subst (λ (x : SearchAnswer). T (x .is-stopped)) (allowance-limits le .enough h) t))
   ]
 
   -- and where it is spent, the answer is marked
-  pub spent-means-mark : s .count ≤ n → n < analyze G unlimited limit p s .memory .count → T (analyze G (at-most n) limit p s .is-stopped)
+  pub spent-means-mark : s .count ≤ n → n < analyze G unlimited limit p s .memory .count →
+      T (analyze G (at-most n) limit p s .is-stopped)
   spent-means-mark le h = allowance-limits le .spent h .marked
 
 -- ---- refusal 18: a search without a completed depth
@@ -287,7 +327,8 @@ module _ (G : Game) (n limit : ℕ) (p : G .Pos) (s : Memory) (le : s .count ≤
   none-whole-is h = same-by none-whole (ltb n (analyze G unlimited 1 p s .memory .count))
       (λ t. lt→ltb n _ (depth-1-more t)) (λ t. stops limit h (ltb→lt n _ t))
     where
-      depth-0 : (d : ℕ) → n < analyze G unlimited 1 p s .memory .count → analyze G unlimited d p s .memory .count ≤ n → T (eqb d 0)
+      depth-0 : (d : ℕ) → n < analyze G unlimited 1 p s .memory .count → analyze G unlimited d p s .memory .count ≤ n →
+          T (eqb d 0)
       depth-0 zero i f = tt
       depth-0 (suc j) i f = absurd (omega (arith, depth-1-least G p s j))
 
@@ -299,8 +340,10 @@ module _ (G : Game) (n limit : ℕ) (p : G .Pos) (s : Memory) (le : s .count ≤
           →and (analyze G (at-most n) (suc k) p s .is-stopped) _ (z .marked) (depth-0 _ i (z .fits))
 
 -- with the table off a stopped answer is right for its last completed depth
-pub stopped-right : (G : Game) (L : Lawful G) (n limit : ℕ) (p : G .Pos) → L .Good p → (s : Memory) → Off s → s .count ≤ n → T (analyze G (at-most n) limit p s .is-stopped) →
-    (k : ℕ) → analyze G (at-most n) limit p s .completed .depth ≡ suc k → AttainsMinimax G k p (analyze G (at-most n) limit p s .completed)
+pub stopped-right : (G : Game) (L : Lawful G) (n limit : ℕ) (p : G .Pos) → L .Good p → (s : Memory) → Off s → s .count ≤ n →
+    T (analyze G (at-most n) limit p s .is-stopped) →
+    (k : ℕ) → analyze G (at-most n) limit p s .completed .depth ≡ suc k →
+    AttainsMinimax G k p (analyze G (at-most n) limit p s .completed)
 stopped-right G L n limit p g s o le t k e =
     let z = allowance-limits G n limit p s le .spent (mark-means-spent G n limit p s le t) in
     let same = subst (λ (j : ℕ). analyze G (at-most n) limit p s .completed ≡ analyze G unlimited j p s .completed) e (z .whole-is) in

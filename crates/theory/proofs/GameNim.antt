@@ -1,5 +1,5 @@
--- Take one to three of a heap; who takes the last has won. The theorems hold of it, so they are not empty, and its searches are computed: what
--- is expected of them was worked out apart, by a program that follows the Rust variation by variation.
+-- Take one to three of a heap; who takes the last has won. The theorems hold of it, so they are not empty, and its searches are computed:
+-- what is expected of them was worked out apart, by a program that follows the Rust variation by variation.
 use mathlib.Core.Path.{_≡_, refl}
 use mathlib.Core.Bool.{Bool, true, false, not, _&&_}
 use mathlib.Core.List.{List, [], _∷_}
@@ -24,8 +24,10 @@ use Rattle.rules.specs.Evaluation.{won, lost}
 use Rattle.theory.specs.Game.{Game}
 use Rattle.theory.specs.PlainMinimax.{highest, best, plain}
 use Rattle.theory.specs.Table.{from-word, entry-of, off, begins, look-up, store, suffices, bound-of}
-use Rattle.theory.specs.Memory.{Tally, Memory, fresh-memory, begin, enter, leaf, hit, answered, cut, some-move, hints, counts, no-responses}
-use Rattle.theory.specs.OrderedSearch.{Allowance, unlimited, at-most, unless-stopped, entering, probed, on-probe, with-stored, set-first, fresh, candidates, over-moves, search}
+use Rattle.theory.specs.Memory.{Tally, Memory, fresh-memory, begin, enter, leaf, hit, answered, cut, some-move, hints, counts}
+use Rattle.theory.specs.Memory.{no-responses}
+use Rattle.theory.specs.OrderedSearch.{Allowance, unlimited, at-most, unless-stopped, entering, probed, on-probe, with-stored}
+use Rattle.theory.specs.OrderedSearch.{set-first, fresh, candidates, over-moves, search}
 use Rattle.theory.specs.Deepening.{Stats, Completed, nothing-yet, SearchAnswer, on-outcome, deepen, analyze}
 use Rattle.theory.specs.Variation.{play-out, ends-on, AttainsMinimax}
 use Rattle.theory.proofs.PlainMinimax.{Lawful}
@@ -69,17 +71,22 @@ not-zero zero t = absurd (T-not (eqb 0 0) t tt)
 not-zero (suc h) t = omega arith
 
 nim-some-move : (p : Nim) → T (not (nim .over p)) → (m : ℕ) × In m (nim .moves p)
-nim-some-move p t = (1, in-filter (λ x. leb x (p .heap)) 1 takes (inr (inr (inl refl))) (le→leb 1 (p .heap) (omega (arith, not-zero (p .heap) t))))
+nim-some-move p t =
+    (1, in-filter (λ x. leb x (p .heap)) 1 takes (inr (inr (inl refl))) (le→leb 1 (p .heap) (omega (arith, not-zero (p .heap) t))))
 
 small-inside : (x : ℕ) → x < 11 → (lost <ℤ (pos x -ℤ pos 5)) × ((pos x -ℤ pos 5) <ℤ won)
 unfolding hi lo
 small-inside x h = (omega (zarith, sm (pos x) (negsuc 4)), omega (zarith, sm (pos x) (negsuc 4)))
 
 nim-inside : (p : Nim) → T (not (nim .over p)) → (lost <ℤ nim .value p) × (nim .value p <ℤ won)
-nim-inside p t = if-ind (λ z. (lost <ℤ z) × (z <ℤ won)) (eqb (p .heap) 0) _ _ (λ u. absurd (T-not (eqb (p .heap) 0) t u)) (λ _. small-inside ((p .heap * 7) % 11) (omega arith))
+nim-inside p t =
+    if-ind (λ z. (lost <ℤ z) × (z <ℤ won)) (eqb (p .heap) 0) _ _ (λ u. absurd (T-not (eqb (p .heap) 0) t u))
+    (λ _. small-inside ((p .heap * 7) % 11) (omega arith))
 
 nim-within : (p : Nim) → T (nim .over p) → (lost ≤ℤ nim .value p) × (nim .value p ≤ℤ won)
-nim-within p t = if-ind (λ z. (lost ≤ℤ z) × (z ≤ℤ won)) (eqb (p .heap) 0) _ _ (λ _. (leZ-yes tt, leZ-yes tt)) (λ u. absurd (T-not (eqb (p .heap) 0) u t))
+nim-within p t =
+    if-ind (λ z. (lost ≤ℤ z) × (z ≤ℤ won)) (eqb (p .heap) 0) _ _ (λ _. (leZ-yes tt, leZ-yes tt))
+    (λ u. absurd (T-not (eqb (p .heap) 0) u t))
 
 pub nim-lawful : Lawful nim
 nim-lawful = record {
@@ -92,7 +99,8 @@ nim-lawful = record {
 }
 
 -- searched from any heap, with any response tables, it is answered rightly
-pub nim-right : (n : Allowance) (k : ℕ) (p : Nim) (s : Memory) → Off s → T (not (analyze nim n (suc k) p s .is-stopped)) → AttainsMinimax nim k p (analyze nim n (suc k) p s .completed)
+pub nim-right : (n : Allowance) (k : ℕ) (p : Nim) (s : Memory) → Off s → T (not (analyze nim n (suc k) p s .is-stopped)) →
+    AttainsMinimax nim k p (analyze nim n (suc k) p s .completed)
 unfolding nim-lawful
 nim-right n k p s o = analyze-right nim nim-lawful n k p tt s o
 
@@ -128,20 +136,29 @@ junk = fresh-memory (record { to-x = set none-yet 3 2; to-o = set (set (set none
 
 -- a limit, a heap with X to move, and a memory
 unfoldable answer : Allowance → ℕ → ℕ → Memory → SearchAnswer
-unfolding analyze deepen on-outcome search entering unless-stopped over-moves candidates fresh elem filter if_then_else_ begin enter leaf hit answered cut some-move hints probed on-probe with-stored set-first from-word entry-of off begins look-up store suffices bound-of
+unfolding analyze deepen on-outcome search entering unless-stopped over-moves candidates fresh elem filter if_then_else_ begin enter leaf
+    hit answered cut some-move hints probed on-probe with-stored set-first from-word entry-of off begins look-up store suffices bound-of
 answer n limit h s = analyze nim n limit (start h) s
 
 abbrev run : Allowance → ℕ → ℕ → Memory → Seen
 run n limit h s = let x = answer n limit h s in seen (x .is-stopped) (x .memory .count) (x .completed)
 
 -- plain minimax, computed
-plain-values : (plain nim 4 (start 14) ≡ negsuc 2) × (plain nim 5 (start 9) ≡ won) × (plain nim 6 (start 12) ≡ lost) × (plain nim 5 (start 12) ≡ pos 2)
+plain-values : (plain nim 4 (start 14) ≡ negsuc 2) × (plain nim 5 (start 9) ≡ won) × (plain nim 6 (start 12) ≡ lost) ×
+    (plain nim 5 (start 12) ≡ pos 2)
 unfolding plain best maxZ filter if_then_else_
 plain-values = (refl, refl, refl, refl)
 
 -- ---- the table is off
 -- an unfinished game, to the limit
-open-game : run unlimited 4 14 no-table ≡ seen false 94 (record { depth = 4; score = negsuc 2; pv = 2 ∷ 1 ∷ 3 ∷ 3 ∷ []; stats = at-depth 1 (pos 5) (counts 4 3 0 0 0) ∷ at-depth 2 (negsuc 3) (counts 13 9 2 0 0) ∷ at-depth 3 (pos 4) (counts 32 21 5 0 0) ∷ at-depth 4 (negsuc 2) (counts 45 25 11 0 0) ∷ [] })
+open-game : run unlimited 4 14 no-table
+    ≡ seen false 94 (record {
+      depth = 4;
+      score = negsuc 2;
+      pv = 2 ∷ 1 ∷ 3 ∷ 3 ∷ [];
+      stats = at-depth 1 (pos 5) (counts 4 3 0 0 0) ∷ at-depth 2 (negsuc 3) (counts 13 9 2 0 0) ∷
+          at-depth 3 (pos 4) (counts 32 21 5 0 0) ∷ at-depth 4 (negsuc 2) (counts 45 25 11 0 0) ∷ [];
+    })
 unfolding answer
 open-game = refl
 
@@ -157,60 +174,119 @@ unfolding answer
 open-game-leaves = refl
 
 -- a lost game ends the search at the depth that shows it, and so does a won one
-lost-game : run unlimited 8 12 no-table ≡ seen false 320 (record { depth = 6; score = lost; pv = 3 ∷ 1 ∷ 2 ∷ 2 ∷ 2 ∷ 2 ∷ []; stats = at-depth 1 (pos 5) (counts 4 3 0 0 0) ∷ at-depth 2 (negsuc 3) (counts 13 9 2 0 0) ∷ at-depth 3 (pos 3) (counts 24 15 4 0 0) ∷ at-depth 4 (negsuc 1) (counts 73 45 15 0 0) ∷ at-depth 5 (pos 2) (counts 88 47 22 0 0) ∷ at-depth 6 lost (counts 118 49 45 0 0) ∷ [] })
+lost-game : run unlimited 8 12 no-table
+    ≡ seen false 320 (record {
+      depth = 6;
+      score = lost;
+      pv = 3 ∷ 1 ∷ 2 ∷ 2 ∷ 2 ∷ 2 ∷ [];
+      stats = at-depth 1 (pos 5) (counts 4 3 0 0 0) ∷ at-depth 2 (negsuc 3) (counts 13 9 2 0 0) ∷
+          at-depth 3 (pos 3) (counts 24 15 4 0 0) ∷ at-depth 4 (negsuc 1) (counts 73 45 15 0 0) ∷ at-depth 5 (pos 2) (counts 88 47 22 0 0) ∷
+          at-depth 6 lost (counts 118 49 45 0 0) ∷ [];
+    })
 unfolding answer
 lost-game = refl
 
-won-game : run unlimited 9 9 no-table ≡ seen false 134 (record { depth = 5; score = won; pv = 1 ∷ 3 ∷ 1 ∷ 3 ∷ 1 ∷ []; stats = at-depth 1 (pos 4) (counts 4 3 0 0 0) ∷ at-depth 2 (negsuc 2) (counts 13 9 2 0 0) ∷ at-depth 3 (pos 2) (counts 24 15 4 0 0) ∷ at-depth 4 (negsuc 1) (counts 41 21 11 0 0) ∷ at-depth 5 won (counts 52 20 19 0 0) ∷ [] })
+won-game : run unlimited 9 9 no-table
+    ≡ seen false 134 (record {
+      depth = 5;
+      score = won;
+      pv = 1 ∷ 3 ∷ 1 ∷ 3 ∷ 1 ∷ [];
+      stats = at-depth 1 (pos 4) (counts 4 3 0 0 0) ∷ at-depth 2 (negsuc 2) (counts 13 9 2 0 0) ∷
+          at-depth 3 (pos 2) (counts 24 15 4 0 0) ∷ at-depth 4 (negsuc 1) (counts 41 21 11 0 0) ∷ at-depth 5 won (counts 52 20 19 0 0) ∷
+          [];
+    })
 unfolding answer
 won-game = refl
 
 -- a finished game has no move
-over-game : run unlimited 5 0 no-table ≡ seen false 1 (record { depth = 1; score = lost; pv = 255 ∷ []; stats = at-depth 1 lost (counts 1 1 0 0 0) ∷ [] })
+over-game : run unlimited 5 0 no-table
+    ≡ seen false 1 (record { depth = 1; score = lost; pv = 255 ∷ []; stats = at-depth 1 lost (counts 1 1 0 0 0) ∷ [] })
 unfolding answer
 over-game = refl
 
 -- taking three wins at once and comes first: the loop over the moves goes on, since the score is below the upper edge
-every-move-tried : run unlimited 1 3 no-table ≡ seen false 4 (record { depth = 1; score = won; pv = 3 ∷ []; stats = at-depth 1 won (counts 4 3 0 0 0) ∷ [] })
+every-move-tried : run unlimited 1 3 no-table
+    ≡ seen false 4 (record { depth = 1; score = won; pv = 3 ∷ []; stats = at-depth 1 won (counts 4 3 0 0 0) ∷ [] })
 unfolding answer
 every-move-tried = refl
 
-every-move-tried-deeper : run unlimited 3 7 no-table ≡ seen false 42 (record { depth = 3; score = won; pv = 3 ∷ 2 ∷ 2 ∷ []; stats = at-depth 1 (pos 3) (counts 4 3 0 0 0) ∷ at-depth 2 (negsuc 1) (counts 12 8 2 0 0) ∷ at-depth 3 won (counts 26 15 4 0 0) ∷ [] })
+every-move-tried-deeper : run unlimited 3 7 no-table
+    ≡ seen false 42 (record {
+      depth = 3;
+      score = won;
+      pv = 3 ∷ 2 ∷ 2 ∷ [];
+      stats = at-depth 1 (pos 3) (counts 4 3 0 0 0) ∷
+          at-depth 2 (negsuc 1) (counts 12 8 2 0 0) ∷ at-depth 3 won (counts 26 15 4 0 0) ∷ [];
+    })
 unfolding answer
 every-move-tried-deeper = refl
 
 -- responses that are no moves are passed over
-junk-passed-over : run unlimited 8 12 junk ≡ seen false 289 (record { depth = 6; score = lost; pv = 3 ∷ 1 ∷ 3 ∷ 1 ∷ 3 ∷ 1 ∷ []; stats = at-depth 1 (pos 5) (counts 4 3 0 0 0) ∷ at-depth 2 (negsuc 3) (counts 12 8 2 0 0) ∷ at-depth 3 (pos 3) (counts 22 13 4 0 0) ∷ at-depth 4 (negsuc 1) (counts 40 20 12 0 0) ∷ at-depth 5 (pos 2) (counts 110 59 26 0 0) ∷ at-depth 6 lost (counts 101 35 46 0 0) ∷ [] })
+junk-passed-over : run unlimited 8 12 junk
+    ≡ seen false 289 (record {
+      depth = 6;
+      score = lost;
+      pv = 3 ∷ 1 ∷ 3 ∷ 1 ∷ 3 ∷ 1 ∷ [];
+      stats = at-depth 1 (pos 5) (counts 4 3 0 0 0) ∷ at-depth 2 (negsuc 3) (counts 12 8 2 0 0) ∷
+          at-depth 3 (pos 3) (counts 22 13 4 0 0) ∷ at-depth 4 (negsuc 1) (counts 40 20 12 0 0) ∷
+          at-depth 5 (pos 2) (counts 110 59 26 0 0) ∷ at-depth 6 lost (counts 101 35 46 0 0) ∷ [];
+    })
 unfolding answer
 junk-passed-over = refl
 
 -- ---- variations, walked: to the depth, or to the game's end if sooner, whatever stands after it
-walked : (play-out nim 4 (start 14) (2 ∷ 1 ∷ 3 ∷ 3 ∷ []) .accepted ≡ true) × (ends-on nim 4 (start 14) (2 ∷ 1 ∷ 3 ∷ 3 ∷ []) ≡ negsuc 2) × (play-out nim 4 (start 4) (2 ∷ 2 ∷ 7 ∷ 7 ∷ []) .accepted ≡ true) × (ends-on nim 4 (start 4) (2 ∷ 2 ∷ 7 ∷ 7 ∷ []) ≡ lost) × (ends-on nim 1 (start 3) (3 ∷ []) ≡ won)
+walked : (play-out nim 4 (start 14) (2 ∷ 1 ∷ 3 ∷ 3 ∷ []) .accepted ≡ true) ×
+    (ends-on nim 4 (start 14) (2 ∷ 1 ∷ 3 ∷ 3 ∷ []) ≡ negsuc 2) ×
+    (play-out nim 4 (start 4) (2 ∷ 2 ∷ 7 ∷ 7 ∷ []) .accepted ≡ true) ×
+    (ends-on nim 4 (start 4) (2 ∷ 2 ∷ 7 ∷ 7 ∷ []) ≡ lost) × (ends-on nim 1 (start 3) (3 ∷ []) ≡ won)
 unfolding play-out ends-on elem if_then_else_
 walked = (refl, refl, refl, refl, refl)
 
 -- a variation that is too short, or has a move that is not accepted, is not
-not-walked : (play-out nim 4 (start 14) (2 ∷ 1 ∷ 3 ∷ []) .accepted ≡ false) × (play-out nim 2 (start 4) (2 ∷ 3 ∷ []) .accepted ≡ false)
+not-walked : (play-out nim 4 (start 14) (2 ∷ 1 ∷ 3 ∷ []) .accepted ≡ false) ×
+    (play-out nim 2 (start 4) (2 ∷ 3 ∷ []) .accepted ≡ false)
 unfolding play-out elem if_then_else_
 not-walked = (refl, refl)
 
 -- ---- the table is on
 -- seven entries, all zero: some positions are hit, and some of the hits suffice
-table-suffices : run unlimited 6 13 (table 21) ≡ seen false 319 (record { depth = 6; score = negsuc 1; pv = 1 ∷ 3 ∷ 1 ∷ 3 ∷ 1 ∷ 2 ∷ []; stats = at-depth 1 (pos 5) (counts 4 3 0 0 0) ∷ at-depth 2 (negsuc 3) (counts 12 8 2 1 0) ∷ at-depth 3 (pos 4) (counts 29 18 4 5 1) ∷ at-depth 4 (negsuc 2) (counts 68 37 16 11 4) ∷ at-depth 5 (pos 2) (counts 76 38 16 12 5) ∷ at-depth 6 (negsuc 1) (counts 130 64 38 9 2) ∷ [] })
+table-suffices : run unlimited 6 13 (table 21)
+    ≡ seen false 319 (record {
+      depth = 6;
+      score = negsuc 1;
+      pv = 1 ∷ 3 ∷ 1 ∷ 3 ∷ 1 ∷ 2 ∷ [];
+      stats = at-depth 1 (pos 5) (counts 4 3 0 0 0) ∷ at-depth 2 (negsuc 3) (counts 12 8 2 1 0) ∷
+          at-depth 3 (pos 4) (counts 29 18 4 5 1) ∷ at-depth 4 (negsuc 2) (counts 68 37 16 11 4) ∷
+          at-depth 5 (pos 2) (counts 76 38 16 12 5) ∷ at-depth 6 (negsuc 1) (counts 130 64 38 9 2) ∷ [];
+    })
 unfolding answer
 table-suffices = refl
 
-table-left : answer unlimited 6 13 (table 21) .memory .table ≡ 21 ∷ 2 ∷ 65797 ∷ 22 ∷ 18446744073709551614 ∷ 131332 ∷ 23 ∷ 2 ∷ 131333 ∷ 17 ∷ 2 ∷ 196611 ∷ 25 ∷ 2 ∷ 196613 ∷ 26 ∷ 18446744073709551614 ∷ 65542 ∷ 20 ∷ 18446744073709551614 ∷ 65796 ∷ []
+table-left : answer unlimited 6 13 (table 21) .memory .table ≡ 21 ∷ 2 ∷ 65797 ∷ 22 ∷ 18446744073709551614 ∷ 131332 ∷ 23 ∷
+    2 ∷ 131333 ∷ 17 ∷ 2 ∷ 196611 ∷ 25 ∷ 2 ∷ 196613 ∷ 26 ∷ 18446744073709551614 ∷ 65542 ∷ 20 ∷
+    18446744073709551614 ∷ 65796 ∷ []
 unfolding answer
 table-left = refl
 
 -- where the table answered, the variation is not known beyond its move
-table-sets-one-place : run unlimited 5 14 (table 21) ≡ seen false 168 (record { depth = 5; score = pos 3; pv = 1 ∷ 2 ∷ 2 ∷ 255 ∷ 255 ∷ []; stats = at-depth 1 (pos 5) (counts 4 3 0 0 0) ∷ at-depth 2 (negsuc 3) (counts 13 9 2 1 0) ∷ at-depth 3 (pos 4) (counts 29 18 5 5 1) ∷ at-depth 4 (negsuc 2) (counts 33 12 9 10 5) ∷ at-depth 5 (pos 3) (counts 89 43 18 16 9) ∷ [] })
+table-sets-one-place : run unlimited 5 14 (table 21)
+    ≡ seen false 168 (record {
+      depth = 5;
+      score = pos 3;
+      pv = 1 ∷ 2 ∷ 2 ∷ 255 ∷ 255 ∷ [];
+      stats = at-depth 1 (pos 5) (counts 4 3 0 0 0) ∷ at-depth 2 (negsuc 3) (counts 13 9 2 1 0) ∷
+          at-depth 3 (pos 4) (counts 29 18 5 5 1) ∷ at-depth 4 (negsuc 2) (counts 33 12 9 10 5) ∷
+          at-depth 5 (pos 3) (counts 89 43 18 16 9) ∷ [];
+    })
 unfolding answer
 table-sets-one-place = refl
 
--- a position that fails low is stored with its variation's first place as it stands: heap 4, X to move, is AtMost 2 at depth 3 with move 1, a sibling's
-fails-low-with-stale-move : answer unlimited 5 10 (table 30) .memory .table ≡ 20 ∷ 1152921504606846976 ∷ 131077 ∷ 11 ∷ 18446744073709551614 ∷ 65538 ∷ 12 ∷ 2 ∷ 65795 ∷ 13 ∷ 18446744073709551614 ∷ 65794 ∷ 14 ∷ 2 ∷ 131331 ∷ 15 ∷ 18446744073709551614 ∷ 196868 ∷ 16 ∷ 2 ∷ 196611 ∷ 17 ∷ 17293822569102704640 ∷ 196612 ∷ 8 ∷ 2 ∷ 66051 ∷ 19 ∷ 18446744073709551614 ∷ 65540 ∷ []
+-- a position that fails low is stored with its variation's first place as it stands: heap 4, X to move, is AtMost 2 at depth 3 with move 1,
+-- a sibling's
+fails-low-with-stale-move : answer unlimited 5 10 (table 30) .memory .table ≡ 20 ∷ 1152921504606846976 ∷ 131077 ∷ 11 ∷
+    18446744073709551614 ∷ 65538 ∷ 12 ∷ 2 ∷ 65795 ∷ 13 ∷ 18446744073709551614 ∷ 65794 ∷ 14 ∷ 2 ∷ 131331 ∷ 15 ∷
+    18446744073709551614 ∷ 196868 ∷ 16 ∷ 2 ∷ 196611 ∷ 17 ∷ 17293822569102704640 ∷ 196612 ∷ 8 ∷ 2 ∷ 66051 ∷ 19 ∷
+    18446744073709551614 ∷ 65540 ∷ []
 unfolding answer
 fails-low-with-stale-move = refl
 
@@ -224,26 +300,61 @@ abbrev lent : Memory
 lent = fresh-memory no-responses (3 ∷ 17293822569102704639 ∷ 16712193 ∷ 0 ∷ 0 ∷ 0 ∷ 0 ∷ 0 ∷ 0 ∷ [])
 
 -- it suffices at depth 2, after a sibling has left a 2 in the variation
-table-empties-one-place : run unlimited 2 4 lent ≡ seen false 9 (record { depth = 2; score = highest; pv = 3 ∷ 255 ∷ []; stats = at-depth 1 (pos 2) (counts 4 3 0 0 0) ∷ at-depth 2 highest (counts 5 2 1 2 1) ∷ [] })
+table-empties-one-place : run unlimited 2 4 lent
+    ≡ seen false 9 (record {
+      depth = 2;
+      score = highest;
+      pv = 3 ∷ 255 ∷ [];
+      stats = at-depth 1 (pos 2) (counts 4 3 0 0 0) ∷
+          at-depth 2 highest (counts 5 2 1 2 1) ∷ [];
+    })
 unfolding answer
 table-empties-one-place = refl
 
 -- ---- the allowance
 -- the unlimited search enters 94: so many are enough, and one less is not
-just-enough : run (at-most 94) 4 14 no-table ≡ seen false 94 (record { depth = 4; score = negsuc 2; pv = 2 ∷ 1 ∷ 3 ∷ 3 ∷ []; stats = at-depth 1 (pos 5) (counts 4 3 0 0 0) ∷ at-depth 2 (negsuc 3) (counts 13 9 2 0 0) ∷ at-depth 3 (pos 4) (counts 32 21 5 0 0) ∷ at-depth 4 (negsuc 2) (counts 45 25 11 0 0) ∷ [] })
+just-enough : run (at-most 94) 4 14 no-table
+    ≡ seen false 94 (record {
+      depth = 4;
+      score = negsuc 2;
+      pv = 2 ∷ 1 ∷ 3 ∷ 3 ∷ [];
+      stats = at-depth 1 (pos 5) (counts 4 3 0 0 0) ∷ at-depth 2 (negsuc 3) (counts 13 9 2 0 0) ∷
+          at-depth 3 (pos 4) (counts 32 21 5 0 0) ∷ at-depth 4 (negsuc 2) (counts 45 25 11 0 0) ∷ [];
+    })
 unfolding answer
 just-enough = refl
 
-one-short : run (at-most 93) 4 14 no-table ≡ seen true 93 (record { depth = 3; score = pos 4; pv = 2 ∷ 1 ∷ 3 ∷ []; stats = at-depth 1 (pos 5) (counts 4 3 0 0 0) ∷ at-depth 2 (negsuc 3) (counts 13 9 2 0 0) ∷ at-depth 3 (pos 4) (counts 32 21 5 0 0) ∷ [] })
+one-short : run (at-most 93) 4 14 no-table
+    ≡ seen true 93 (record {
+      depth = 3;
+      score = pos 4;
+      pv = 2 ∷ 1 ∷ 3 ∷ [];
+      stats = at-depth 1 (pos 5) (counts 4 3 0 0 0) ∷
+          at-depth 2 (negsuc 3) (counts 13 9 2 0 0) ∷ at-depth 3 (pos 4) (counts 32 21 5 0 0) ∷ [];
+    })
 unfolding answer
 one-short = refl
 
 -- its first three depths enter 49: so many give three completed depths, and one less two
-three-depths-exactly : run (at-most 49) 4 14 no-table ≡ seen true 49 (record { depth = 3; score = pos 4; pv = 2 ∷ 1 ∷ 3 ∷ []; stats = at-depth 1 (pos 5) (counts 4 3 0 0 0) ∷ at-depth 2 (negsuc 3) (counts 13 9 2 0 0) ∷ at-depth 3 (pos 4) (counts 32 21 5 0 0) ∷ [] })
+three-depths-exactly : run (at-most 49) 4 14 no-table
+    ≡ seen true 49 (record {
+      depth = 3;
+      score = pos 4;
+      pv = 2 ∷ 1 ∷ 3 ∷ [];
+      stats = at-depth 1 (pos 5) (counts 4 3 0 0 0) ∷
+          at-depth 2 (negsuc 3) (counts 13 9 2 0 0) ∷ at-depth 3 (pos 4) (counts 32 21 5 0 0) ∷ [];
+    })
 unfolding answer
 three-depths-exactly = refl
 
-three-depths-one-short : run (at-most 48) 4 14 no-table ≡ seen true 48 (record { depth = 2; score = negsuc 3; pv = 3 ∷ 3 ∷ []; stats = at-depth 1 (pos 5) (counts 4 3 0 0 0) ∷ at-depth 2 (negsuc 3) (counts 13 9 2 0 0) ∷ [] })
+three-depths-one-short : run (at-most 48) 4 14 no-table
+    ≡ seen true 48 (record {
+      depth = 2;
+      score = negsuc 3;
+      pv = 3 ∷ 3 ∷ [];
+      stats = at-depth 1 (pos 5) (counts 4 3 0 0 0) ∷
+          at-depth 2 (negsuc 3) (counts 13 9 2 0 0) ∷ [];
+    })
 unfolding answer
 three-depths-one-short = refl
 
@@ -253,7 +364,14 @@ unfolding answer
 no-depth-whole = refl
 
 -- with the table on
-table-stopped : run (at-most 150) 6 13 (table 21) ≡ seen true 150 (record { depth = 4; score = negsuc 2; pv = 1 ∷ 1 ∷ 3 ∷ 3 ∷ []; stats = at-depth 1 (pos 5) (counts 4 3 0 0 0) ∷ at-depth 2 (negsuc 3) (counts 12 8 2 1 0) ∷ at-depth 3 (pos 4) (counts 29 18 4 5 1) ∷ at-depth 4 (negsuc 2) (counts 68 37 16 11 4) ∷ [] })
+table-stopped : run (at-most 150) 6 13 (table 21)
+    ≡ seen true 150 (record {
+      depth = 4;
+      score = negsuc 2;
+      pv = 1 ∷ 1 ∷ 3 ∷ 3 ∷ [];
+      stats = at-depth 1 (pos 5) (counts 4 3 0 0 0) ∷ at-depth 2 (negsuc 3) (counts 12 8 2 1 0) ∷
+          at-depth 3 (pos 4) (counts 29 18 4 5 1) ∷ at-depth 4 (negsuc 2) (counts 68 37 16 11 4) ∷ [];
+    })
 unfolding answer
 table-stopped = refl
 
@@ -262,7 +380,9 @@ table-stopped-leaves : answer (at-most 150) 6 13 (table 21) .memory
       count = 150;
       tally = counts 37 19 6 7 2;
       responses = record { to-x = set (set (set none-yet 1 2) 2 2) 3 1; to-o = set (set (set none-yet 1 3) 2 2) 3 1 };
-      table = 21 ∷ 3 ∷ 65795 ∷ 22 ∷ 3 ∷ 131075 ∷ 23 ∷ 3 ∷ 131331 ∷ 17 ∷ 18446744073709551614 ∷ 196610 ∷ 25 ∷ 3 ∷ 65539 ∷ 26 ∷ 18446744073709551613 ∷ 65540 ∷ 20 ∷ 18446744073709551613 ∷ 131330 ∷ [];
+      table =
+          21 ∷ 3 ∷ 65795 ∷ 22 ∷ 3 ∷ 131075 ∷ 23 ∷ 3 ∷ 131331 ∷ 17 ∷ 18446744073709551614 ∷ 196610 ∷ 25 ∷ 3 ∷
+          65539 ∷ 26 ∷ 18446744073709551613 ∷ 65540 ∷ 20 ∷ 18446744073709551613 ∷ 131330 ∷ [];
     }
 unfolding answer
 table-stopped-leaves = refl

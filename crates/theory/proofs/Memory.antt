@@ -51,13 +51,15 @@ abbrev pub Leaves : (Memory → Type 0) → Probed → Type 0
 Leaves P (known v m s) = P s
 Leaves P (missed ms s) = P s
 
-probed-leaves : (P : Memory → Type 0) (s : Memory) (d : ℕ) (a b : ℤ) (e : Option Entry) → P s → P (hit s) → P (answered (hit s)) → Leaves P (probed s d a b e)
+probed-leaves : (P : Memory → Type 0) (s : Memory) (d : ℕ) (a b : ℤ) (e : Option Entry) → P s → P (hit s) →
+    P (answered (hit s)) → Leaves P (probed s d a b e)
 unfolding probed
 probed-leaves P s d a b none h k l = h
 probed-leaves P s d a b (some e) h k l = if-ind (Leaves P) (suffices e d a b) _ _ (λ _. l) (λ _. k)
 
 pub count-probe : (s : Memory) (key d : ℕ) (a b : ℤ) → Leaves (λ z. z .count ≡ s .count) (probe s key d a b)
-count-probe s key d a b = probed-leaves (λ z. z .count ≡ s .count) s d a b (look-up (s .table) key) refl (count-hit s) (count-answered (hit s) ∙ count-hit s)
+count-probe s key d a b =
+    probed-leaves (λ z. z .count ≡ s .count) s d a b (look-up (s .table) key) refl (count-hit s) (count-answered (hit s) ∙ count-hit s)
 
 -- ---- a cut by m, with w to move, becomes the response to the previous move, which the other side made
 pub cut-remembers : (w : Player) (s : Memory) (prev m : ℕ)

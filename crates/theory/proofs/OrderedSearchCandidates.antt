@@ -21,13 +21,17 @@ module _ (ok : ℕ → Bool) where
   fresh-in x seen (m ∷ ms) =
       if-ind (λ l. In x l → T (ok x) × T (not (elem x seen))) (elem m seen) _ _ (λ _ h. fresh-in x seen ms h)
       (λ u. if-ind (λ l. In x l → T (ok x) × T (not (elem x seen))) (ok m) _ _
-      (λ t h. elim h [ inl e ↦ subst (λ (z : ℕ). T (ok z) × T (not (elem z seen))) (sym e) (t, u) | inr k ↦ later (fresh-in x (m ∷ seen) ms k) ])
+      (λ t h. elim h [
+        | inl e ↦ subst (λ (z : ℕ). T (ok z) × T (not (elem z seen))) (sym e) (t, u)
+        | inr k ↦ later (fresh-in x (m ∷ seen) ms k)
+      ])
       (λ _ h. later (fresh-in x (m ∷ seen) ms h)))
     where
       later : T (ok x) × T (not (eqb x m || elem x seen)) → T (ok x) × T (not (elem x seen))
       later h = (h .0, not-T (elem x seen) (λ u. T-not (eqb x m || elem x seen) (h .1) (→or-r (eqb x m) _ u)))
 
-  seen-next : (x m : ℕ) (seen : List ℕ) (c : Bool) → (T c → x ≡ m) → T (not (elem x seen)) → (x ≡ m) ⊎ T (not (c || elem x seen))
+  seen-next : (x m : ℕ) (seen : List ℕ) (c : Bool) → (T c → x ≡ m) → T (not (elem x seen)) →
+      (x ≡ m) ⊎ T (not (c || elem x seen))
   seen-next x m seen true f n = inl (f tt)
   seen-next x m seen false f n = inr n
 
@@ -37,10 +41,19 @@ module _ (ok : ℕ → Bool) where
   fresh-all x seen [] t n h = absurd h
   fresh-all x seen (m ∷ ms) t n h =
       if-ind (λ l. In x l) (elem m seen) _ _
-      (λ u. elim h [ inl e ↦ absurd (T-not (elem m seen) (subst (λ (z : ℕ). T (not (elem z seen))) e n) u) | inr k ↦ fresh-all x seen ms t n k ])
+      (λ u. elim h [
+        | inl e ↦ absurd (T-not (elem m seen) (subst (λ (z : ℕ). T (not (elem z seen))) e n) u)
+        | inr k ↦ fresh-all x seen ms t n k
+      ])
       (λ _. if-ind (λ l. In x l) (ok m) _ _
       (λ _. elim next [ inl e ↦ inl e | inr n' ↦ elim h [ inl e ↦ inl e | inr k ↦ inr (fresh-all x (m ∷ seen) ms t n' k) ] ])
-      (λ u. elim next [ inl e ↦ absurd (wrong u e) | inr n' ↦ elim h [ inl e ↦ absurd (wrong u e) | inr k ↦ fresh-all x (m ∷ seen) ms t n' k ] ]))
+      (λ u. elim next [
+        | inl e ↦ absurd (wrong u e)
+        | inr n' ↦ elim h [
+          | inl e ↦ absurd (wrong u e)
+          | inr k ↦ fresh-all x (m ∷ seen) ms t n' k
+        ]
+      ]))
     where
       next : (x ≡ m) ⊎ T (not (eqb x m || elem x seen))
       next = seen-next x m seen (eqb x m) (eqb→eq x m) n
@@ -55,7 +68,9 @@ module _ (ok : ℕ → Bool) where
   fresh-unique seen (m ∷ ms) =
       if-ind (λ l. T (unique l)) (elem m seen) _ _ (λ _. fresh-unique seen ms)
       (λ _. if-ind (λ l. T (unique l)) (ok m) _ _
-      (λ _. →and (not (elem m rest)) _ (not-T (elem m rest) (λ u. T-not (eqb m m || elem m seen) (fresh-in m (m ∷ seen) ms (elem-in m rest u) .1) (→or-l (eqb m m) _ (eqb-refl m)))) (fresh-unique (m ∷ seen) ms))
+      (λ _. →and (not (elem m rest)) _
+      (not-T (elem m rest) (λ u. T-not (eqb m m || elem m seen) (fresh-in m (m ∷ seen) ms (elem-in m rest u) .1)
+      (→or-l (eqb m m) _ (eqb-refl m)))) (fresh-unique (m ∷ seen) ms))
       (λ _. fresh-unique (m ∷ seen) ms))
     where
       rest : List ℕ
@@ -72,7 +87,8 @@ module _ (G : Game) (first : List ℕ) (s : Memory) (p : G .Pos) (prev : ℕ) (p
   unfolding candidates elem
   candidates-all m t i =
       let hinted = hints (G .turn p) s prev pv in
-      fresh-all (G .accepts p) m [] (first ++ (hinted ++ G .moves p)) t tt (in-r m first (hinted ++ G .moves p) (in-r m hinted (G .moves p) i))
+      fresh-all (G .accepts p) m [] (first ++ (hinted ++ G .moves p)) t tt
+      (in-r m first (hinted ++ G .moves p) (in-r m hinted (G .moves p) i))
 
   -- and none stands there twice
   pub candidates-once : T (unique (candidates G first s p prev pv))

@@ -16,11 +16,13 @@ use Rattle.theory.specs.Game.{Game}
 use Rattle.theory.specs.PlainMinimax.{best, plain, promises}
 use Rattle.theory.proofs.PlainMinimaxBest.{best-upper, best-least, best-attained}
 
--- what is asked of the positions met: each unfinished one has a move, lists those that are accepted, and has a value strictly between lost and won
+-- what is asked of the positions met: each unfinished one has a move, lists those that are accepted, and has a value strictly between lost
+-- and won
 pub record Lawful (G : Game) : Type 1 where
   pub Good : G .Pos → Type 0
   pub good-play : (p : G .Pos) → Good p → T (not (G .over p)) → (m : ℕ) → In m (G .moves p) → Good (G .play p m)
-  pub listed : (p : G .Pos) → Good p → T (not (G .over p)) → (m : ℕ) → (In m (G .moves p) → T (G .accepts p m)) × (T (G .accepts p m) → In m (G .moves p))
+  pub listed : (p : G .Pos) → Good p → T (not (G .over p)) → (m : ℕ) → (In m (G .moves p) → T (G .accepts p m)) ×
+      (T (G .accepts p m) → In m (G .moves p))
   pub some-move : (p : G .Pos) → Good p → T (not (G .over p)) → (m : ℕ) × In m (G .moves p)
   pub inside : (p : G .Pos) → Good p → T (not (G .over p)) → (lost <ℤ G .value p) × (G .value p <ℤ won)
   pub within : (p : G .Pos) → Good p → T (G .over p) → (lost ≤ℤ G .value p) × (G .value p ≤ℤ won)
@@ -35,7 +37,8 @@ module _ (G : Game) where
   -- else the best of what the listed moves promise
   pub plain-moves : (d : ℕ) (p : G .Pos) → T (not (G .over p)) → plain G (suc d) p ≡ best (promises G d p) (G .moves p)
   unfolding plain
-  plain-moves d p t = if-ind (λ z. z ≡ best (promises G d p) (G .moves p)) (G .over p) _ _ (λ u. absurd (T-not (G .over p) t u)) (λ _. refl)
+  plain-moves d p t =
+      if-ind (λ z. z ≡ best (promises G d p) (G .moves p)) (G .over p) _ _ (λ u. absurd (T-not (G .over p) t u)) (λ _. refl)
 
 module _ (G : Game) (L : Lawful G) where
   value-range : (p : G .Pos) → L .Good p → (lost ≤ℤ G .value p) × (G .value p ≤ℤ won)
@@ -60,12 +63,26 @@ module _ (G : Game) (L : Lawful G) where
     -- a move to a lost position wins
     pub one-wins : (m : ℕ) → In m (G .moves p) → plain G d (G .play p m) ≡ lost → plain G (suc d) p ≡ won
     unfolding hi lo
-    one-wins m i e = omega (zarith, plain-moves G d p t, best-upper (promises G d p) m (G .moves p) i, ng (plain G d (G .play p m)), plain-range (suc d) p g .1)
+    one-wins m i e =
+        omega (
+          zarith,
+          plain-moves G d p t,
+          best-upper (promises G d p) m (G .moves p) i,
+          ng (plain G d (G .play p m)),
+          plain-range (suc d) p g .1,
+        )
 
     -- where every move leads to a won position, it is lost
     pub all-lose : ((m : ℕ) → In m (G .moves p) → plain G d (G .play p m) ≡ won) → plain G (suc d) p ≡ lost
     unfolding hi lo
-    all-lose h = omega (zarith, plain-moves G d p t, best-least (promises G d p) (G .moves p) lost (omega zarith) (λ m i. omega (zarith, h m i, ng (plain G d (G .play p m)))), plain-range (suc d) p g .0)
+    all-lose h =
+        omega (
+          zarith,
+          plain-moves G d p t,
+          best-least (promises G d p) (G .moves p) lost (omega zarith)
+              (λ m i. omega (zarith, h m i, ng (plain G d (G .play p m)))),
+          plain-range (suc d) p g .0,
+        )
 
     -- and back
     pub won-by-one : plain G (suc d) p ≡ won → (m : ℕ) × In m (G .moves p) × (plain G d (G .play p m) ≡ lost)
@@ -77,7 +94,14 @@ module _ (G : Game) (L : Lawful G) where
 
     pub lost-by-all : plain G (suc d) p ≡ lost → (m : ℕ) → In m (G .moves p) → plain G d (G .play p m) ≡ won
     unfolding hi lo
-    lost-by-all e m i = omega (zarith, plain-moves G d p t, best-upper (promises G d p) m (G .moves p) i, ng (plain G d (G .play p m)), plain-range d (G .play p m) (L .good-play p g t m i) .1)
+    lost-by-all e m i =
+        omega (
+          zarith,
+          plain-moves G d p t,
+          best-upper (promises G d p) m (G .moves p) i,
+          ng (plain G d (G .play p m)),
+          plain-range d (G .play p m) (L .good-play p g t m i) .1,
+        )
 
   -- ---- won or lost stays so
   abbrev Stays : ℕ → G .Pos → Type 0
@@ -89,7 +113,8 @@ module _ (G : Game) (L : Lawful G) where
       same : plain G (suc d) p ≡ plain G d p
       same = plain-over G (suc d) p t ∙ sym (plain-over G d p t)
 
-  stays-open : (d : ℕ) (p : G .Pos) → L .Good p → T (not (G .over p)) → ((m : ℕ) → In m (G .moves p) → Stays d (G .play p m)) → Stays (suc d) p
+  stays-open : (d : ℕ) (p : G .Pos) → L .Good p → T (not (G .over p)) →
+      ((m : ℕ) → In m (G .moves p) → Stays d (G .play p m)) → Stays (suc d) p
   stays-open d p g t below = (
     λ e. let w = won-by-one d p g t e in one-wins (suc d) p g t (w .0) (w .1) (below (w .0) (w .1) .1 (w .2)),
     λ e. all-lose (suc d) p g t (λ m i. below m i .0 (lost-by-all d p g t e m i)),
@@ -102,9 +127,15 @@ module _ (G : Game) (L : Lawful G) where
 
   stays : (d : ℕ) (p : G .Pos) → L .Good p → Stays d p
   stays zero p g = elim (is (G .over p)) [ inl t ↦ stays-over zero p t | inr t ↦ stays-zero p g t ]
-  stays (suc d) p g = elim (is (G .over p)) [ inl t ↦ stays-over (suc d) p t | inr t ↦ stays-open d p g t (λ m i. stays d (G .play p m) (L .good-play p g t m i)) ]
+  stays (suc d) p g =
+      elim (is (G .over p)) [
+        | inl t ↦ stays-over (suc d) p t
+        | inr t ↦ stays-open d p g t
+            (λ m i. stays d (G .play p m) (L .good-play p g t m i))
+      ]
 
-  stays-to : (v : ℤ) (p : G .Pos) → ((d : ℕ) → plain G d p ≡ v → plain G (suc d) p ≡ v) → (k d e : ℕ) → e ≡ k + d → plain G d p ≡ v → plain G e p ≡ v
+  stays-to : (v : ℤ) (p : G .Pos) → ((d : ℕ) → plain G d p ≡ v → plain G (suc d) p ≡ v) → (k d e : ℕ) → e ≡ k + d →
+      plain G d p ≡ v → plain G e p ≡ v
   stays-to v p f zero d e q h = subst (λ (n : ℕ). plain G n p ≡ v) (omega arith) h
   stays-to v p f (suc k) d e q h = stays-to v p f k (suc d) e (omega arith) (f d h)
 

@@ -24,7 +24,8 @@ best-upper f m (x ∷ ms) (inl e) = subst (λ (z : ℕ). f z ≤ℤ best f (x �
 best-upper f m (x ∷ ms) (inr h) = let k = best-upper f m ms h in let l = max-r (f x) (best f ms) in omega zarith
 
 -- nor is it above what no member is above
-pub best-least : (f : ℕ → ℤ) (ms : List ℕ) (r : ℤ) → lowest ≤ℤ r → ((m : ℕ) → In m ms → f m ≤ℤ r) → best f ms ≤ℤ r
+pub best-least : (f : ℕ → ℤ) (ms : List ℕ) (r : ℤ) → lowest ≤ℤ r → ((m : ℕ) → In m ms → f m ≤ℤ r) →
+    best f ms ≤ℤ r
 unfolding best
 best-least f [] r h k = h
 best-least f (m ∷ ms) r h k = max-is (λ z. z ≤ℤ r) (f m) (best f ms) (k m (inl refl)) (best-least f ms r h (λ x i. k x (inr i)))
@@ -38,7 +39,8 @@ best-attained f (m ∷ ms) = max-is (λ z. (z ≡ lowest) ⊎ ((x : ℕ) × In x
     (elim (best-attained f ms) [ inl e ↦ inl e | inr h ↦ inr (h .0, inr (h .1), h .2) ])
 
 -- lists of the same members have the same best, whatever their order
-pub best-same : (f : ℕ → ℤ) (xs ys : List ℕ) → ((m : ℕ) → In m xs → In m ys) → ((m : ℕ) → In m ys → In m xs) → best f xs ≡ best f ys
+pub best-same : (f : ℕ → ℤ) (xs ys : List ℕ) → ((m : ℕ) → In m xs → In m ys) → ((m : ℕ) → In m ys → In m xs) →
+    best f xs ≡ best f ys
 best-same f xs ys s t =
     let h = best-least f xs (best f ys) (best-lowest f ys) (λ m i. best-upper f m ys (s m i)) in
     let k = best-least f ys (best f xs) (best-lowest f xs) (λ m i. best-upper f m xs (t m i)) in

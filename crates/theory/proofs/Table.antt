@@ -42,12 +42,14 @@ unfolding looked
 entry-of-its-own = (refl, refl, refl)
 
 -- a deeper one replaces it, whichever position it is of; one as deep or shallower does not
-deeper-replaces : (stored seven 9 (entry (pos 5) 5 0 0x11) ≡ nine) × (stored seven 9 (entry (pos 5) 4 0 0x11) ≡ seven) × (stored seven 7 (entry (pos 5) 4 0 0x11) ≡ seven) × (stored seven 7 (entry (pos 5) 3 0 0x11) ≡ seven)
+deeper-replaces : (stored seven 9 (entry (pos 5) 5 0 0x11) ≡ nine) × (stored seven 9 (entry (pos 5) 4 0 0x11) ≡ seven) ×
+    (stored seven 7 (entry (pos 5) 4 0 0x11) ≡ seven) × (stored seven 7 (entry (pos 5) 3 0 0x11) ≡ seven)
 unfolding stored
 deeper-replaces = (refl, refl, refl, refl)
 
 -- with fewer than three words nothing is read or written
-too-short : (looked (7 ∷ 5 ∷ []) 7 ≡ none) × (stored (7 ∷ 5 ∷ []) 7 (entry (pos 5) 4 0 0x11) ≡ 7 ∷ 5 ∷ []) × (looked [] 7 ≡ none)
+too-short : (looked (7 ∷ 5 ∷ []) 7 ≡ none) × (stored (7 ∷ 5 ∷ []) 7 (entry (pos 5) 4 0 0x11) ≡ 7 ∷ 5 ∷ []) ×
+    (looked [] 7 ≡ none)
 unfolding looked stored
 too-short = (refl, refl, refl)
 
@@ -56,7 +58,8 @@ unfolding entry-of from-word if_then_else_
 read = entry-of
 
 -- an entry is absent with depth 0 or 82, bound 3, or a bit beyond the move
-absent-rest : (read 5 4456704 ≡ none) × (read 5 4456786 ≡ none) × (read 5 4457220 ≡ none) × (read 5 16777476 ≡ none) × (read 5 9223372036859232516 ≡ none)
+absent-rest : (read 5 4456704 ≡ none) × (read 5 4456786 ≡ none) × (read 5 4457220 ≡ none) × (read 5 16777476 ≡ none) ×
+    (read 5 9223372036859232516 ≡ none)
 unfolding read
 absent-rest = (refl, refl, refl, refl, refl)
 
@@ -66,7 +69,9 @@ unfolding read
 absent-value = (refl, refl)
 
 -- it is there at each edge of these
-present : (read 5 4456785 ≡ some (entry (pos 5) 81 1 0x44)) × (read 5 4456964 ≡ some (entry (pos 5) 4 2 0x44)) × (read 5 16711940 ≡ some (entry (pos 5) 4 1 0xff)) × (read 1152921504606846977 4456708 ≡ some (entry highest 4 1 0x44)) × (read 17293822569102704639 4456708 ≡ some (entry lowest 4 1 0x44))
+present : (read 5 4456785 ≡ some (entry (pos 5) 81 1 0x44)) × (read 5 4456964 ≡ some (entry (pos 5) 4 2 0x44)) ×
+    (read 5 16711940 ≡ some (entry (pos 5) 4 1 0xff)) × (read 1152921504606846977 4456708 ≡ some (entry highest 4 1 0x44)) ×
+    (read 17293822569102704639 4456708 ≡ some (entry lowest 4 1 0x44))
 unfolding read
 present = (refl, refl, refl, refl, refl)
 
@@ -76,11 +81,14 @@ unfolding stored
 absent-replaced = refl
 
 -- Exact suffices at its depth or less, AtLeast if it reaches the upper edge, AtMost if it does not exceed the lower one
-sufficing : (suffices (entry (pos 5) 4 0 0) 4 (pos 0) (pos 9) ≡ true) × (suffices (entry (pos 5) 4 0 0) 5 (pos 0) (pos 9) ≡ false) × (suffices (entry (pos 5) 4 1 0) 3 (pos 0) (pos 5) ≡ true) × (suffices (entry (pos 5) 4 1 0) 3 (pos 0) (pos 6) ≡ false) × (suffices (entry (pos 5) 4 2 0) 3 (pos 5) (pos 9) ≡ true) × (suffices (entry (pos 5) 4 2 0) 3 (pos 4) (pos 9) ≡ false)
+sufficing : (suffices (entry (pos 5) 4 0 0) 4 (pos 0) (pos 9) ≡ true) × (suffices (entry (pos 5) 4 0 0) 5 (pos 0) (pos 9) ≡ false) ×
+    (suffices (entry (pos 5) 4 1 0) 3 (pos 0) (pos 5) ≡ true) × (suffices (entry (pos 5) 4 1 0) 3 (pos 0) (pos 6) ≡ false) ×
+    (suffices (entry (pos 5) 4 2 0) 3 (pos 5) (pos 9) ≡ true) × (suffices (entry (pos 5) 4 2 0) 3 (pos 4) (pos 9) ≡ false)
 unfolding suffices
 sufficing = (refl, refl, refl, refl, refl, refl)
 
 -- a score at the lower edge is AtMost, at the upper one AtLeast, between them Exact
-bounds : (bound-of (pos 0) (pos 9) (pos 0) ≡ 2) × (bound-of (pos 0) (pos 9) (pos 9) ≡ 1) × (bound-of (pos 0) (pos 9) (pos 8) ≡ 0) × (bound-of (pos 0) (pos 9) (pos 1) ≡ 0)
+bounds : (bound-of (pos 0) (pos 9) (pos 0) ≡ 2) × (bound-of (pos 0) (pos 9) (pos 9) ≡ 1) × (bound-of (pos 0) (pos 9) (pos 8) ≡ 0) ×
+    (bound-of (pos 0) (pos 9) (pos 1) ≡ 0)
 unfolding bound-of if_then_else_
 bounds = (refl, refl, refl, refl)

@@ -31,14 +31,17 @@ module _ (G : Game) (L : Lawful G) where
   neg-cond false v = refl
 
   -- such a variation is accepted, and ends on its score
-  pub line-ends : (d : ℕ) (p : G .Pos) → L .Good p → (pv : List ℕ) (r : ℤ) → Leads G d p pv r → T (play-out G d p pv .accepted) × (r ≡ ends-on G d p pv)
+  pub line-ends : (d : ℕ) (p : G .Pos) → L .Good p → (pv : List ℕ) (r : ℤ) → Leads G d p pv r →
+      T (play-out G d p pv .accepted) × (r ≡ ends-on G d p pv)
   unfolding play-out ends-on
   line-ends zero p g pv r h = (tt, h)
   line-ends (suc d) p g [] r h = elim (is (G .over p)) [ inl t ↦ (t, h .0 t) | inr t ↦ absurd (h .1 t) ]
   line-ends (suc d) p g (m ∷ pv) r h =
-      if-ind (λ (w : Playout (G .Pos)). T (w .accepted) × (r ≡ cond (w .odd) (negℤ (G .value (w .end))) (G .value (w .end)))) (G .over p) _ _
+      if-ind (λ (w : Playout (G .Pos)). T (w .accepted) × (r ≡ cond (w .odd) (negℤ (G .value (w .end))) (G .value (w .end))))
+      (G .over p) _ _
       (λ t. (tt, h .0 t))
       (λ t. let below = line-ends d (G .play p m) (L .good-play p g t m (h .1 t .0)) pv (negℤ r) (h .1 t .2) in (
         →and (G .accepts p m) (play-out G d (G .play p m) pv .accepted) (L .listed p g t m .0 (h .1 t .0)) (below .0),
-        (sym (negℤ-negℤ r) ∙ ap negℤ (below .1)) ∙ neg-cond (play-out G d (G .play p m) pv .odd) (G .value (play-out G d (G .play p m) pv .end)),
+        (sym (negℤ-negℤ r) ∙ ap negℤ (below .1)) ∙ neg-cond (play-out G d (G .play p m) pv .odd)
+            (G .value (play-out G d (G .play p m) pv .end)),
       ))

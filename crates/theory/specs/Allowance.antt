@@ -15,9 +15,10 @@ module _ (G : Game) (n limit : ℕ) (p : G .Pos) (s : Memory) where
     pub counted : analyze G (at-most n) limit p s .memory .count ≡ n
     pub shallower : analyze G (at-most n) limit p s .completed .depth < limit
     -- depth, score, variation and stats are the unlimited search's to that depth
-    pub whole-is : analyze G (at-most n) limit p s .completed ≡ analyze G unlimited (analyze G (at-most n) limit p s .completed .depth) p s .completed
-    -- it is the last depth that fits: the unlimited search to it enters no more than n, and to one depth more it does. So depth 0, refusal 18, means
-    -- that depth 1 alone enters more than n
+    pub whole-is : analyze G (at-most n) limit p s .completed ≡ analyze G unlimited (analyze G (at-most n) limit p s .completed .depth) p
+        s .completed
+    -- it is the last depth that fits: the unlimited search to it enters no more than n, and to one depth more it does. So depth 0, refusal
+    -- 18, means that depth 1 alone enters more than n
     pub fits : analyze G unlimited (analyze G (at-most n) limit p s .completed .depth) p s .memory .count ≤ n
     pub next-too-many : n < analyze G unlimited (suc (analyze G (at-most n) limit p s .completed .depth)) p s .memory .count
 

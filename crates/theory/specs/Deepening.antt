@@ -36,7 +36,8 @@ one-deeper w r pv t = record {
   stats = w .stats ++ (record { depth = suc (w .depth); score = r; tally = t } ∷ []);
 }
 
--- a search's answer: the last completed depth, whether the allowance stopped it, and the memory. Stopped before depth 1 was whole is refusal 18
+-- a search's answer: the last completed depth, whether the allowance stopped it, and the memory. Stopped before depth 1 was whole is
+-- refusal 18
 pub record SearchAnswer : Type 0 where
   pub is-stopped : Bool
   pub completed : Completed

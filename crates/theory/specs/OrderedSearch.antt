@@ -55,7 +55,8 @@ on-probe (missed ms s) f g = g ms s
 
 -- the memory after storing the score r and the variation at a depth and within the window
 unfoldable pub with-stored : Memory → ℕ → ℕ → ℤ → ℤ → ℤ → List ℕ → Memory
-with-stored s key depth a b r pv = with-table s (store (s .table) key (record { value = r; depth = depth; bound = bound-of a b r; move = getD pv 0 no-move }))
+with-stored s key depth a b r pv =
+    with-table s (store (s .table) key (record { value = r; depth = depth; bound = bound-of a b r; move = getD pv 0 no-move }))
 
 -- a table's answer sets the variation's first place alone
 unfoldable pub set-first : ℕ → List ℕ → List ℕ
@@ -78,8 +79,9 @@ module _ (G : Game) where
   abbrev pub Search : Type 0
   Search = G .Pos → ℤ → ℤ → List ℕ → ℕ → Memory → Outcome
 
-  -- over the moves left: a is the lower edge by now, pv the variation, and low the variation of the position below, which its moves share. A score above
-  -- the lower edge becomes that edge, and the variation is its move and the variation below; the loop is left early only when it reaches the upper edge
+  -- over the moves left: a is the lower edge by now, pv the variation, and low the variation of the position below, which its moves share.
+  -- A score above the lower edge becomes that edge, and the variation is its move and the variation below; the loop is left early only when
+  -- it reaches the upper edge
   unfoldable pub over-moves : Search → G .Pos → ℤ → ℕ → List ℕ → ℤ → List ℕ → List ℕ → Memory → Outcome
   over-moves below p b prev [] a pv low s = found a pv s
   over-moves below p b prev (m ∷ ms) a pv low s =

@@ -37,7 +37,8 @@ returns c =
     let r = analyze .analyze .result in
     let none = none-long (analyze .analyze .last .1 .1 .1 .0) (analyze .analyze .kept .1 .1 .1 .0) in
     let g-is = play .play-all .ensures ∙ ap (λ (k : Game). games-after k (now (s .args .moves))) (new .new .ensures) in
-    let whole = subst (λ (ws : List ℕ). report-of r ws ≡ reported-of (s .args .memory) g (s .args .config) []) none (analyze .analyze .ensures) in
+    let whole = subst (λ (ws : List ℕ). report-of r ws ≡ reported-of (s .args .memory) g (s .args .config) []) none
+    (analyze .analyze .ensures) in
     demand-3 (now (s .args .moves)) (s .args .memory) (s .args .config) g _ r g-is (analysis .new2 .ensures) whole
 
 pub search-after-spec : {M : Type 1} → statement M

@@ -20,7 +20,8 @@ abbrev sends : Position → ℕ → ℕ → ℕ → Bool
 sends p dests want i = bit dests i && all (λ c. not (free-cell p i c) || bit want c) nine
 
 abbrev Inv-loop : tie.InvT-loop
-Inv-loop pos dests want i₀ i = (i ≤ 9) × (any (sends (position-of pos) dests want) (drop i nine) ≡ any (sends (position-of pos) dests want) nine)
+Inv-loop pos dests want i₀ i =
+    (i ≤ 9) × (any (sends (position-of pos) dests want) (drop i nine) ≡ any (sends (position-of pos) dests want) nine)
 
 abbrev μ-loop : tie.MeasureT-loop
 μ-loop pos dests want i₀ i = 9 - i
@@ -41,11 +42,14 @@ both-requires : tie.Need-both-requires Inv-loop μ-loop
 both-requires c κs = search needs
 
 -- what the turn's test says of its board
-tested : (c : tie.After-both Inv-loop μ-loop) (r : Bool) → c .both .result ≡ r → let a = c .before .before .before .before .args in sends (position-of (a .pos)) (a .dests) (a .want) (getD nine (c .before .before .before .loop .i) 0) ≡ r
+tested : (c : tie.After-both Inv-loop μ-loop) (r : Bool) → c .both .result ≡ r → let a =
+    c .before .before .before .before .args in sends (position-of (a .pos)) (a .dests) (a .want)
+    (getD nine (c .before .before .before .loop .i) 0) ≡ r
 tested c r e =
     let a = c .before .before .before .before .args in
     ap (sends (position-of (a .pos)) (a .dests) (a .want)) (nine-at _ (c .before .before .loop-test .taken))
-    ∙ sym (c .both .ensures ∙ ap₂ _&&_ (digit-test (a .dests) (c .before .before .before .loop .i)) (c .before .sends-to .ensures)) ∙ e
+    ∙ sym (c .both .ensures ∙ ap₂ _&&_ (digit-test (a .dests) (c .before .before .before .loop .i)) (c .before .sends-to .ensures))
+    ∙ e
 
 returns : tie.Need-returns Inv-loop μ-loop
 returns c =
@@ -62,8 +66,11 @@ loop-less c = search needs
 loop-again : tie.Need-loop-again Inv-loop μ-loop
 loop-again c =
     let at-loop-test = c .before .before .before in
-    let at-loop = at-loop-test .before in
-    (search needs, any-missed _ nine 0 (at-loop .loop .i) (at-loop-test .loop-test .taken) _ (at-loop .loop .inv .1) (tested (c .before) _ (c .if1 .left)))
+    let at-loop = at-loop-test .before in (
+      search needs,
+      any-missed _ nine 0 (at-loop .loop .i) (at-loop-test .loop-test .taken) _ (at-loop .loop .inv .1)
+          (tested (c .before) _ (c .if1 .left)),
+    )
 
 returns-2 : tie.Need-returns-2 Inv-loop μ-loop
 unfolding any

@@ -36,16 +36,20 @@ unproven-requires : tie.Need-unproven-requires
 unproven-requires c κs = search needs
 
 -- what is left after both
-read : (c : tie.After-limited2) → let a = c .before .before .before .before .before .args in c .limited2 .result ≡ read-of (combine (a .who) (a .wins) (a .loses) (a .x) (a .o))
+read : (c : tie.After-limited2) → let a =
+    c .before .before .before .before .before .args in c .limited2 .result ≡ read-of (combine (a .who) (a .wins) (a .loses) (a .x) (a .o))
 unfolding combine
 read c = c .limited2 .ensures .narrowed (draw-or-other O) _ (c .before .draw-or-x .ensures)
-    (c .before .before .limited .ensures .narrowed (draw-or-other X) (some _) (c .before .before .before .draw-or-o .ensures) (ap IsSet (c .before .before .before .before .proven-of .ensures)))
+    (c .before .before .limited .ensures .narrowed (draw-or-other X) (some _) (c .before .before .before .draw-or-o .ensures)
+    (ap IsSet (c .before .before .before .before .proven-of .ensures)))
 
 returns : tie.Need-returns
 returns c = set-read _ _ (sym (c .before .without-o .given .1) ∙ read (c .before .before .before))
 
 returns-2 : tie.Need-returns-2
-returns-2 c = absurd (never-none _ (c .before .before .before .before .before .before .before .before .pre) (sym (c .before .enum-told .given .1) ∙ read (c .before .before .before)))
+returns-2 c =
+    absurd (never-none _ (c .before .before .before .before .before .before .before .before .pre)
+    (sym (c .before .enum-told .given .1) ∙ read (c .before .before .before)))
 
 pub combined-spec : {M : Type 1} → statement M
 combined-spec =

@@ -20,7 +20,8 @@ playerbits-requires : tie.Need-playerbits-requires
 playerbits-requires c κs = search needs
 
 is-critical-requires : tie.Need-is-critical-requires
-is-critical-requires c κs = (set-lt _ _ (c .playerbits .ensures), set-lt _ _ (c .before .openbits .ensures), c .before .before .before .before .pre)
+is-critical-requires c κs =
+    (set-lt _ _ (c .playerbits .ensures), set-lt _ _ (c .before .openbits .ensures), c .before .before .before .before .pre)
 
 returns : tie.Need-returns
 returns c =
@@ -28,7 +29,8 @@ returns c =
     let at-openbits = at-playerbits .before in
     let start = at-openbits .before .before .before in
     let p = position-of (start .args .pos) in
-    line-lacks-none p _ _ _ _ (start .pre) (at-playerbits .playerbits .ensures) (at-openbits .openbits .ensures) _ (c .before .is-critical .ensures)
+    line-lacks-none p _ _ _ _ (start .pre) (at-playerbits .playerbits .ensures) (at-openbits .openbits .ensures) _
+    (c .before .is-critical .ensures)
     (not-true _ (c .if1 .taken))
 
 mul-lacked : tie.Need-mul-lacked
@@ -38,7 +40,12 @@ array-read-lacked : tie.Need-array-read-lacked
 array-read-lacked c = search needs
 
 cast-board : tie.Need-cast-board
-cast-board c = omega (arith, trailing-le 32 (bitAnd (c .before .before .before .openbits .result) (mask-at (c .before .before .before .before .before .before .args .i))))
+cast-board c =
+    omega (
+      arith,
+      trailing-le 32 (bitAnd (c .before .before .before .openbits .result)
+          (mask-at (c .before .before .before .before .before .before .args .i))),
+    )
 
 playerbits-requires-2 : tie.Need-playerbits-requires-2
 playerbits-requires-2 c κs = search needs
@@ -59,9 +66,11 @@ returns-2 c =
     let at-openbits = at-playerbits .before in
     let start = at-openbits .before .before .before in
     let p = position-of (start .args .pos) in
-    line-found p _ _ _ _ (start .pre) (at-playerbits .playerbits .ensures) (at-openbits .openbits .ensures) _ (at-is-critical .is-critical .ensures)
+    line-found p _ _ _ _ (start .pre) (at-playerbits .playerbits .ensures) (at-openbits .openbits .ensures) _
+    (at-is-critical .is-critical .ensures)
     (not-false _ (at-if1 .if1 .left)) _
-    (c .before .has-critical .ensures ∙ any-lacks _ _ _ _ (set-bit _ _ (at-playerbits2 .playerbits2 .ensures)) (set-bit _ _ (at-free-squares .free-squares .ensures)))
+    (c .before .has-critical .ensures ∙ any-lacks _ _ _ _ (set-bit _ _ (at-playerbits2 .playerbits2 .ensures))
+    (set-bit _ _ (at-free-squares .free-squares .ensures)))
     (c .if2 .taken)
 
 returns-3 : tie.Need-returns-3
@@ -74,9 +83,11 @@ returns-3 c =
     let at-openbits = at-playerbits .before in
     let start = at-openbits .before .before .before in
     let p = position-of (start .args .pos) in
-    line-missed p _ _ _ _ (start .pre) (at-playerbits .playerbits .ensures) (at-openbits .openbits .ensures) _ (at-is-critical .is-critical .ensures)
+    line-missed p _ _ _ _ (start .pre) (at-playerbits .playerbits .ensures) (at-openbits .openbits .ensures) _
+    (at-is-critical .is-critical .ensures)
     (not-false _ (at-if1 .if1 .left)) _
-    (c .before .has-critical .ensures ∙ any-lacks _ _ _ _ (set-bit _ _ (at-playerbits2 .playerbits2 .ensures)) (set-bit _ _ (at-free-squares .free-squares .ensures)))
+    (c .before .has-critical .ensures ∙ any-lacks _ _ _ _ (set-bit _ _ (at-playerbits2 .playerbits2 .ensures))
+    (set-bit _ _ (at-free-squares .free-squares .ensures)))
     (c .if2 .left)
 
 pub critical-board-spec : {M : Type 1} → statement M

@@ -15,7 +15,8 @@ use Rattle.endgame.proofs.critical_boards.Statement.{statement}
 use Rattle.endgame.proofs.critical_boards.Tie as tie
 
 abbrev Inv-loop : tie.InvT-loop
-Inv-loop pos who out₀ i₀ out i = (i ≤ 8) × (out ≡ digits (λ b. any (λ l. critical-by (position-of pos) who l b) (take i lines)) 9)
+Inv-loop pos who out₀ i₀ out i =
+    (i ≤ 8) × (out ≡ digits (λ b. any (λ l. critical-by (position-of pos) who l b) (take i lines)) 9)
 
 abbrev μ-loop : tie.MeasureT-loop
 μ-loop pos who out₀ i₀ out i = 8 - i
@@ -33,10 +34,17 @@ loop-less : tie.Need-loop-less Inv-loop μ-loop
 loop-less c = search needs
 
 loop-again : tie.Need-loop-again Inv-loop μ-loop
-loop-again c = (search needs, one-line-more (position-of (c .before .before .before .args .pos)) _ _ _ _ (c .before .loop-test .taken) (c .before .before .loop .inv .1) (c .critical-board .ensures))
+loop-again c = (
+  search needs,
+  one-line-more (position-of (c .before .before .before .args .pos)) _ _ _ _ (c .before .loop-test .taken)
+      (c .before .before .loop .inv .1) (c .critical-board .ensures),
+)
 
 returns : tie.Need-returns Inv-loop μ-loop
-returns c = let e : c .before .loop .i ≡ 8 = omega arith in rw e at (c .before .loop .inv .1) ∙ all-lines (position-of (c .before .before .args .pos)) (sound→ (position-of (c .before .before .args .pos)) (c .before .before .pre)) _
+returns c =
+    let e : c .before .loop .i ≡ 8 = omega arith in rw e at (c .before .loop .inv .1)
+    ∙ all-lines (position-of (c .before .before .args .pos)) (sound→ (position-of (c .before .before .args .pos))
+    (c .before .before .pre)) _
 
 pub critical-boards-spec : {M : Type 1} → statement M
 critical-boards-spec =

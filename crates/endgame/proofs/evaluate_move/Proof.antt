@@ -17,7 +17,9 @@ unproven-requires : tie.Need-unproven-requires
 unproven-requires c κs = search needs
 
 returns : tie.Need-returns
-returns c = judges-as _ _ _ _ (tried-first (position-of (c .before .before .before .args .pos)) _ (sym (c .before .before .is-unsound .ensures) ∙ c .before .if1 .taken)) refl (c .unproven .ensures)
+returns c =
+    judges-as _ _ _ _ (tried-first (position-of (c .before .before .before .args .pos)) _
+    (sym (c .before .before .is-unsound .ensures) ∙ c .before .if1 .taken)) refl (c .unproven .ensures)
 
 make-move-requires : tie.Need-make-move-requires
 make-move-requires c κs = search needs
@@ -26,7 +28,8 @@ enum-told : tie.Need-enum-told
 enum-told c = search needs
 
 -- play accepts the move
-played : (c : tie.After-enum-told) → let a = c .before .before .before .before .before .args in refusal (play (position-of (a .pos)) (a .m .bits)) ≡ 0
+played : (c : tie.After-enum-told) → let a =
+    c .before .before .before .before .before .args in refusal (play (position-of (a .pos)) (a .m .bits)) ≡ 0
 played c = sym (c .before .before .make-move .ensures .number) ∙ ap answer-number (c .enum-told .given .1)
 
 move-status-requires : tie.Need-move-status-requires
@@ -61,7 +64,9 @@ returns-3 c =
     let start = at-is-unsound .before in
     let p = position-of (start .args .pos) in
     judges-as _ _ _ _
-    (judged-refused p _ (sym (at-is-unsound .is-unsound .ensures) ∙ at-if1 .if1 .left) (move-error-number (at-answer .answer .given .0 .0)) (some-number (at-answer .answer .given .0 .0)) (sym (ap answer-number (at-answer .answer .given .1)) ∙ at-make-move .make-move .ensures .number))
+    (judged-refused p _ (sym (at-is-unsound .is-unsound .ensures) ∙ at-if1 .if1 .left)
+    (move-error-number (at-answer .answer .given .0 .0)) (some-number (at-answer .answer .given .0 .0))
+    (sym (ap answer-number (at-answer .answer .given .1)) ∙ at-make-move .make-move .ensures .number))
     refl (c .unproven2 .ensures)
 
 pub evaluate-move-spec : {M : Type 1} → statement M

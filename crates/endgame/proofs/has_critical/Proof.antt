@@ -13,7 +13,8 @@ use Rattle.endgame.proofs.has_critical.Statement.{statement}
 use Rattle.endgame.proofs.has_critical.Tie as tie
 
 abbrev Inv-loop : tie.InvT-loop
-Inv-loop player empty i₀ i = (i ≤ 8) × (any (lacks-one (bit player) (bit empty)) (drop i lines) ≡ any (lacks-one (bit player) (bit empty)) lines)
+Inv-loop player empty i₀ i =
+    (i ≤ 8) × (any (lacks-one (bit player) (bit empty)) (drop i lines) ≡ any (lacks-one (bit player) (bit empty)) lines)
 
 abbrev μ-loop : tie.MeasureT-loop
 μ-loop player empty i₀ i = 8 - i
@@ -40,8 +41,11 @@ loop-less c = search needs
 loop-again : tie.Need-loop-again Inv-loop μ-loop
 loop-again c =
     let at-loop-test = c .before .before in
-    let at-loop = at-loop-test .before in
-    (search needs, any-missed _ lines _ (at-loop .loop .i) (at-loop-test .loop-test .taken) _ (at-loop .loop .inv .1) (sym (c .before .is-critical .ensures) ∙ c .if1 .left))
+    let at-loop = at-loop-test .before in (
+      search needs,
+      any-missed _ lines _ (at-loop .loop .i) (at-loop-test .loop-test .taken) _ (at-loop .loop .inv .1)
+          (sym (c .before .is-critical .ensures) ∙ c .if1 .left),
+    )
 
 returns-2 : tie.Need-returns-2 Inv-loop μ-loop
 unfolding any

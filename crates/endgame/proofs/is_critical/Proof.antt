@@ -18,7 +18,9 @@ is-single-bit-requires : tie.Need-is-single-bit-requires
 is-single-bit-requires c κs = search needs
 
 returns-2 : tie.Need-returns-2
-returns-2 c = c .is-single-bit .ensures ∙ line-counted _ _ _ (c .before .before .pre .0) (c .before .before .pre .1) (c .before .before .pre .2) (c .before .if1 .left)
+returns-2 c =
+    c .is-single-bit .ensures ∙ line-counted _ _ _ (c .before .before .pre .0) (c .before .before .pre .1) (c .before .before .pre .2)
+    (c .before .if1 .left)
 
 pub is-critical-spec : {M : Type 1} → statement M
 is-critical-spec =

@@ -13,7 +13,9 @@ in-play-requires : tie.Need-in-play-requires
 in-play-requires c κs = search needs
 
 returns : tie.Need-returns
-returns c = live-closed (position-of (c .before .before .before .before .args .pos)) _ (sym (c .before .in-play .ensures) ∙ not-true _ (c .if1 .taken))
+returns c =
+    live-closed (position-of (c .before .before .before .before .args .pos)) _
+    (sym (c .before .in-play .ensures) ∙ not-true _ (c .if1 .taken))
 
 free-squares-requires : tie.Need-free-squares-requires
 free-squares-requires c κs = search needs

@@ -30,7 +30,9 @@ has-line-requires : tie.Need-has-line-requires Inv-loop μ-loop
 has-line-requires c κs = search needs
 
 returns : tie.Need-returns Inv-loop μ-loop
-returns c = line-of-x (position-of (c .before .before .before .before .args .pos)) (line-known _ _ _ _ (c .before .before .xbits .ensures) (c .before .has-line .ensures) (c .if1 .taken))
+returns c =
+    line-of-x (position-of (c .before .before .before .before .args .pos))
+    (line-known _ _ _ _ (c .before .before .xbits .ensures) (c .before .has-line .ensures) (c .if1 .taken))
 
 obits-requires : tie.Need-obits-requires Inv-loop μ-loop
 obits-requires c κs = search needs
@@ -56,8 +58,11 @@ loop-holds c =
     let at-has-line = at-if1 .before in
     let at-xbits = at-has-line .before in
     let start = at-xbits .before .before in
-    let p = position-of (start .args .pos) in
-    (search needs, no-line p (line-known _ _ _ _ (at-xbits .xbits .ensures) (at-has-line .has-line .ensures) (at-if1 .if1 .left)) (line-known _ _ _ _ (at-obits .obits .ensures) (c .before .has-line2 .ensures) (c .if2 .left)))
+    let p = position-of (start .args .pos) in (
+      search needs,
+      no-line p (line-known _ _ _ _ (at-xbits .xbits .ensures) (at-has-line .has-line .ensures) (at-if1 .if1 .left))
+          (line-known _ _ _ _ (at-obits .obits .ensures) (c .before .has-line2 .ensures) (c .if2 .left)),
+    )
 
 is-live-requires : tie.Need-is-live-requires Inv-loop μ-loop
 is-live-requires c κs = search needs
@@ -82,8 +87,11 @@ loop-again c =
     let at-loop-test = c .before .before in
     let at-loop = at-loop-test .before in
     let start = at-loop .before .before .before .before .before .before .before .before in
-    let p = position-of (start .args .pos) in
-    (search needs, all-passed (live p) nine 0 (at-loop .loop .board) (at-loop-test .loop-test .taken) _ (at-loop .loop .inv .1) (ap (live p) (nine-at _ (at-loop-test .loop-test .taken)) ∙ sym (c .before .is-live .ensures) ∙ not-false _ (c .if3 .left)))
+    let p = position-of (start .args .pos) in (
+      search needs,
+      all-passed (live p) nine 0 (at-loop .loop .board) (at-loop-test .loop-test .taken) _ (at-loop .loop .inv .1)
+          (ap (live p) (nine-at _ (at-loop-test .loop-test .taken)) ∙ sym (c .before .is-live .ensures) ∙ not-false _ (c .if3 .left)),
+    )
 
 returns-4 : tie.Need-returns-4 Inv-loop μ-loop
 unfolding all

@@ -18,7 +18,9 @@ is-sound-requires : tie.Need-is-sound-requires
 is-sound-requires c κs = search needs
 
 returns-2 : tie.Need-returns-2
-returns-2 c = rw (not-false (unfinished (position-of (c .before .before .before .args .pos))) (sym (c .before .before .game-over .ensures) ∙ c .before .if1 .left)) (ap not (c .is-sound .ensures))
+returns-2 c =
+    rw (not-false (unfinished (position-of (c .before .before .before .args .pos)))
+    (sym (c .before .before .game-over .ensures) ∙ c .before .if1 .left)) (ap not (c .is-sound .ensures))
 
 pub is-unsound-spec : {M : Type 1} → statement M
 is-unsound-spec = tie.close (tie.spec game-over-requires returns is-sound-requires returns-2)

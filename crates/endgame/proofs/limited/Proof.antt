@@ -19,7 +19,11 @@ enum-told : tie.Need-enum-told
 enum-told c = search needs
 
 returns-2 : tie.Need-returns-2
-returns-2 c = record { narrowed = λ t s l e. c .merge .ensures ∙ narrow-set _ _ t s l (c .before .before .before .before .if1 .left) _ (sym (c .before .before .proven .given .1) ∙ e) }
+returns-2 c =
+    record {
+      narrowed = λ t s l e. c .merge .ensures ∙ narrow-set _ _ t s l (c .before .before .before .before .if1 .left) _
+          (sym (c .before .before .proven .given .1) ∙ e);
+    }
 
 returns-3 : tie.Need-returns-3
 returns-3 c = record { narrowed = λ t s l e. narrow-none _ _ t s l (sym (c .enum-told .given .1) ∙ e) }

@@ -12,7 +12,8 @@ use Rattle.rules.specs.Endgame.{critical, has-critical, suits}
 use Rattle.status.specs.Sets.{status-of}
 use Rattle.game.specs.Meaning.{position-of}
 use Rattle.endgame.proofs.PartsSets.{set-lt, joined-lt}
-use Rattle.endgame.proofs.PartsAttack.{set-of-side, set-critical, set-suits, some-critical, judged-safe, judged-blocking, judged-lost, judged-open}
+use Rattle.endgame.proofs.PartsAttack.{set-of-side, set-critical, set-suits, some-critical, judged-safe, judged-blocking}
+use Rattle.endgame.proofs.PartsAttack.{judged-lost, judged-open}
 use borrow.Author.Needs.{needs}
 use Rattle.endgame.proofs.move_status.Statement.{statement}
 use Rattle.endgame.proofs.move_status.Tie as tie
@@ -27,7 +28,8 @@ critical-boards-requires : tie.Need-critical-boards-requires
 critical-boards-requires c κs = search needs
 
 -- the other side's critical boards
-others : (c : tie.After-critical-boards) → let p = position-of (c .before .before .before .before .args .pos) in c .critical-boards .result ≡ digits (critical p (other (p .turn))) 9
+others : (c : tie.After-critical-boards) → let p =
+    position-of (c .before .before .before .before .args .pos) in c .critical-boards .result ≡ digits (critical p (other (p .turn))) 9
 others c = set-of-side _ _ _ _ (c .critical-boards .ensures) (c .before .other .ensures ∙ ap other (c .before .before .player .ensures))
 
 unproven-requires : tie.Need-unproven-requires
@@ -38,7 +40,8 @@ returns c =
     let at-critical-boards = c .before .before in
     let start = at-critical-boards .before .before .before .before in
     let p = position-of (start .args .pos) in
-    c .unproven .ensures ∙ ap status-of (judged-safe p _ (some-critical p _ _ (others at-critical-boards) true (eq-eqb _ _ (c .before .if1 .taken))))
+    c .unproven .ensures ∙ ap status-of
+    (judged-safe p _ (some-critical p _ _ (others at-critical-boards) true (eq-eqb _ _ (c .before .if1 .taken))))
 
 global-requires : tie.Need-global-requires
 global-requires c κs = search needs
@@ -47,9 +50,12 @@ holds-requires : tie.Need-holds-requires
 holds-requires c κs = set-lt _ _ (others (c .before .before))
 
 -- whether the move is in one
-here : (c : tie.After-holds) (r : Bool) → c .holds .result ≡ r → let p = position-of (c .before .before .before .before .before .before .before .args .pos) in critical p (other (p .turn)) (board-of (c .before .before .before .before .before .before .before .args .m .bits)) ≡ r
+here : (c : tie.After-holds) (r : Bool) → c .holds .result ≡ r → let p =
+    position-of (c .before .before .before .before .before .before .before .args .pos) in
+    critical p (other (p .turn)) (board-of (c .before .before .before .before .before .before .before .args .m .bits)) ≡ r
 here c r e =
-    sym (set-critical (position-of (c .before .before .before .before .before .before .before .args .pos)) _ _ (others (c .before .before .before)) (c .before .before .before .before .before .before .before .pre .0) _)
+    sym (set-critical (position-of (c .before .before .before .before .before .before .before .args .pos)) _ _
+    (others (c .before .before .before)) (c .before .before .before .before .before .before .before .pre .0) _)
     ∙ ap (bit (c .before .before .before .critical-boards .result)) (sym (c .before .global .ensures)) ∙ sym (c .holds .ensures) ∙ e
 
 unproven-requires-2 : tie.Need-unproven-requires-2
@@ -72,13 +78,24 @@ holds-requires-2 : tie.Need-holds-requires-2
 holds-requires-2 c κs = joined-lt _ _ _ _ (c .before .donebits .ensures) (others (c .before .before .before .before .before .before))
 
 -- whether it sends the other side where it suits
-sent : (c : tie.After-holds2) (r : Bool) → c .holds2 .result ≡ r → let p = position-of (c .before .before .before .before .before .before .before .before .before .before .before .args .pos) in suits p (other (p .turn)) (cell-of (c .before .before .before .before .before .before .before .before .before .before .before .args .m .bits)) ≡ r
+sent : (c : tie.After-holds2) (r : Bool) → c .holds2 .result ≡ r → let p =
+    position-of (c .before .before .before .before .before .before .before .before .before .before .before .args .pos) in
+    suits p (other (p .turn))
+    (cell-of (c .before .before .before .before .before .before .before .before .before .before .before .args .m .bits)) ≡ r
 sent c r e =
-    sym (set-suits (position-of (c .before .before .before .before .before .before .before .before .before .before .before .args .pos)) _ _ (others (c .before .before .before .before .before .before .before)) _ (c .before .before .donebits .ensures) _ (c .before .before .before .before .before .before .before .before .before .before .before .pre .1))
-    ∙ ap (bit (bitOr (c .before .before .donebits .result) (c .before .before .before .before .before .before .before .critical-boards .result))) (sym (c .before .local .ensures)) ∙ sym (c .holds2 .ensures) ∙ e
+    let at-donebits = c .before .before in
+    let at-critical-boards-2 = at-donebits .before .before .before .before .before in
+    let start-2 = at-critical-boards-2 .before .before .before .before in
+    sym (set-suits (position-of (start-2 .args .pos)) _ _ (others (at-critical-boards-2)) _ (at-donebits .donebits .ensures) _
+    (start-2 .pre .1))
+    ∙ ap (bit (bitOr (at-donebits .donebits .result) (at-critical-boards-2 .critical-boards .result))) (sym (c .before .local .ensures))
+    ∙ sym (c .holds2 .ensures) ∙ e
 
-threatened : (c : tie.Else1) → let p = position-of (c .before .before .before .before .before .args .pos) in has-critical p (other (p .turn)) ≡ true
-threatened c = some-critical (position-of (c .before .before .before .before .before .args .pos)) _ _ (others (c .before)) false (ne-eqb _ _ (c .if1 .left))
+threatened : (c : tie.Else1) → let p =
+    position-of (c .before .before .before .before .before .args .pos) in has-critical p (other (p .turn)) ≡ true
+threatened c =
+    some-critical (position-of (c .before .before .before .before .before .args .pos)) _ _ (others (c .before)) false
+    (ne-eqb _ _ (c .if1 .left))
 
 for-player-requires : tie.Need-for-player-requires
 for-player-requires c κs = search needs

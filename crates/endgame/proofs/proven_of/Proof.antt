@@ -19,7 +19,9 @@ for-player-requires-2 : tie.Need-for-player-requires-2
 for-player-requires-2 c κs = search needs
 
 returns-2 : tie.Need-returns-2
-returns-2 c = rw (c .before .other .ensures) at (c .for-player2 .ensures) ∙ ap status-of (proven-lost _ _ _ (c .before .before .before .if1 .left) (c .before .before .if2 .taken))
+returns-2 c =
+    rw (c .before .other .ensures) at (c .for-player2 .ensures) ∙ ap status-of
+    (proven-lost _ _ _ (c .before .before .before .if1 .left) (c .before .before .if2 .taken))
 
 unproven-requires : tie.Need-unproven-requires
 unproven-requires c κs = search needs

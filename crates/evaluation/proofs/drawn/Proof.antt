@@ -19,7 +19,9 @@ returns : tie.Need-returns
 returns c = nothing (c .before .before .args .turn) ∙ drawn-as (c .before .before .args .turn) _ _ (c .enum-told .given .1)
 
 returns-2 : tie.Need-returns-2
-returns-2 c = result (c .won-by .ok) (c .won-by .ensures) ∙ drawn-as (c .before .before .before .before .args .turn) _ _ (c .before .before .draw-winner .given .1)
+returns-2 c =
+    result (c .won-by .ok) (c .won-by .ensures) ∙ drawn-as (c .before .before .before .before .args .turn) _ _
+    (c .before .before .draw-winner .given .1)
 
 pub drawn-spec : {M : Type 1} → statement M
 drawn-spec =

@@ -19,7 +19,8 @@ returns : tie.Need-returns
 returns c =
     let a = c .before .before .args in
     let sc = scoring-with (a .draw-winner) in
-    result (c .evaluate .ok) (c .evaluate .ensures) ∙ ap (evaluate-by sc (position-of (a .g))) (c .before .new .ensures) ∙ by-values sc (position-of (a .g))
+    result (c .evaluate .ok) (c .evaluate .ensures) ∙ ap (evaluate-by sc (position-of (a .g))) (c .before .new .ensures)
+    ∙ by-values sc (position-of (a .g))
 
 pub evaluate-spec : {M : Type 1} → statement M
 evaluate-spec = tie.close (tie.spec new-requires evaluate-requires returns)

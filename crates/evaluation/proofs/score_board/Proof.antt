@@ -22,7 +22,8 @@ score-line-requires-2 : tie.Need-score-line-requires-2
 score-line-requires-2 c κs = search needs
 
 abbrev to-2 : tie.After-score-line2 → Held 6
-to-2 c = plus (held (c .before .score-line .ensures) (board-line-within _ _ _)) (held (c .score-line2 .ensures) (board-line-within _ _ _)) tt tt
+to-2 c =
+    plus (held (c .before .score-line .ensures) (board-line-within _ _ _)) (held (c .score-line2 .ensures) (board-line-within _ _ _)) tt tt
 
 add-result : tie.Need-add-result
 add-result c = held-fits (to-2 c) tt

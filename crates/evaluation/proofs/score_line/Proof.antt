@@ -26,7 +26,9 @@ potential-requires-2 c κs = search needs
 abbrev for-o : tie.After-potential2 → Held 3
 for-o c =
     let s = c .before .before .before in
-    minus (c .potential2 .result) (record { sfits = c .potential2 .ok }) (ap negℤ (c .potential2 .ensures) ∙ line-o (s .args .i) (s .args .xbits) (s .args .obits) (s .pre) (c .before .if2 .taken)) (board-line-within _ _ _)
+    minus (c .potential2 .result) (record { sfits = c .potential2 .ok })
+    (ap negℤ (c .potential2 .ensures) ∙ line-o (s .args .i) (s .args .xbits) (s .args .obits) (s .pre) (c .before .if2 .taken))
+    (board-line-within _ _ _)
 
 sub-result : tie.Need-sub-result
 sub-result c = held-fits (for-o c) tt

@@ -65,7 +65,8 @@ wide-requires-3 c κs = search needs
 abbrev to-3 : tie.After-wide3 → Held 384
 to-3 c =
     let a = c .before .before .before .before .before .before .before .before .args in
-    plus (to-2 (c .before .before)) (held-wide (value-at (a .t4) (place-at (a .i) 2)) (c .wide3 .ensures) (c .before .wide-arg3 .given)) tt tt
+    plus (to-2 (c .before .before)) (held-wide (value-at (a .t4) (place-at (a .i) 2)) (c .wide3 .ensures) (c .before .wide-arg3 .given)) tt
+    tt
 
 add-result-2 : tie.Need-add-result-2
 add-result-2 c = held-fits (to-3 c) tt
@@ -73,8 +74,10 @@ add-result-2 c = held-fits (to-3 c) tt
 returns-2 : tie.Need-returns-2
 returns-2 c =
     let j = c .before .before .before .before .before .before in
-    let h = j .before .before .pre in
-    (held-reads (to-3 c) tt ∙ ⊎-elim (λ w. overall-x _ _ _ _ h (w .1 .left)) (λ w. overall-o _ _ _ _ h (w .left)) (j .if1 .came), held-small (to-3 c) tt)
+    let h = j .before .before .pre in (
+      held-reads (to-3 c) tt ∙ ⊎-elim (λ w. overall-x _ _ _ _ h (w .1 .left)) (λ w. overall-o _ _ _ _ h (w .left)) (j .if1 .came),
+      held-small (to-3 c) tt,
+    )
 
 pub score-overall-spec : {M : Type 1} → statement M
 score-overall-spec =

@@ -20,7 +20,8 @@ score-board-requires c κs = search needs
 abbrev scored : tie.After-score-board → Held 24
 scored c =
     let p = position-of (c .before .before .before .before .before .before .args .g) in
-    held (c .score-board .ensures ∙ value-open p _ (sym (c .before .before .before .at .ensures) ∙ c .before .enum-told .given .1)) (value-within p _)
+    held (c .score-board .ensures ∙ value-open p _ (sym (c .before .before .before .at .ensures) ∙ c .before .enum-told .given .1))
+    (value-within p _)
 
 cast-result : tie.Need-cast-result
 cast-result c = held-narrows (scored c) tt tt
@@ -44,13 +45,21 @@ returns : tie.Need-returns
 returns c = held-narrowed (scored c) tt tt
 
 returns-2 : tie.Need-returns-2
-returns-2 c = value-is (position-of (c .before .before .before .before .before .args .g)) _ _ (sym (c .before .before .at .ensures) ∙ c .enum-told2 .given .1)
+returns-2 c =
+    value-is (position-of (c .before .before .before .before .before .args .g)) _ _
+    (sym (c .before .before .at .ensures) ∙ c .enum-told2 .given .1)
 
 returns-3 : tie.Need-returns-3
-returns-3 c = value-is (position-of (c .before .before .before .before .before .before .before .before .args .g)) _ _ (sym (c .before .before .before .before .before .at .ensures) ∙ c .before .before .before .state .given .1 ∙ ap Won (c .enum-told3 .given .1))
+returns-3 c =
+    value-is (position-of (c .before .before .before .before .before .before .before .before .args .g)) _ _
+    (sym (c .before .before .before .before .before .at .ensures) ∙ c .before .before .before .state .given .1
+    ∙ ap Won (c .enum-told3 .given .1))
 
 returns-4 : tie.Need-returns-4
-returns-4 c = value-is (position-of (c .before .before .before .before .before .before .before .before .args .g)) _ _ (sym (c .before .before .before .before .before .at .ensures) ∙ c .before .before .before .state .given .1 ∙ ap Won (c .enum-told4 .given .1))
+returns-4 c =
+    value-is (position-of (c .before .before .before .before .before .before .before .before .args .g)) _ _
+    (sym (c .before .before .before .before .before .at .ensures) ∙ c .before .before .before .state .given .1
+    ∙ ap Won (c .enum-told4 .given .1))
 
 pub value-of-spec : {M : Type 1} → statement M
 value-of-spec =

@@ -71,7 +71,9 @@ returns-8 : tie.Need-returns-8
 returns-8 c = search needs
 
 returns-9 : tie.Need-returns-9
-returns-9 c = same-won _ _ _ _ _ _ (c .before .before .before .before .before .before .a .given .1) (c .before .before .before .b .given .1) (c .before .as-bit .ensures) (c .as-bit2 .ensures)
+returns-9 c =
+    same-won _ _ _ _ _ _ (c .before .before .before .before .before .before .a .given .1) (c .before .before .before .b .given .1)
+    (c .before .as-bit .ensures) (c .as-bit2 .ensures)
 
 pub same-state-spec : {M : Type 1} → statement M
 same-state-spec =

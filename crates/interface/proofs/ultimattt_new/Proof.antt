@@ -18,7 +18,9 @@ same-length : tie.Need-same-length
 same-length c = search needs
 
 returns-2 : tie.Need-returns-2
-returns-2 c = begins-well (c .before .before .before .before .before .before .before .args .position .now) _ _ (c .before .before .before .before .before .if1 .left) (c .before .before .before .new .ensures) (c .before .before .put .ensures)
+returns-2 c =
+    begins-well (c .before .before .before .before .before .before .before .args .position .now) _ _
+    (c .before .before .before .before .before .if1 .left) (c .before .before .before .new .ensures) (c .before .before .put .ensures)
 
 pub ultimattt-new-spec : {M : Type 1} → statement M
 ultimattt-new-spec = tie.close (tie.spec returns new-requires put-requires same-length returns-2)

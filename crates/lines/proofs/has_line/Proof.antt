@@ -27,7 +27,9 @@ array-read-m : tie.Need-array-read-m Inv-loop μ-loop
 array-read-m c = search needs
 
 returns : tie.Need-returns Inv-loop μ-loop
-returns c = mask-found (c .before .before .before .args .bits) (c .before .before .loop .i) _ (c .before .loop-test .taken) (c .before .before .loop .inv .1) (c .if1 .taken)
+returns c =
+    mask-found (c .before .before .before .args .bits) (c .before .before .loop .i) _ (c .before .loop-test .taken)
+    (c .before .before .loop .inv .1) (c .if1 .taken)
 
 add-i : tie.Need-add-i Inv-loop μ-loop
 add-i c = search needs
@@ -36,7 +38,11 @@ loop-less : tie.Need-loop-less Inv-loop μ-loop
 loop-less c = search needs
 
 loop-again : tie.Need-loop-again Inv-loop μ-loop
-loop-again c = (search needs, mask-missed (c .before .before .before .args .bits) (c .before .before .loop .i) _ (c .before .loop-test .taken) (c .before .before .loop .inv .1) (c .if1 .left))
+loop-again c = (
+  search needs,
+  mask-missed (c .before .before .before .args .bits) (c .before .before .loop .i) _ (c .before .loop-test .taken)
+      (c .before .before .loop .inv .1) (c .if1 .left),
+)
 
 returns-2 : tie.Need-returns-2 Inv-loop μ-loop
 unfolding any

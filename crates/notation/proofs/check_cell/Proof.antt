@@ -35,10 +35,15 @@ enum-told-2 : tie.Need-enum-told-2
 enum-told-2 c = search needs
 
 returns-5 : tie.Need-returns-5
-returns-5 c = let e = sym (c .before .before .cell-mark-of .ensures) ∙ ap cell-said (c .enum-told .given .1) in sym (cell-stands _ _ (c .before .before .before .before .before .if1 .left) (c .before .before .before .before .if4 .left) (rw e tt))
+returns-5 c =
+    let e = sym (c .before .before .cell-mark-of .ensures) ∙ ap cell-said (c .enum-told .given .1) in
+    sym (cell-stands _ _ (c .before .before .before .before .before .if1 .left) (c .before .before .before .before .if4 .left) (rw e tt))
 
 returns-6 : tie.Need-returns-6
-returns-6 c = let e = sym (c .before .before .cell-mark-of .ensures) ∙ ap cell-said (c .enum-told2 .given .1) in sym (cell-bad _ _ (c .before .before .before .before .before .if1 .left) (c .before .before .before .before .if4 .left) (λ t. rw e at t))
+returns-6 c =
+    let e = sym (c .before .before .cell-mark-of .ensures) ∙ ap cell-said (c .enum-told2 .given .1) in
+    sym (cell-bad _ _ (c .before .before .before .before .before .if1 .left) (c .before .before .before .before .if4 .left)
+    (λ t. rw e at t))
 
 pub check-cell-spec : {M : Type 1} → statement M
 check-cell-spec =

@@ -20,7 +20,8 @@ refuse-requires-2 : tie.Need-refuse-requires-2
 refuse-requires-2 c κs = search needs
 
 returns-2 : tie.Need-returns-2
-returns-2 c = parses-one _ _ (c .before .before .before .if1 .left) _ (c .before .before .find .ensures) (c .before .if2 .taken) (c .refuse2 .ensures)
+returns-2 c =
+    parses-one _ _ (c .before .before .before .if1 .left) _ (c .before .before .find .ensures) (c .before .if2 .taken) (c .refuse2 .ensures)
 
 add-overall : tie.Need-add-overall
 add-overall c = search needs
@@ -32,7 +33,10 @@ refuse-requires-3 : tie.Need-refuse-requires-3
 refuse-requires-3 c κs = search needs
 
 returns-3 : tie.Need-returns-3
-returns-3 c = parses-two _ _ (c .before .before .before .before .before .if1 .left) _ _ (c .before .before .before .before .find .ensures) (omega (arith, c .before .before .before .before .find .ensures .high, c .before .before .before .if2 .left)) (c .before .before .find2 .ensures) (c .before .if3 .taken) (c .refuse3 .ensures)
+returns-3 c =
+    parses-two _ _ (c .before .before .before .before .before .if1 .left) _ _ (c .before .before .before .before .find .ensures)
+    (omega (arith, c .before .before .before .before .find .ensures .high, c .before .before .before .if2 .left))
+    (c .before .before .find2 .ensures) (c .before .if3 .taken) (c .refuse3 .ensures)
 
 add-cells : tie.Need-add-cells
 add-cells c = search needs
@@ -44,7 +48,14 @@ refuse-requires-4 : tie.Need-refuse-requires-4
 refuse-requires-4 c κs = search needs
 
 returns-4 : tie.Need-returns-4
-returns-4 c = parses-four _ _ (c .before .before .before .before .before .before .before .if1 .left) _ _ _ (c .before .before .before .before .before .before .find .ensures) (c .before .before .before .before .find2 .ensures) (omega (arith, c .before .before .before .before .find2 .ensures .high, c .before .before .before .if3 .left)) (c .before .before .find3 .ensures) (omega (arith, c .before .before .find3 .ensures .high, c .before .if4 .taken)) (c .refuse4 .ensures)
+returns-4 c =
+    let at-find3 = c .before .before in
+    let at-find2 = at-find3 .before .before in
+    let at-find = at-find2 .before .before in
+    let at-if1 = at-find .before in
+    parses-four _ _ (at-if1 .if1 .left) _ _ _ (at-find .find .ensures) (at-find2 .find2 .ensures)
+    (omega (arith, at-find2 .find2 .ensures .high, at-find3 .before .if3 .left)) (at-find3 .find3 .ensures)
+    (omega (arith, at-find3 .find3 .ensures .high, c .before .if4 .taken)) (c .refuse4 .ensures)
 
 slice-aggregate-parse-sections : tie.Need-slice-aggregate-parse-sections
 slice-aggregate-parse-sections c = sym (length-take-le _ _ (c .before .before .before .before .before .before .find .ensures .high))
@@ -71,7 +82,15 @@ parse-sections-requires : tie.Need-parse-sections-requires
 parse-sections-requires c κs = search needs
 
 returns-5 : tie.Need-returns-5
-returns-5 c = parses-three _ _ (c .before .before .before .before .before .before .before .before .before .before .if1 .left) _ _ _ (c .before .before .before .before .before .before .before .before .before .find .ensures) (c .before .before .before .before .before .before .before .find2 .ensures) (omega (arith, c .before .before .before .before .before .before .before .find2 .ensures .high, c .before .before .before .before .before .before .if3 .left)) (c .before .before .before .before .before .find3 .ensures) (omega (arith, c .before .before .before .before .before .find3 .ensures .high, c .before .before .before .before .if4 .left)) (c .parse-sections .ensures)
+returns-5 c =
+    let at-find3 = c .before .before .before .before .before in
+    let at-if3 = at-find3 .before in
+    let at-find2 = at-if3 .before in
+    let at-find = at-find2 .before .before in
+    let at-if1 = at-find .before in
+    parses-three _ _ (at-if1 .if1 .left) _ _ _ (at-find .find .ensures) (at-find2 .find2 .ensures)
+    (omega (arith, at-find2 .find2 .ensures .high, at-if3 .if3 .left)) (at-find3 .find3 .ensures)
+    (omega (arith, at-find3 .find3 .ensures .high, c .before .before .before .before .if4 .left)) (c .parse-sections .ensures)
 
 pub parse-spec : {M : Type 1} → statement M
 parse-spec =

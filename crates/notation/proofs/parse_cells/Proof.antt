@@ -26,13 +26,17 @@ enum-known-why : tie.Need-enum-known-why Inv-loop μ-loop
 enum-known-why c = search needs
 
 returns : tie.Need-returns Inv-loop μ-loop
-returns c = let l = c .before .before .before .before .before .loop in fault-found _ _ _ (c .before .before .before .before .loop-test .taken) (l .inv .1) _ (sym (ap fault-number (c .before .why .given .1)) ∙ c .before .before .before .check-cell .ensures) (kind-is-a-fault (c .before .why .given .0 .0))
+returns c =
+    let l = c .before .before .before .before .before .loop in fault-found _ _ _ (c .before .before .before .before .loop-test .taken)
+    (l .inv .1) _ (sym (ap fault-number (c .before .why .given .1)) ∙ c .before .before .before .check-cell .ensures)
+    (kind-is-a-fault (c .before .why .given .0 .0))
 
 enum-told : tie.Need-enum-told Inv-loop μ-loop
 enum-told c = search needs
 
 shared-slice-read-with-mark : tie.Need-shared-slice-read-with-mark Inv-loop μ-loop
-shared-slice-read-with-mark c = faultless-is-there _ _ (sym (c .before .before .before .check-cell .ensures) ∙ ap fault-number (c .before .enum-told .given .1))
+shared-slice-read-with-mark c =
+    faultless-is-there _ _ (sym (c .before .before .before .check-cell .ensures) ∙ ap fault-number (c .before .enum-told .given .1))
 
 with-mark-requires : tie.Need-with-mark-requires Inv-loop μ-loop
 with-mark-requires c κs = search needs
@@ -44,7 +48,12 @@ loop-less : tie.Need-loop-less Inv-loop μ-loop
 loop-less c = search needs
 
 loop-again : tie.Need-loop-again Inv-loop μ-loop
-loop-again c = let l = c .before .before .before .before .before .before .loop in (omega arith, rw (c .with-mark .ensures) (one-filled _ _ _ (c .before .before .before .before .before .loop-test .taken) (l .inv .1) (sym (c .before .before .before .before .check-cell .ensures) ∙ ap fault-number (c .before .before .enum-told .given .1))))
+loop-again c =
+    let l = c .before .before .before .before .before .before .loop in (
+      omega arith,
+      rw (c .with-mark .ensures) (one-filled _ _ _ (c .before .before .before .before .before .loop-test .taken) (l .inv .1)
+          (sym (c .before .before .before .before .check-cell .ensures) ∙ ap fault-number (c .before .before .enum-told .given .1))),
+    )
 
 returns-2 : tie.Need-returns-2 Inv-loop μ-loop
 returns-2 c = let l = c .before .loop in let e : l .i ≡ 89 = omega arith in all-filled _ _ (rw e at (l .inv .1))

@@ -27,13 +27,21 @@ parse-coord-requires-2 : tie.Need-parse-coord-requires-2
 parse-coord-requires-2 c κs = search needs
 
 returns-3 : tie.Need-returns-3
-returns-3 c = second-bad _ (c .before .before .before .before .before .before .if1 .left) _ (c .before .before .before .parse-coord .ensures) (c .before .before .if2 .left) _ (c .before .parse-coord2 .ensures) (c .if3 .taken)
+returns-3 c =
+    second-bad _ (c .before .before .before .before .before .before .if1 .left) _ (c .before .before .before .parse-coord .ensures)
+    (c .before .before .if2 .left) _ (c .before .parse-coord2 .ensures) (c .if3 .taken)
 
-letters : (c : tie.Else3) → Lettered (getD (c .before .before .before .before .before .before .before .before .args .text .now) 0 0) × Lettered (getD (c .before .before .before .before .before .before .before .before .args .text .now) 1 0)
-letters c = (
-  first-lettered (c .before .before .before .before .before .before .before .before .args .text .now) (c .before .before .before .before .before .before .if1 .left) _ (c .before .before .before .parse-coord .ensures) (c .before .before .if2 .left),
-  second-lettered (c .before .before .before .before .before .before .before .before .args .text .now) (c .before .before .before .before .before .before .if1 .left) _ (c .before .before .before .parse-coord .ensures) (c .before .before .if2 .left) _ (c .before .parse-coord2 .ensures) (c .if3 .left),
-)
+letters : (c : tie.Else3) → Lettered (getD (c .before .before .before .before .before .before .before .before .args .text .now) 0 0) ×
+    Lettered (getD (c .before .before .before .before .before .before .before .before .args .text .now) 1 0)
+letters c =
+    let at-if2 = c .before .before in
+    let at-parse-coord = at-if2 .before in
+    let at-if1 = at-parse-coord .before .before .before in
+    let start = at-if1 .before .before in (
+      first-lettered (start .args .text .now) (at-if1 .if1 .left) _ (at-parse-coord .parse-coord .ensures) (at-if2 .if2 .left),
+      second-lettered (start .args .text .now) (at-if1 .if1 .left) _ (at-parse-coord .parse-coord .ensures) (at-if2 .if2 .left) _
+          (c .before .parse-coord2 .ensures) (c .if3 .left),
+    )
 
 sub-t9 : tie.Need-sub-t9
 sub-t9 c = omega (arith, letters c)
@@ -48,7 +56,9 @@ add-t19 : tie.Need-add-t19
 add-t19 c = omega (arith, letters c)
 
 returns-4 : tie.Need-returns-4
-returns-4 c = both-good _ (c .before .before .before .before .before .before .if1 .left) _ (c .before .before .before .parse-coord .ensures) (c .before .before .if2 .left) _ (c .before .parse-coord2 .ensures) _ (c .if3 .left) refl
+returns-4 c =
+    both-good _ (c .before .before .before .before .before .before .if1 .left) _ (c .before .before .before .parse-coord .ensures)
+    (c .before .before .if2 .left) _ (c .before .parse-coord2 .ensures) _ (c .if3 .left) refl
 
 pub parse-move-spec : {M : Type 1} → statement M
 parse-move-spec =

@@ -31,7 +31,10 @@ enum-told : tie.Need-enum-told Inv-loop μ-loop
 enum-told c = search needs
 
 returns : tie.Need-returns Inv-loop μ-loop
-returns c = let l = c .before .before .before .before .before .loop in bad-found _ _ _ _ (c .before .before .before .before .before .before .before .pre) (l .inv .1) (c .before .before .before .before .loop-test .taken) (sym (c .before .before .mark-of .ensures) ∙ ap mark-said (c .enum-told .given .1))
+returns c =
+    let l = c .before .before .before .before .before .loop in bad-found _ _ _ _
+    (c .before .before .before .before .before .before .before .pre) (l .inv .1) (c .before .before .before .before .loop-test .taken)
+    (sym (c .before .before .mark-of .ensures) ∙ ap mark-said (c .enum-told .given .1))
 
 set-requires : tie.Need-set-requires Inv-loop μ-loop
 set-requires c κs = search needs
@@ -53,12 +56,15 @@ loop-again c =
     let q = c .before .before .before .before .before .before in
     let l = q .before .before .before .loop in (
       omega arith,
-      rw (c .before .before .set .ensures) (one-marked _ _ _ _ (q .before .before .before .before .before .pre) (l .inv .1) (q .before .before .loop-test .taken) _ (sym (q .mark-of .ensures) ∙ ap mark-said (c .before .before .before .before .state .given .1)) _
+      rw (c .before .before .set .ensures) (one-marked _ _ _ _ (q .before .before .before .before .before .pre) (l .inv .1)
+          (q .before .before .loop-test .taken) _ (sym (q .mark-of .ensures)
+          ∙ ap mark-said (c .before .before .before .before .state .given .1)) _
           (c .either .ensures ∙ ap (λ (d : NextBoard). next-board-or d (l .next)) (c .before .next-of .ensures))),
     )
 
 returns-2 : tie.Need-returns-2 Inv-loop μ-loop
-returns-2 c = let l = c .before .loop in let e : l .i ≡ 9 = omega arith in all-marked _ _ _ (c .before .before .before .pre) (rw e at (l .inv .1))
+returns-2 c =
+    let l = c .before .loop in let e : l .i ≡ 9 = omega arith in all-marked _ _ _ (c .before .before .before .pre) (rw e at (l .inv .1))
 
 pub parse-overall-spec : {M : Type 1} → statement M
 parse-overall-spec =

@@ -11,7 +11,10 @@ new-requires : tie.Need-new-requires
 new-requires c κs = search needs
 
 returns : tie.Need-returns
-returns c = let a = c .before .args in ap {B = Parsed} (λ (g : Game). record { game = g; answer = Refused (record { why = a .why; offset = a .offset; length = a .length }) }) (c .new .ensures)
+returns c =
+    let a = c .before .args in
+    ap {B = Parsed} (λ (g : Game). record { game = g; answer = Refused (record { why = a .why; offset = a .offset; length = a .length }) })
+    (c .new .ensures)
 
 pub refuse-spec : {M : Type 1} → statement M
 refuse-spec = tie.close (tie.spec new-requires returns)

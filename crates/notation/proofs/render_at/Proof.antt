@@ -22,7 +22,9 @@ is-next-requires : tie.Need-is-next-requires
 is-next-requires c κs = search needs
 
 returns-3 : tie.Need-returns-3
-returns-3 c = at-due _ _ (c .before .before .before .before .if1 .left) (c .before .before .before .if2 .left) _ (c .before .before .if3 .taken) (c .before .is-next .ensures) (c .if4 .taken)
+returns-3 c =
+    at-due _ _ (c .before .before .before .before .if1 .left) (c .before .before .before .if2 .left) _ (c .before .before .if3 .taken)
+    (c .before .is-next .ensures) (c .if4 .taken)
 
 at-requires : tie.Need-at-requires
 at-requires c κs = search needs
@@ -31,7 +33,10 @@ state-byte-requires : tie.Need-state-byte-requires
 state-byte-requires c κs = search needs
 
 returns-4 : tie.Need-returns-4
-returns-4 c = c .state-byte .ensures ∙ at-state _ _ (c .before .before .before .before .before .before .if1 .left) (c .before .before .before .before .before .if2 .left) _ _ (c .before .before .before .before .if3 .taken) (c .before .before .before .is-next .ensures) (c .before .before .if4 .left) (c .before .at .ensures)
+returns-4 c =
+    c .state-byte .ensures ∙ at-state _ _ (c .before .before .before .before .before .before .if1 .left)
+    (c .before .before .before .before .before .if2 .left) _ _ (c .before .before .before .before .if3 .taken)
+    (c .before .before .before .is-next .ensures) (c .before .before .if4 .left) (c .before .at .ensures)
 
 returns-5 : tie.Need-returns-5
 returns-5 c = at-second _ _ (c .if5 .taken)
@@ -40,7 +45,9 @@ sub-k : tie.Need-sub-k
 sub-k c = search needs
 
 returns-6 : tie.Need-returns-6
-returns-6 c = at-slash _ _ (c .before .before .before .before .if1 .left) (c .before .before .before .if2 .left) (c .before .before .if3 .left) (c .before .if5 .left) (c .if6 .taken)
+returns-6 c =
+    at-slash _ _ (c .before .before .before .before .if1 .left) (c .before .before .before .if2 .left) (c .before .before .if3 .left)
+    (c .before .if5 .left) (c .if6 .taken)
 
 at-requires-2 : tie.Need-at-requires-2
 at-requires-2 c κs = search needs
@@ -49,7 +56,10 @@ cell-byte-requires : tie.Need-cell-byte-requires
 cell-byte-requires c κs = search needs
 
 returns-7 : tie.Need-returns-7
-returns-7 c = c .cell-byte .ensures ∙ at-cell _ _ (c .before .before .before .before .before .before .if1 .left) (c .before .before .before .before .before .if2 .left) (c .before .before .before .before .if3 .left) (c .before .before .before .if5 .left) _ (c .before .before .if6 .left) (c .before .at2 .ensures)
+returns-7 c =
+    c .cell-byte .ensures ∙ at-cell _ _ (c .before .before .before .before .before .before .if1 .left)
+    (c .before .before .before .before .before .if2 .left) (c .before .before .before .before .if3 .left)
+    (c .before .before .before .if5 .left) _ (c .before .before .if6 .left) (c .before .at2 .ensures)
 
 pub render-at-spec : {M : Type 1} → statement M
 render-at-spec =

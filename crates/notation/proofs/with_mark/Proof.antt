@@ -27,10 +27,15 @@ set-requires : tie.Need-set-requires
 set-requires c κs = search needs
 
 returns-2 : tie.Need-returns-2
-returns-2 c = let e = sym (c .before .before .before .before .before .cell-mark-of .ensures) ∙ ap cell-said (c .before .before .before .state .given .1) in rw (e, c .enum-told2 .given .1)
+returns-2 c =
+    let e = sym (c .before .before .before .before .before .cell-mark-of .ensures)
+    ∙ ap cell-said (c .before .before .before .state .given .1) in rw (e, c .enum-told2 .given .1)
 
 returns-3 : tie.Need-returns-3
-returns-3 c = let e = sym (c .before .before .before .before .before .before .before .cell-mark-of .ensures) ∙ ap cell-said (c .before .before .before .before .before .state .given .1) in rw (e, c .before .before .state2 .given .1) (c .set .ensures)
+returns-3 c =
+    let e = sym (c .before .before .before .before .before .before .before .cell-mark-of .ensures)
+    ∙ ap cell-said (c .before .before .before .before .before .state .given .1) in
+    rw (e, c .before .before .state2 .given .1) (c .set .ensures)
 
 pub with-mark-spec : {M : Type 1} → statement M
 with-mark-spec =

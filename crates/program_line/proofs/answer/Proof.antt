@@ -22,10 +22,14 @@ text-requires : tie.Need-text-requires
 text-requires c κs = search needs
 
 returns : tie.Need-returns
-returns c = c .refused .ensures ∙ ap text-of-bytes (no-depth-text _ _ _ (c .before .before .before .depth .ensures) (c .before .enum-told .given .1))
+returns c =
+    c .refused .ensures ∙ ap text-of-bytes (no-depth-text _ _ _ (c .before .before .before .depth .ensures)
+    (c .before .enum-told .given .1))
 
 returns-2 : tie.Need-returns-2
-returns-2 c = c .text .ensures ∙ ap text-of-bytes (depth-text _ _ _ (c .before .before .before .before .depth .ensures) _ (c .before .before .depth2 .given .1))
+returns-2 c =
+    c .text .ensures ∙ ap text-of-bytes (depth-text _ _ _ (c .before .before .before .before .depth .ensures) _
+    (c .before .before .depth2 .given .1))
 
 pub answer-spec : {M : Type 1} → statement M
 answer-spec =

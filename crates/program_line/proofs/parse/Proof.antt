@@ -24,7 +24,9 @@ parse-requires : tie.Need-parse-requires
 parse-requires c κs = search needs
 
 returns : tie.Need-returns
-returns c = subst (λ (n : ℕ). Parses (take n (c .before .before .before .before .args .line .bytes)) (c .parse .result)) (c .before .before .text-len .ensures) (c .parse .ensures)
+returns c =
+    subst (λ (n : ℕ). Parses (take n (c .before .before .before .before .args .line .bytes)) (c .parse .result))
+    (c .before .before .text-len .ensures) (c .parse .ensures)
 
 pub parse-spec : {M : Type 1} → statement M
 parse-spec =

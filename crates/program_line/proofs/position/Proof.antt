@@ -39,7 +39,8 @@ returns-2 c =
     let n = made .before .new .ensures in
     let s = made .before .before in
     let is-0 = sym (made .number .ensures ∙ n .refusal) ∙ if-not .if1 .left in
-    c .reported .ensures ∙ ap text-of-bytes (position-searched _ (s .args .depth) _ _ (sym is-0) (status .status .ensures ∙ n .status) (c .before .search .ensures))
+    c .reported .ensures ∙ ap text-of-bytes (position-searched _ (s .args .depth) _ _ (sym is-0) (status .status .ensures ∙ n .status)
+    (c .before .search .ensures))
 
 pub position-spec : {M : Type 1} → statement M
 position-spec =

@@ -29,10 +29,13 @@ position-requires c κs = text-game _ _ (c .before .before .parse .ensures) (c .
 returns : tie.Need-returns
 returns c =
     c .refused .ensures ∙ ap (λ (n : ℕ). text-of-bytes (refusal-text n)) (c .before .number .ensures)
-    ∙ ap text-of-bytes (text-refused _ _ (c .before .before .before .before .before .parse .ensures) _ (c .before .before .before .answer .given .1) _)
+    ∙ ap text-of-bytes (text-refused _ _ (c .before .before .before .before .before .parse .ensures) _
+    (c .before .before .before .answer .given .1) _)
 
 returns-2 : tie.Need-returns-2
-returns-2 c = c .position .ensures ∙ ap text-of-bytes (text-accepted _ _ (c .before .before .before .parse .ensures) (c .before .enum-told .given .1) _)
+returns-2 c =
+    c .position .ensures ∙ ap text-of-bytes (text-accepted _ _ (c .before .before .before .parse .ensures)
+    (c .before .enum-told .given .1) _)
 
 pub text-spec : {M : Type 1} → statement M
 text-spec =

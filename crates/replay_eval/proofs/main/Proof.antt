@@ -6,7 +6,8 @@ use Rattle.replay_eval.proofs.main.Statement.{statement}
 use Rattle.replay_eval.proofs.main.Tie as tie
 
 abbrev Inv-loop : tie.InvT-loop
-Inv-loop buffer₀ kept₀ input₀ totals₀ turns₀ t7 buffer kept input totals turns = (length buffer ≡ 65536) × (length kept ≡ 4096)
+Inv-loop buffer₀ kept₀ input₀ totals₀ turns₀ t7 buffer kept input totals turns =
+    (length buffer ≡ 65536) × (length kept ≡ 4096)
 
 abbrev μ-loop : tie.MeasureT-loop
 μ-loop buffer₀ kept₀ input₀ totals₀ turns₀ t7 buffer kept input totals turns = turns

@@ -6,7 +6,8 @@ use Rattle.replay_notation.proofs.main.Statement.{statement}
 use Rattle.replay_notation.proofs.main.Tie as tie
 
 abbrev Inv-loop : tie.InvT-loop
-Inv-loop buffer₀ kept₀ words₀ input₀ totals₀ turns₀ t8 buffer kept words input totals turns = (length buffer ≡ 65536) × (length kept ≡ 4096) × (length words ≡ 1024)
+Inv-loop buffer₀ kept₀ words₀ input₀ totals₀ turns₀ t8 buffer kept words input totals turns =
+    (length buffer ≡ 65536) × (length kept ≡ 4096) × (length words ≡ 1024)
 
 abbrev μ-loop : tie.MeasureT-loop
 μ-loop buffer₀ kept₀ words₀ input₀ totals₀ turns₀ t8 buffer kept words input totals turns = turns

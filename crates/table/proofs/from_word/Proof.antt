@@ -19,16 +19,25 @@ cast-result-2 : tie.Need-cast-result-2
 cast-result-2 c = search needs
 
 sub-result-2 : tie.Need-sub-result-2
-sub-result-2 c = rw (low-word (18446744073709551615 - c .before .args .w) (omega arith)) (minus-fits (18446744073709551615 - c .before .args .w) (omega arith))
+sub-result-2 c =
+    rw (low-word (18446744073709551615 - c .before .args .w) (omega arith))
+    (minus-fits (18446744073709551615 - c .before .args .w) (omega arith))
 
 sub-result-3 : tie.Need-sub-result-3
-sub-result-3 c = rw (toZ-ofZ (sub-result-2 c), low-word (18446744073709551615 - c .before .args .w) (omega arith), minus-one-more (18446744073709551615 - c .before .args .w)) (record { sfits = omega arith })
+sub-result-3 c =
+    rw (
+      toZ-ofZ (sub-result-2 c),
+      low-word (18446744073709551615 - c .before .args .w) (omega arith),
+      minus-one-more (18446744073709551615 - c .before .args .w),
+    ) (record { sfits = omega arith })
 
 returns : tie.Need-returns
 returns c = low-word (c .before .args .w) (c .if1 .taken) ∙ sym (value-low (c .before .args .w) (c .if1 .taken))
 
 returns-2 : tie.Need-returns-2
-returns-2 c = toZ-ofZ (sub-result-3 c) ∙ rw (toZ-ofZ (sub-result-2 c), low-word (18446744073709551615 - c .before .args .w) (omega arith)) (minus-one-more (18446744073709551615 - c .before .args .w) ∙ sym (value-high (c .before .args .w) (c .if1 .left)))
+returns-2 c =
+    toZ-ofZ (sub-result-3 c) ∙ rw (toZ-ofZ (sub-result-2 c), low-word (18446744073709551615 - c .before .args .w) (omega arith))
+    (minus-one-more (18446744073709551615 - c .before .args .w) ∙ sym (value-high (c .before .args .w) (c .if1 .left)))
 
 pub from-word-spec : {M : Type 1} → statement M
 from-word-spec =

@@ -44,7 +44,9 @@ entry-of-requires : tie.Need-entry-of-requires
 entry-of-requires c κs = search needs
 
 returns-3 : tie.Need-returns-3
-returns-3 c = c .entry-of .ensures ∙ sym (look-up-same _ _ _ (c .before .before .before .before .before .before .if1 .left) (c .before .before .before .before .before .slot .ensures .0) (omega arith))
+returns-3 c =
+    c .entry-of .ensures ∙ sym (look-up-same _ _ _ (c .before .before .before .before .before .before .if1 .left)
+    (c .before .before .before .before .before .slot .ensures .0) (omega arith))
 
 pub lookup-spec : {M : Type 1} → statement M
 lookup-spec =

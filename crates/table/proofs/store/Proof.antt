@@ -13,11 +13,18 @@ use Rattle.table.proofs.store.Statement.{statement}
 use Rattle.table.proofs.store.Tie as tie
 
 -- whether what is held is replaced
-decision : (c : tie.After-replaces) → c .replaces .result ≡ replaces (c .before .before .before .before .before .before .before .args .e .depth) (held-at (now (c .before .before .before .before .before .before .before .args .words)) (c .before .before .before .before .slot .result))
-decision c = c .replaces .ensures ∙ ap (replaces (c .before .before .before .before .before .before .before .args .e .depth)) (c .before .entry-of .ensures)
+decision : (c : tie.After-replaces) →
+    c .replaces .result ≡ replaces (c .before .before .before .before .before .before .before .args .e .depth)
+    (held-at (now (c .before .before .before .before .before .before .before .args .words))
+    (c .before .before .before .before .slot .result))
+decision c =
+    c .replaces .ensures ∙ ap (replaces (c .before .before .before .before .before .before .before .args .e .depth))
+    (c .before .entry-of .ensures)
 
 returns : tie.Need-returns
-returns c = sym (store-off (now (c .before .before .args .words)) (c .before .before .args .hash) (c .if1 .taken) (entry-means (c .before .before .args .e)))
+returns c =
+    sym (store-off (now (c .before .before .args .words)) (c .before .before .args .hash) (c .if1 .taken)
+    (entry-means (c .before .before .args .e)))
 
 slot-requires : tie.Need-slot-requires
 slot-requires c κs = search needs
@@ -47,7 +54,11 @@ replaces-requires : tie.Need-replaces-requires
 replaces-requires c κs = search needs
 
 returns-2 : tie.Need-returns-2
-returns-2 c = sym (store-refused _ _ _ (c .before .before .before .before .before .before .if1 .left) (c .before .before .before .before .before .slot .ensures .0) (entry-means (c .before .before .before .before .before .before .before .before .args .e)) (sym (decision (c .before)) ∙ not-true _ (c .if2 .taken)))
+returns-2 c =
+    sym (store-refused _ _ _ (c .before .before .before .before .before .before .if1 .left)
+    (c .before .before .before .before .before .slot .ensures .0) (entry-means
+    (c .before .before .before .before .before .before .before .before .args .e))
+    (sym (decision (c .before)) ∙ not-true _ (c .if2 .taken)))
 
 mul-words : tie.Need-mul-words
 mul-words c = search needs
@@ -84,10 +95,14 @@ same-length c = search needs
 
 returns-3 : tie.Need-returns-3
 returns-3 c =
-    let e = c .before .before .before .before .before .before .before .before .before .before .before .args .e in
+    let at-slot = c .before .before .before .before .before .before .before .before in
+    let at-if1 = at-slot .before in
+    let start = at-if1 .before .before in
+    let e = start .args .e in
     let value = toZ-ofZ {z = e .value} (record { sfits = c .before .before .struct-told .given .0 .1 }) in
-    store-wrote _ _ _ (c .before .before .before .before .before .before .before .before .before .if1 .left) (c .before .before .before .before .before .before .before .before .slot .ensures .0) (entry-means e) _ _
-    (c .before .to-word .ensures ∙ ap to-word value) (c .rest-of .ensures) (sym (decision (c .before .before .before .before)) ∙ not-false _ (c .before .before .before .if2 .left))
+    store-wrote _ _ _ (at-if1 .if1 .left) (at-slot .slot .ensures .0) (entry-means e) _ _
+    (c .before .to-word .ensures ∙ ap to-word value) (c .rest-of .ensures)
+    (sym (decision (c .before .before .before .before)) ∙ not-false _ (c .before .before .before .if2 .left))
 
 pub store-spec : {M : Type 1} → statement M
 store-spec =

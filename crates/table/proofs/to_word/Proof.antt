@@ -13,16 +13,21 @@ sub-result : tie.Need-sub-result
 sub-result c = minus-next-in (c .before .args .value) (c .before .fits .value) (c .if1 .taken)
 
 cast-result : tie.Need-cast-result
-cast-result c = rw (minus-next-is (c .before .args .value) (c .before .fits .value) (c .if1 .taken)) (tt, record { fits = omega (arith, c .before .fits .value .sfits) })
+cast-result c =
+    rw (minus-next-is (c .before .args .value) (c .before .fits .value) (c .if1 .taken))
+    (tt, record { fits = omega (arith, c .before .fits .value .sfits) })
 
 sub-result-2 : tie.Need-sub-result-2
-sub-result-2 c = rw (minus-next-is (c .before .args .value) (c .before .fits .value) (c .if1 .taken)) (omega (arith, c .before .fits .value .sfits))
+sub-result-2 c =
+    rw (minus-next-is (c .before .args .value) (c .before .fits .value) (c .if1 .taken)) (omega (arith, c .before .fits .value .sfits))
 
 cast-result-2 : tie.Need-cast-result-2
 cast-result-2 c = rw (toZ-ofZ (c .before .fits .value)) (natural-fits (c .before .args .value) (c .before .fits .value) (c .if1 .left))
 
 returns : tie.Need-returns
-returns c = rw (minus-next-is (c .before .args .value) (c .before .fits .value) (c .if1 .taken)) (negative-word (c .before .args .value) (c .before .fits .value) (c .if1 .taken))
+returns c =
+    rw (minus-next-is (c .before .args .value) (c .before .fits .value) (c .if1 .taken))
+    (negative-word (c .before .args .value) (c .before .fits .value) (c .if1 .taken))
 
 returns-2 : tie.Need-returns-2
 returns-2 c = rw (toZ-ofZ (c .before .fits .value)) (natural-word (c .before .args .value) (c .before .fits .value) (c .if1 .left))

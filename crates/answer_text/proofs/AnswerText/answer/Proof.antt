@@ -48,16 +48,25 @@ moves-requires c κs = search needs
 
 returns : tie.Need-returns
 returns c =
-    let a = c .before .before .before .before .before .before .before .before .before .before .before .before .args in
+    let at-push3 = c .before .before .before .before .before in
+    let at-decimal2 = at-push3 .before in
+    let at-push2 = at-decimal2 .before in
+    let at-decimal = at-push2 .before in
+    let at-push = at-decimal .before in
+    let at-status = at-push .before in
+    let at-new = at-status .before in
+    let start = at-new .before in
+    let a = start .args in
     answer-written (set-of (a .status)) (a .legal) (a .depth) (a .score) (a .count) (move-bytes (a .line)) _ _ _ _ _ _ _ _ _ _ _ _
-    (c .before .before .before .before .before .before .before .before .before .before .before .new .ensures)
-    (c .before .before .before .before .before .before .before .before .before .before .status .ensures)
-    (c .before .before .before .before .before .before .before .before .before .push .ensures)
-    (c .before .before .before .before .before .before .before .before .decimal .ensures)
-    (c .before .before .before .before .before .before .before .push2 .ensures)
-    (c .before .before .before .before .before .before .decimal2 .ensures)
-    (c .before .before .before .before .before .push3 .ensures)
-    (c .before .before .before .before .signed .ensures ∙ ap (λ (z : ℤ). added-all (c .before .before .before .before .before .push3 .result) (signed z)) (toZ-ofZ (c .before .before .before .before .before .before .before .before .before .before .before .before .fits .score)))
+    (at-new .new .ensures)
+    (at-status .status .ensures)
+    (at-push .push .ensures)
+    (at-decimal .decimal .ensures)
+    (at-push2 .push2 .ensures)
+    (at-decimal2 .decimal2 .ensures)
+    (at-push3 .push3 .ensures)
+    (c .before .before .before .before .signed .ensures ∙ ap (λ (z : ℤ). added-all (at-push3 .push3 .result) (signed z))
+    (toZ-ofZ (start .fits .score)))
     (c .before .before .before .push4 .ensures)
     (c .before .before .decimal3 .ensures)
     (c .before .push5 .ensures)

@@ -11,7 +11,8 @@ use Rattle.answer_text.proofs.AnswerText.moves.Statement.{statement}
 use Rattle.answer_text.proofs.AnswerText.moves.Tie as tie
 
 abbrev Inv-loop : tie.InvT-loop
-Inv-loop line out₀ i₀ out i = (i ≤ 81) × (added-all out (move-letters (drop i (move-bytes line))) ≡ added-all out₀ (moves-text (move-bytes line)))
+Inv-loop line out₀ i₀ out i =
+    (i ≤ 81) × (added-all out (move-letters (drop i (move-bytes line))) ≡ added-all out₀ (moves-text (move-bytes line)))
 
 abbrev μ-loop : tie.MeasureT-loop
 μ-loop line out₀ i₀ out i = 81 - i
@@ -28,12 +29,16 @@ push-requires c κs = search needs
 returns : tie.Need-returns Inv-loop μ-loop
 returns c =
     let n : length (c .before .before .before .before .args .t2) ≡ 81 = c .before .before .before .before .good .1 .0 .1 .0 .1 in
-    joined-none _ (c .before .before .before .before .args .t2) (record { bits = 0 }) _ _ (omega arith) (c .before .before .is-none .ensures) (c .before .if1 .taken) (c .push .ensures)
+    joined-none _ (c .before .before .before .before .args .t2) (record { bits = 0 }) _ _ (omega arith)
+    (c .before .before .is-none .ensures) (c .before .if1 .taken) (c .push .ensures)
 
 loop-holds : tie.Need-loop-holds Inv-loop μ-loop
 loop-holds c =
-    let n : length (c .before .before .before .args .t2) ≡ 81 = c .before .before .before .good .1 .0 .1 .0 .1 in
-    (search needs, joined-some _ (c .before .before .before .args .t2) (record { bits = 0 }) _ (omega arith) (c .before .is-none .ensures) (c .if1 .left))
+    let n : length (c .before .before .before .args .t2) ≡ 81 = c .before .before .before .good .1 .0 .1 .0 .1 in (
+      search needs,
+      joined-some _ (c .before .before .before .args .t2) (record { bits = 0 }) _ (omega arith) (c .before .is-none .ensures)
+          (c .if1 .left),
+    )
 
 array-copy-out-m : tie.Need-array-copy-out-m Inv-loop μ-loop
 array-copy-out-m c = search needs
@@ -43,9 +48,11 @@ is-none-requires-2 c κs = search needs
 
 returns-2 : tie.Need-returns-2 Inv-loop μ-loop
 returns-2 c =
-    let n : length (c .before .before .before .before .before .before .before .before .args .t2) ≡ 81 = c .before .before .before .before .before .before .before .before .good .1 .0 .1 .0 .1 in
+    let start = c .before .before .before .before .before .before .before .before in
+    let n : length (start .args .t2) ≡ 81 = start .good .1 .0 .1 .0 .1 in
     let l = c .before .before .before .before .loop in
-    sym (left-none _ (c .before .before .before .before .before .before .before .before .args .t2) (record { bits = 0 }) (l .i) (omega (arith, c .before .before .before .loop-test .taken)) _ (c .before .is-none2 .ensures) (c .if2 .taken)) ∙ l .inv .1
+    sym (left-none _ (start .args .t2) (record { bits = 0 }) (l .i) (omega (arith, c .before .before .before .loop-test .taken)) _
+    (c .before .is-none2 .ensures) (c .if2 .taken)) ∙ l .inv .1
 
 move-text-requires : tie.Need-move-text-requires Inv-loop μ-loop
 move-text-requires c κs = search needs
@@ -58,15 +65,22 @@ loop-less c = search needs
 
 loop-again : tie.Need-loop-again Inv-loop μ-loop
 loop-again c =
-    let n : length (c .before .before .before .before .before .before .before .before .before .args .t2) ≡ 81 = c .before .before .before .before .before .before .before .before .before .good .1 .0 .1 .0 .1 in
-    let l = c .before .before .before .before .before .loop in
-    (omega arith, left-some _ (c .before .before .before .before .before .before .before .before .before .args .t2) (record { bits = 0 }) (l .i) (omega (arith, c .before .before .before .before .loop-test .taken)) _ (c .before .before .is-none2 .ensures) (c .before .if2 .left) _ (c .move-text .ensures) ∙ l .inv .1)
+    let start = c .before .before .before .before .before .before .before .before .before in
+    let n : length (start .args .t2) ≡ 81 = start .good .1 .0 .1 .0 .1 in
+    let l = c .before .before .before .before .before .loop in (
+      omega arith,
+      left-some _ (start .args .t2) (record { bits = 0 }) (l .i)
+          (omega (arith, c .before .before .before .before .loop-test .taken)) _ (c .before .before .is-none2 .ensures)
+          (c .before .if2 .left) _ (c .move-text .ensures) ∙ l .inv .1,
+    )
 
 returns-3 : tie.Need-returns-3 Inv-loop μ-loop
 returns-3 c =
-    let n : length (c .before .before .before .before .before .args .t2) ≡ 81 = c .before .before .before .before .before .good .1 .0 .1 .0 .1 in
+    let n : length (c .before .before .before .before .before .args .t2)
+    ≡ 81 = c .before .before .before .before .before .good .1 .0 .1 .0 .1 in
     let l = c .before .loop in
-    sym (left-end _ (c .before .before .before .before .before .args .t2) (record { bits = 0 }) (l .i) (omega (arith, c .loop-test .left))) ∙ l .inv .1
+    sym (left-end _ (c .before .before .before .before .before .args .t2) (record { bits = 0 }) (l .i) (omega (arith, c .loop-test .left)))
+    ∙ l .inv .1
 
 pub moves-spec : {M : Type 1} → statement M
 moves-spec =

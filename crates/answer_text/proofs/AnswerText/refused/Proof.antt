@@ -20,7 +20,10 @@ decimal-requires : tie.Need-decimal-requires
 decimal-requires c κs = search needs
 
 returns : tie.Need-returns
-returns c = written-from _ _ _ (c .before .before .before .new .ensures) (then-blank _ _ _ _ (letter-refused ∷ []) (decimal (c .before .before .before .before .args .number)) (c .before .before .push .ensures) (c .before .push2 .ensures) (c .decimal .ensures))
+returns c =
+    written-from _ _ _ (c .before .before .before .new .ensures) (then-blank _ _ _ _ (letter-refused ∷ [])
+    (decimal (c .before .before .before .before .args .number)) (c .before .before .push .ensures) (c .before .push2 .ensures)
+    (c .decimal .ensures))
 
 pub refused-spec : {M : Type 1} → statement M
 refused-spec =

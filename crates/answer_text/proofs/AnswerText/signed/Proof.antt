@@ -19,10 +19,14 @@ sub-m : tie.Need-sub-m
 sub-m c = minus-next-in (c .before .before .args .n) (c .before .before .fits .n) (c .before .if1 .taken)
 
 cast-m : tie.Need-cast-m
-cast-m c = rw (minus-next-is (c .before .before .args .n) (c .before .before .fits .n) (c .before .if1 .taken)) (tt, record { fits = omega (arith, c .before .before .fits .n .sfits) })
+cast-m c =
+    rw (minus-next-is (c .before .before .args .n) (c .before .before .fits .n) (c .before .if1 .taken))
+    (tt, record { fits = omega (arith, c .before .before .fits .n .sfits) })
 
 add-m-2 : tie.Need-add-m-2
-add-m-2 c = rw (minus-next-is (c .before .before .args .n) (c .before .before .fits .n) (c .before .if1 .taken)) (record { fits = omega (arith, c .before .before .fits .n .sfits) })
+add-m-2 c =
+    rw (minus-next-is (c .before .before .args .n) (c .before .before .fits .n) (c .before .if1 .taken))
+    (record { fits = omega (arith, c .before .before .fits .n .sfits) })
 
 decimal-requires : tie.Need-decimal-requires
 decimal-requires c κs = search needs
@@ -40,7 +44,9 @@ decimal-requires-2 : tie.Need-decimal-requires-2
 decimal-requires-2 c κs = search needs
 
 returns-2 : tie.Need-returns-2
-returns-2 c = natural-added _ _ (c .before .before .args .n) (c .before .before .fits .n) (c .before .if1 .left) _ (ap natAbs (toZ-ofZ (c .before .before .fits .n))) (c .decimal2 .ensures)
+returns-2 c =
+    natural-added _ _ (c .before .before .args .n) (c .before .before .fits .n) (c .before .if1 .left) _
+    (ap natAbs (toZ-ofZ (c .before .before .fits .n))) (c .decimal2 .ensures)
 
 pub signed-spec : {M : Type 1} → statement M
 signed-spec =

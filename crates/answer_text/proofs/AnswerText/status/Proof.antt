@@ -23,9 +23,10 @@ letter-requires-3 c κs = search needs
 
 returns : tie.Need-returns
 returns c =
-    added-status _ _ _ _ (set-of (c .before .before .before .before .before .before .args .s)) _ _ _
+    let start = c .before .before .before .before .before .before in
+    added-status _ _ _ _ (set-of (start .args .s)) _ _ _
     (c .before .before .before .before .before .is-winnable .ensures) (c .before .before .before .before .is-winnable2 .ensures)
-    (digit-test (c .before .before .before .before .before .before .args .s .bits) 2)
+    (digit-test (start .args .s .bits) 2)
     (c .before .before .letter .ensures) (c .before .letter2 .ensures) (c .letter3 .ensures)
 
 pub status-spec : {M : Type 1} → statement M

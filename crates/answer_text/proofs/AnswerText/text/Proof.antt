@@ -31,10 +31,14 @@ loop-less : tie.Need-loop-less Inv-loop μ-loop
 loop-less c = omega arith
 
 loop-again : tie.Need-loop-again Inv-loop μ-loop
-loop-again c = let l = c .before .before .before .loop in (omega arith, added-next _ _ _ _ _ (c .before .before .loop-test .taken) (l .inv .1) (c .push .ensures))
+loop-again c =
+    let l = c .before .before .before .loop in
+    (omega arith, added-next _ _ _ _ _ (c .before .before .loop-test .taken) (l .inv .1) (c .push .ensures))
 
 returns : tie.Need-returns Inv-loop μ-loop
-returns c = let l = c .before .loop in let s = c .before .before .before .args in added-last (s .self) _ (s .bytes .now) (l .i) (omega arith) (l .inv .1)
+returns c =
+    let l = c .before .loop in let s = c .before .before .before .args in
+    added-last (s .self) _ (s .bytes .now) (l .i) (omega arith) (l .inv .1)
 
 pub text-spec : {M : Type 1} → statement M
 text-spec =

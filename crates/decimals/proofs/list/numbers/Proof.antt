@@ -11,7 +11,9 @@ use Rattle.decimals.proofs.list.numbers.Statement.{statement}
 use Rattle.decimals.proofs.list.numbers.Tie as tie
 
 abbrev Inv-loop : tie.InvT-loop
-Inv-loop text words₀ scan₀ i₀ words scan i = (scanned-all scan₀ words₀ text ≡ scanned-all scan words (drop i text)) × (i ≤ length text) × (length words ≡ length words₀)
+Inv-loop text words₀ scan₀ i₀ words scan i =
+    (scanned-all scan₀ words₀ text ≡ scanned-all scan words (drop i text)) × (i ≤ length text) ×
+    (length words ≡ length words₀)
 
 abbrev μ-loop : tie.MeasureT-loop
 μ-loop text words₀ scan₀ i₀ words scan i = length text - i
@@ -32,7 +34,13 @@ loop-less : tie.Need-loop-less Inv-loop μ-loop
 loop-less c = search needs
 
 loop-again : tie.Need-loop-again Inv-loop μ-loop
-loop-again c = let l = c .before .before .before .before .before .before .loop in let p = c .before .before .push .ensures in (rw (p .0, p .1) (l .inv .0 ∙ scan-next (now (c .before .before .before .before .before .before .before .before .before .args .text)) (l .scan) (l .words) (l .i) (c .before .before .before .before .before .loop-test .taken)), omega arith, search needs)
+loop-again c =
+    let l = c .before .before .before .before .before .before .loop in let p = c .before .before .push .ensures in (
+      rw (p .0, p .1) (l .inv .0 ∙ scan-next (now (c .before .before .before .before .before .before .before .before .before .args .text))
+          (l .scan) (l .words) (l .i) (c .before .before .before .before .before .loop-test .taken)),
+      omega arith,
+      search needs,
+    )
 
 push-requires-2 : tie.Need-push-requires-2 Inv-loop μ-loop
 push-requires-2 c κs = search needs
@@ -44,7 +52,10 @@ same-length : tie.Need-same-length Inv-loop μ-loop
 same-length c = search needs
 
 returns : tie.Need-returns Inv-loop μ-loop
-returns c = let l = c .before .before .before .before .before .before .loop in let p = c .before .before .before .push2 .ensures in let e = l .inv .0 ∙ scan-end (now (c .before .before .before .before .before .before .before .before .before .args .text)) (l .scan) (l .words) (l .i) (c .before .before .before .before .before .loop-test .left) in rw e (c .counted .ensures ∙ rw (p .0), p .1)
+returns c =
+    let l = c .before .before .before .before .before .before .loop in let p = c .before .before .before .push2 .ensures in
+    let e = l .inv .0 ∙ scan-end (now (c .before .before .before .before .before .before .before .before .before .args .text)) (l .scan)
+    (l .words) (l .i) (c .before .before .before .before .before .loop-test .left) in rw e (c .counted .ensures ∙ rw (p .0), p .1)
 
 pub numbers-spec : {M : Type 1} → statement M
 numbers-spec =

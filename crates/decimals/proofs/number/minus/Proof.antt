@@ -16,14 +16,22 @@ cast-t6 : tie.Need-cast-t6
 cast-t6 c = search needs
 
 sub-t7 : tie.Need-sub-t7
-sub-t7 c = rw (low-word (c .before .before .n .given .0 .0) (c .if1 .taken)) (minus-fits (c .before .before .n .given .0 .0) (c .if1 .taken))
+sub-t7 c =
+    rw (low-word (c .before .before .n .given .0 .0) (c .if1 .taken)) (minus-fits (c .before .before .n .given .0 .0) (c .if1 .taken))
 
 enum-told : tie.Need-enum-told
 enum-told c = search needs
 
 returns : tie.Need-returns
 unfolding negative-of if_then_else_
-returns c = rw (toZ-ofZ (sub-t7 c), low-word (c .before .before .n .given .0 .0) (c .if1 .taken), zero-sub, c .before .before .n .given .1, lt-ltb _ (2 ^ 63) (c .if1 .taken))
+returns c =
+    rw (
+      toZ-ofZ (sub-t7 c),
+      low-word (c .before .before .n .given .0 .0) (c .if1 .taken),
+      zero-sub,
+      c .before .before .n .given .1,
+      lt-ltb _ (2 ^ 63) (c .if1 .taken),
+    )
 
 returns-2 : tie.Need-returns-2
 unfolding negative-of if_then_else_

@@ -19,7 +19,8 @@ enum-told c = search needs
 
 returns : tie.Need-returns
 unfolding positive-of if_then_else_
-returns c = rw (low-word (c .before .before .n .given .0 .0) (c .if1 .taken), c .before .before .n .given .1, lt-ltb _ (2 ^ 63) (c .if1 .taken))
+returns c =
+    rw (low-word (c .before .before .n .given .0 .0) (c .if1 .taken), c .before .before .n .given .1, lt-ltb _ (2 ^ 63) (c .if1 .taken))
 
 returns-2 : tie.Need-returns-2
 unfolding positive-of if_then_else_

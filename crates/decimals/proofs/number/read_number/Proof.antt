@@ -35,7 +35,11 @@ enum-told : tie.Need-enum-told Inv-loop μ-loop
 enum-told c = search needs
 
 returns-2 : tie.Need-returns-2 Inv-loop μ-loop
-returns-2 c = let l = c .before .before .before .before .before .loop in sym (digits-stop (now (c .before .before .before .before .before .before .before .before .args .text)) (l .value) (l .i) (c .before .before .before .before .loop-test .taken) (sym (c .before .before .with-digit .ensures) ∙ c .enum-told .given .1)) ∙ l .inv .0
+returns-2 c =
+    let l = c .before .before .before .before .before .loop in
+    sym (digits-stop (now (c .before .before .before .before .before .before .before .before .args .text)) (l .value) (l .i)
+    (c .before .before .before .before .loop-test .taken) (sym (c .before .before .with-digit .ensures) ∙ c .enum-told .given .1))
+    ∙ l .inv .0
 
 add-i : tie.Need-add-i Inv-loop μ-loop
 add-i c = search needs
@@ -44,10 +48,19 @@ loop-less : tie.Need-loop-less Inv-loop μ-loop
 loop-less c = search needs
 
 loop-again : tie.Need-loop-again Inv-loop μ-loop
-loop-again c = let l = c .before .before .before .before .before .before .loop in (sym (digits-next (now (c .before .before .before .before .before .before .before .before .before .args .text)) (l .value) (l .i) _ (c .before .before .before .before .before .loop-test .taken) (sym (c .before .before .before .with-digit .ensures) ∙ c .before .more .given .1)) ∙ l .inv .0, omega arith)
+loop-again c =
+    let at-loop = c .before .before .before .before .before .before in
+    let start = at-loop .before .before .before in
+    let l = at-loop .loop in (
+      sym (digits-next (now (start .args .text)) (l .value) (l .i) _ (c .before .before .before .before .before .loop-test .taken)
+          (sym (c .before .before .before .with-digit .ensures) ∙ c .before .more .given .1)) ∙ l .inv .0,
+      omega arith,
+    )
 
 returns-3 : tie.Need-returns-3 Inv-loop μ-loop
-returns-3 c = let l = c .before .loop in sym (digits-end (now (c .before .before .before .before .args .text)) (l .value) (l .i) (c .loop-test .left)) ∙ l .inv .0
+returns-3 c =
+    let l = c .before .loop in
+    sym (digits-end (now (c .before .before .before .before .args .text)) (l .value) (l .i) (c .loop-test .left)) ∙ l .inv .0
 
 pub read-number-spec : {M : Type 1} → statement M
 read-number-spec =

@@ -29,7 +29,10 @@ minus-requires : tie.Need-minus-requires
 minus-requires c κs = search needs
 
 returns-2 : tie.Need-returns-2
-returns-2 c = c .minus .ensures ∙ ap negative-of (c .before .read-number .ensures) ∙ signed-minus (now (c .before .before .before .before .before .before .before .args .text)) (c .before .before .before .before .before .if1 .left) (c .before .before .before .if2 .taken)
+returns-2 c =
+    c .minus .ensures ∙ ap negative-of (c .before .read-number .ensures)
+    ∙ signed-minus (now (c .before .before .before .before .before .before .before .args .text))
+    (c .before .before .before .before .before .if1 .left) (c .before .before .before .if2 .taken)
 
 read-number-requires-2 : tie.Need-read-number-requires-2
 read-number-requires-2 c κs = search needs
@@ -38,7 +41,10 @@ plus-requires : tie.Need-plus-requires
 plus-requires c κs = search needs
 
 returns-3 : tie.Need-returns-3
-returns-3 c = c .plus .ensures ∙ ap positive-of (c .before .read-number2 .ensures) ∙ signed-plus (now (c .before .before .before .before .before .before .args .text)) (c .before .before .before .before .if1 .left) (c .before .before .if2 .left)
+returns-3 c =
+    c .plus .ensures ∙ ap positive-of (c .before .read-number2 .ensures)
+    ∙ signed-plus (now (c .before .before .before .before .before .before .args .text)) (c .before .before .before .before .if1 .left)
+    (c .before .before .if2 .left)
 
 pub read-signed-spec : {M : Type 1} → statement M
 read-signed-spec =

@@ -30,11 +30,15 @@ critical-boards-requires-2 : tie.Need-critical-boards-requires-2
 critical-boards-requires-2 c κs = search needs
 
 -- the two critical sets
-attackers : (c : tie.After-critical-boards2) → let p = position-of (c .before .before .before .before .args .pos) in c .before .before .critical-boards .result ≡ digits (critical p (p .turn)) 9
+attackers : (c : tie.After-critical-boards2) → let p =
+    position-of (c .before .before .before .before .args .pos) in c .before .before .critical-boards .result
+    ≡ digits (critical p (p .turn)) 9
 attackers c = set-of-side _ _ _ _ (c .before .before .critical-boards .ensures) (c .before .before .before .player .ensures)
 
-defenders : (c : tie.After-critical-boards2) → let p = position-of (c .before .before .before .before .args .pos) in c .critical-boards2 .result ≡ digits (critical p (other (p .turn))) 9
-defenders c = set-of-side _ _ _ _ (c .critical-boards2 .ensures) (c .before .other .ensures ∙ ap other (c .before .before .before .player .ensures))
+defenders : (c : tie.After-critical-boards2) → let p =
+    position-of (c .before .before .before .before .args .pos) in c .critical-boards2 .result ≡ digits (critical p (other (p .turn))) 9
+defenders c =
+    set-of-side _ _ _ _ (c .critical-boards2 .ensures) (c .before .other .ensures ∙ ap other (c .before .before .before .player .ensures))
 
 prove-attacker-requires : tie.Need-prove-attacker-requires
 prove-attacker-requires c κs = (c .before .before .before .before .pre .1, attackers c, defenders c)
@@ -45,8 +49,11 @@ forced-loss-requires c κs = (c .before .before .before .before .before .pre .1,
 both-requires : tie.Need-both-requires
 both-requires c κs = search needs
 
-lost : (c : tie.After-both) → let p = position-of (c .before .before .before .before .before .before .before .args .pos) in c .both .result ≡ (not (prove-attacker p) && forced-loss p)
-lost c = c .both .ensures ∙ ap₂ (λ (a b : Bool). not a && b) (c .before .before .prove-attacker .ensures) (c .before .forced-loss .ensures)
+lost : (c : tie.After-both) → let p =
+    position-of (c .before .before .before .before .before .before .before .args .pos) in
+    c .both .result ≡ (not (prove-attacker p) && forced-loss p)
+lost c =
+    c .both .ensures ∙ ap₂ (λ (a b : Bool). not a && b) (c .before .before .prove-attacker .ensures) (c .before .forced-loss .ensures)
 
 is-winnable-requires : tie.Need-is-winnable-requires
 is-winnable-requires c κs = search needs
@@ -95,7 +102,8 @@ combined-requires c κs =
     let at-player = at-prove-attacker .before .before .before .before in
     let start = at-player .before in
     let p = position-of (start .args .pos) in
-    sets-agree p _ _ _ _ _ (at-player .player .ensures) (at-prove-attacker .prove-attacker .ensures) (lost at-both) (at-is-winnable .is-winnable .ensures)
+    sets-agree p _ _ _ _ _ (at-player .player .ensures) (at-prove-attacker .prove-attacker .ensures) (lost at-both)
+    (at-is-winnable .is-winnable .ensures)
     (at-is-winnable2 .is-winnable2 .ensures)
 
 returns : tie.Need-returns
@@ -118,12 +126,15 @@ returns c =
     analyses-as _ _ _ (analysis-made p (start .pre .0) (start .pre .1)) refl
     (c .combined .ensures
     ∙ ap (λ (s : Option Set). status-of (or-unproven s))
-    (combined-is-merged p _ _ _ _ _ (at-player .player .ensures) (at-prove-attacker .prove-attacker .ensures) (lost at-both) (at-is-winnable .is-winnable .ensures)
+    (combined-is-merged p _ _ _ _ _ (at-player .player .ensures) (at-prove-attacker .prove-attacker .ensures) (lost at-both)
+    (at-is-winnable .is-winnable .ensures)
     (at-is-winnable2 .is-winnable2 .ensures)))
     (counts p _ _ _ _ _ _ _
     (sym (some-critical p _ _ (attackers at-critical-boards2) _ refl)) (sym (some-critical p _ _ (defenders at-critical-boards2) _ refl))
-    (at-prove-attacker .prove-attacker .ensures) (lost at-both) (at-is-winnable .is-winnable .ensures) (at-is-winnable2 .is-winnable2 .ensures)
-    (at-count3 .count3 .ensures) (at-count4 .count4 .ensures) (at-count5 .count5 .ensures ∙ ap (λ (b : Bool). cond b 1 0) (at-both2 .both2 .ensures))
+    (at-prove-attacker .prove-attacker .ensures) (lost at-both) (at-is-winnable .is-winnable .ensures)
+    (at-is-winnable2 .is-winnable2 .ensures)
+    (at-count3 .count3 .ensures) (at-count4 .count4 .ensures) (at-count5 .count5 .ensures
+    ∙ ap (λ (b : Bool). cond b 1 0) (at-both2 .both2 .ensures))
     (ap₂ _+_ (at-count .count .ensures) (at-count2 .count2 .ensures)) (at-count6 .count6 .ensures) (c .before .count7 .ensures))
 
 pub analysed-spec : {M : Type 1} → statement M

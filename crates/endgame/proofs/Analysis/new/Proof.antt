@@ -40,7 +40,8 @@ returns-2 c =
     let start = at-game-over .before in
     let p = position-of (start .args .pos) in
     analyses-as _ _ _
-    (analysis-unsound p (passes _ (not-false (unfinished p) (sym (at-game-over .game-over .ensures) ∙ at-if1 .if1 .left))) (passes _ (sym (ap not (at-is-sound .is-sound .ensures)) ∙ c .before .if2 .taken)))
+    (analysis-unsound p (passes _ (not-false (unfinished p) (sym (at-game-over .game-over .ensures) ∙ at-if1 .if1 .left)))
+    (passes _ (sym (ap not (at-is-sound .is-sound .ensures)) ∙ c .before .if2 .taken)))
     (ap analysis-number (c .unanalysed2 .ensures .0)) (c .unanalysed2 .ensures .1) (c .unanalysed2 .ensures .2)
 
 analysed-requires : tie.Need-analysed-requires
@@ -48,8 +49,10 @@ analysed-requires c κs =
     let at-if1 = c .before .before in
     let at-game-over = at-if1 .before in
     let start = at-game-over .before in
-    let p = position-of (start .args .pos) in
-    (passes _ (not-false (unfinished p) (sym (at-game-over .game-over .ensures) ∙ at-if1 .if1 .left)), passes _ (sym (c .before .is-sound .ensures) ∙ not-false _ (c .if2 .left)))
+    let p = position-of (start .args .pos) in (
+      passes _ (not-false (unfinished p) (sym (at-game-over .game-over .ensures) ∙ at-if1 .if1 .left)),
+      passes _ (sym (c .before .is-sound .ensures) ∙ not-false _ (c .if2 .left)),
+    )
 
 returns-3 : tie.Need-returns-3
 returns-3 c = search needs

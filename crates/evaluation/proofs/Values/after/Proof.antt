@@ -15,7 +15,8 @@ element-set-from-v : tie.Need-element-set-from-v
 element-set-from-v c = search needs
 
 returns : tie.Need-returns
-returns c = ap (set (c .before .before .args .self .boards) (c .before .before .args .board)) (result8 (c .value-of .ok) (c .value-of .ensures))
+returns c =
+    ap (set (c .before .before .args .self .boards) (c .before .before .args .board)) (result8 (c .value-of .ok) (c .value-of .ensures))
 
 returns-2 : tie.Need-returns-2
 returns-2 c =

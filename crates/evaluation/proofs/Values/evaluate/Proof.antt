@@ -37,22 +37,32 @@ enum-told-4 c = search needs
 abbrev for-o : tie.After-enum-told4 → Held 3072
 for-o c =
     let d = c .before .before in
-    minus (d .score .result) (record { sfits = d .score .ok }) (ap negℤ (d .score .ensures .0)) (within-neg 3072 _ (held-promised (d .score .ensures) .near))
+    minus (d .score .result) (record { sfits = d .score .ok }) (ap negℤ (d .score .ensures .0))
+    (within-neg 3072 _ (held-promised (d .score .ensures) .near))
 
 sub-result : tie.Need-sub-result
 sub-result c = held-fits (for-o c) tt
 
 returns : tie.Need-returns
-returns c = result (c .drawn .ok) (c .drawn .ensures) ∙ eval-ended _ (position-of (c .before .before .before .args .g)) _ _ (c .before .enum-told .given .1) tt
+returns c =
+    result (c .drawn .ok) (c .drawn .ensures) ∙ eval-ended _ (position-of (c .before .before .before .args .g)) _ _
+    (c .before .enum-told .given .1) tt
 
 returns-2 : tie.Need-returns-2
-returns-2 c = result (c .won-by .ok) (c .won-by .ensures) ∙ eval-ended _ (position-of (c .before .before .before .before .args .g)) _ _ (c .before .before .state .given .1) tt
+returns-2 c =
+    result (c .won-by .ok) (c .won-by .ensures) ∙ eval-ended _ (position-of (c .before .before .before .before .args .g)) _ _
+    (c .before .before .state .given .1) tt
 
 returns-3 : tie.Need-returns-3
-returns-3 c = result (c .before .before .score .ok) (c .before .before .score .ensures .0) ∙ eval-open _ (position-of (c .before .before .before .before .before .args .g)) _ (c .before .before .before .enum-told2 .given .1) X (c .enum-told3 .given .1)
+returns-3 c =
+    result (c .before .before .score .ok) (c .before .before .score .ensures .0)
+    ∙ eval-open _ (position-of (c .before .before .before .before .before .args .g)) _ (c .before .before .before .enum-told2 .given .1) X
+    (c .enum-told3 .given .1)
 
 returns-4 : tie.Need-returns-4
-returns-4 c = held-reads (for-o c) tt ∙ eval-open _ (position-of (c .before .before .before .before .before .args .g)) _ (c .before .before .before .enum-told2 .given .1) O (c .enum-told4 .given .1)
+returns-4 c =
+    held-reads (for-o c) tt ∙ eval-open _ (position-of (c .before .before .before .before .before .args .g)) _
+    (c .before .before .before .enum-told2 .given .1) O (c .enum-told4 .given .1)
 
 pub evaluate-spec : {M : Type 1} → statement M
 evaluate-spec =

@@ -86,7 +86,8 @@ returns c =
     let d = c .before .before .before .before .before .before .before .before in (
       held-reads (to-8 c) tt
           ∙ eight (overall-value _ _ _)
-          ∙ score-bits (position-of (d .before .before .before .before .args .g)) _ _ _ (d .before .before .xbits .ensures) (d .before .obits .ensures),
+          ∙ score-bits (position-of (d .before .before .before .before .args .g)) _ _ _ (d .before .before .xbits .ensures)
+          (d .before .obits .ensures),
       held-small (to-8 c) tt,
     )
 

@@ -23,7 +23,14 @@ at-requires c κs = search needs
 
 returns-3 : tie.Need-returns-3
 unfolding range-refusal if_then_else_
-returns-3 c = record { number = rw (lt-ltb (c .before .before .before .before .args .board) 9 (omega arith), lt-ltb (c .before .before .before .before .args .cell) 9 (omega arith)); cell-is = c .at .ensures }
+returns-3 c =
+    record {
+      number = rw (
+        lt-ltb (c .before .before .before .before .args .board) 9 (omega arith),
+        lt-ltb (c .before .before .before .before .args .cell) 9 (omega arith),
+      );
+      cell-is = c .at .ensures;
+    }
 
 pub at-spec : {M : Type 1} → statement M
 at-spec = tie.close (tie.spec returns returns-2 at-requires returns-3)

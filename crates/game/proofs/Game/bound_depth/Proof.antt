@@ -17,7 +17,9 @@ count-requires : tie.Need-count-requires
 count-requires c κs = search needs
 
 returns : tie.Need-returns
-returns c = c .count .ensures ∙ ap (λ it. length (moves-left it)) (c .before .free-in .ensures) ∙ depth-counted (c .before .before .before .before .before .args .self) _ (c .before .before .openbits .ensures)
+returns c =
+    c .count .ensures ∙ ap (λ it. length (moves-left it)) (c .before .free-in .ensures)
+    ∙ depth-counted (c .before .before .before .before .before .args .self) _ (c .before .before .openbits .ensures)
 
 pub bound-depth-spec : {M : Type 1} → statement M
 bound-depth-spec = tie.close (tie.spec openbits-requires free-in-requires count-requires returns)

@@ -46,7 +46,8 @@ returns-4 c =
     let i1 = i2 .before in
     let l = i1 .before in
     let g = l .before in
-    shut _ _ _ _ (g .global .ensures) (l .local .ensures) (i1 .if1 .left) (i2 .if2 .left) _ (t .terminal .ensures) (i3 .if3 .left) _ (p .in-play .ensures) (c .if4 .taken)
+    shut _ _ _ _ (g .global .ensures) (l .local .ensures) (i1 .if1 .left) (i2 .if2 .left) _ (t .terminal .ensures) (i3 .if3 .left) _
+    (p .in-play .ensures) (c .if4 .taken)
 
 allows-requires : tie.Need-allows-requires
 allows-requires c κs = search needs
@@ -62,7 +63,8 @@ returns-5 c =
     let i1 = i2 .before in
     let l = i1 .before in
     let g = l .before in
-    elsewhere _ _ _ _ (g .global .ensures) (l .local .ensures) (i1 .if1 .left) (i2 .if2 .left) _ (t .terminal .ensures) (i3 .if3 .left) _ (p .in-play .ensures) (i4 .if4 .left) _ (a .allows .ensures) (c .if5 .taken)
+    elsewhere _ _ _ _ (g .global .ensures) (l .local .ensures) (i1 .if1 .left) (i2 .if2 .left) _ (t .terminal .ensures) (i3 .if3 .left) _
+    (p .in-play .ensures) (i4 .if4 .left) _ (a .allows .ensures) (c .if5 .taken)
 
 at-requires : tie.Need-at-requires
 at-requires c κs = search needs
@@ -74,7 +76,9 @@ enum-told-2 : tie.Need-enum-told-2
 enum-told-2 c = search needs
 
 -- the cell was looked at last
-cell-looked : (c : tie.After-at) (e : Bool) → blank (c .at .result) ≡ e → cond e 0 13 ≡ refusal (play (position-of (c .before .before .before .before .before .before .before .before .before .before .before .before .before .args .self)) (c .before .before .before .before .before .before .before .before .before .before .before .before .before .args .m .bits))
+cell-looked : (c : tie.After-at) (e : Bool) → blank (c .at .result) ≡ e →
+    cond e 0 13 ≡ refusal
+    (play (position-of (c .before .before .before .before .before .before .before .before .before .before .before .before .before .args .self)) (c .before .before .before .before .before .before .before .before .before .before .before .before .before .args .m .bits))
 cell-looked c e h =
     let i5 = c .before .before in
     let a = i5 .before in
@@ -86,7 +90,8 @@ cell-looked c e h =
     let i1 = i2 .before in
     let l = i1 .before in
     let g = l .before in
-    looked _ _ _ _ (g .global .ensures) (l .local .ensures) (i1 .if1 .left) (i2 .if2 .left) _ (t .terminal .ensures) (i3 .if3 .left) _ (p .in-play .ensures) (i4 .if4 .left) _ (a .allows .ensures) (i5 .if5 .left) _ (c .at .ensures) e h
+    looked _ _ _ _ (g .global .ensures) (l .local .ensures) (i1 .if1 .left) (i2 .if2 .left) _ (t .terminal .ensures) (i3 .if3 .left) _
+    (p .in-play .ensures) (i4 .if4 .left) _ (a .allows .ensures) (i5 .if5 .left) _ (c .at .ensures) e h
 
 returns-6 : tie.Need-returns-6
 returns-6 c = cell-looked (c .before .before) true (ap blank (c .enum-told .given .1))

@@ -17,7 +17,8 @@ returns c =
     let by = c .before in
     let who = by .before in
     let start = who .before in
-    other-turn (position-of (start .args .self)) (position-of (start .args .rhs)) _ _ (who .as-bit .ensures) (by .as-bit2 .ensures) (c .if1 .taken)
+    other-turn (position-of (start .args .self)) (position-of (start .args .rhs)) _ _ (who .as-bit .ensures) (by .as-bit2 .ensures)
+    (c .if1 .taken)
 
 same-requires : tie.Need-same-requires
 same-requires c κs = search needs
@@ -29,7 +30,8 @@ returns-2 c =
     let by = i1 .before in
     let who = by .before in
     let start = who .before in
-    other-due (position-of (start .args .self)) (position-of (start .args .rhs)) _ _ (who .as-bit .ensures) (by .as-bit2 .ensures) (i1 .if1 .left) _ (due .same .ensures) (c .if2 .taken)
+    other-due (position-of (start .args .self)) (position-of (start .args .rhs)) _ _ (who .as-bit .ensures) (by .as-bit2 .ensures)
+    (i1 .if1 .left) _ (due .same .ensures) (c .if2 .taken)
 
 same-state-requires : tie.Need-same-state-requires
 same-state-requires c κs = search needs
@@ -43,7 +45,8 @@ returns-3 c =
     let by = i1 .before in
     let who = by .before in
     let start = who .before in
-    other-state (position-of (start .args .self)) (position-of (start .args .rhs)) _ _ (who .as-bit .ensures) (by .as-bit2 .ensures) (i1 .if1 .left) _ (due .same .ensures) (i2 .if2 .left) _ (state .same-state .ensures) (c .if3 .taken)
+    other-state (position-of (start .args .self)) (position-of (start .args .rhs)) _ _ (who .as-bit .ensures) (by .as-bit2 .ensures)
+    (i1 .if1 .left) _ (due .same .ensures) (i2 .if2 .left) _ (state .same-state .ensures) (c .if3 .taken)
 
 openbits-requires : tie.Need-openbits-requires
 openbits-requires c κs = search needs
@@ -62,7 +65,8 @@ returns-4 c =
     let by = i1 .before in
     let who = by .before in
     let start = who .before in
-    compared (position-of (start .args .self)) (position-of (start .args .rhs)) _ _ (who .as-bit .ensures) (by .as-bit2 .ensures) (i1 .if1 .left) _ (due .same .ensures) (i2 .if2 .left) _ (state .same-state .ensures) (i3 .if3 .left) _
+    compared (position-of (start .args .self)) (position-of (start .args .rhs)) _ _ (who .as-bit .ensures) (by .as-bit2 .ensures)
+    (i1 .if1 .left) _ (due .same .ensures) (i2 .if2 .left) _ (state .same-state .ensures) (i3 .if3 .left) _
     (c .same-in .ensures ∙ same-boards (position-of (start .args .self)) _ _ _ (boards .openbits .ensures))
 
 pub equivalent-spec : {M : Type 1} → statement M

@@ -14,7 +14,9 @@ count-requires : tie.Need-count-requires
 count-requires c κs = search needs
 
 returns : tie.Need-returns
-returns c = c .count .ensures ∙ ap (λ it. length (moves-left it)) (c .before .all-moves .ensures) ∙ ap length (all-moves-listed (c .before .before .args .self))
+returns c =
+    c .count .ensures ∙ ap (λ it. length (moves-left it)) (c .before .all-moves .ensures)
+    ∙ ap length (all-moves-listed (c .before .before .args .self))
 
 pub legal-moves-spec : {M : Type 1} → statement M
 legal-moves-spec = tie.close (tie.spec all-moves-requires count-requires returns)

@@ -19,19 +19,24 @@ local-requires : tie.Need-local-requires
 local-requires c κs = search needs
 
 play-requires : tie.Need-play-requires
-play-requires c κs = may-play (c .before .before .before .before .before .args .self) _ _ (c .before .before .before .before .check-move .ensures) (c .before .before .enum-told .given .1) _ _ (c .before .global .ensures) (c .local .ensures)
+play-requires c κs =
+    may-play (c .before .before .before .before .before .args .self) _ _ (c .before .before .before .before .check-move .ensures)
+    (c .before .before .enum-told .given .1) _ _ (c .before .global .ensures) (c .local .ensures)
 
 enum-known-answer : tie.Need-enum-known-answer
 enum-known-answer c = search needs
 
 returns : tie.Need-returns
 returns c =
-    let n : length (c .before .before .before .before .before .before .args .self .«local_boards» .rows) ≡ 3 = simp length-map at (c .before .before .before .before .before .before .good .0 .1 .1 .1 .1 .0 .1 .1 .0 .1 .0 .1) in
-    plays-accepted _ _ _ (c .before .before .before .before .before .check-move .ensures) (c .before .before .before .enum-told .given .1) _ _ (c .before .before .global .ensures) (c .before .local .ensures) _ (c .play .ensures) n
+    let n : length (c .before .before .before .before .before .before .args .self .«local_boards» .rows)
+    ≡ 3 = simp length-map at (c .before .before .before .before .before .before .good .0 .1 .1 .1 .1 .0 .1 .1 .0 .1 .0 .1) in
+    plays-accepted _ _ _ (c .before .before .before .before .before .check-move .ensures) (c .before .before .before .enum-told .given .1)
+    _ _ (c .before .before .global .ensures) (c .before .local .ensures) _ (c .play .ensures) n
 
 returns-2 : tie.Need-returns-2
 returns-2 c =
-    let n : length (c .before .before .before .before .args .self .«local_boards» .rows) ≡ 3 = simp length-map at (c .before .before .before .before .good .0 .1 .1 .1 .1 .0 .1 .1 .0 .1 .0 .1) in
+    let n : length (c .before .before .before .before .args .self .«local_boards» .rows)
+    ≡ 3 = simp length-map at (c .before .before .before .before .good .0 .1 .1 .1 .1 .0 .1 .1 .0 .1 .0 .1) in
     plays-refused _ _ _ (c .before .before .before .check-move .ensures) _ (c .before .answer .given .1) n
 
 pub make-move-spec : {M : Type 1} → statement M

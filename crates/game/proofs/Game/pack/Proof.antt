@@ -15,7 +15,9 @@ use Rattle.game.proofs.Game.pack.Statement.{statement}
 use Rattle.game.proofs.Game.pack.Tie as tie
 
 abbrev Inv-loop : tie.InvT-loop
-Inv-loop next-player next-board local-boards global-states game-state hash₀ board₀ hash board = (board ≤ 9) × (bitXor hash (xors (λ b. board-hash b (cell-at local-boards b) (state-at global-states b)) (drop board nine)) ≡ Rattle.rules.specs.Hash.hash (position-of (parts next-player next-board local-boards global-states game-state)))
+Inv-loop next-player next-board local-boards global-states game-state hash₀ board₀ hash board =
+    (board ≤ 9) × (bitXor hash (xors (λ b. board-hash b (cell-at local-boards b) (state-at global-states b)) (drop board nine))
+    ≡ Rattle.rules.specs.Hash.hash (position-of (parts next-player next-board local-boards global-states game-state)))
 
 abbrev μ-loop : tie.MeasureT-loop
 μ-loop next-player next-board local-boards global-states game-state hash₀ board₀ hash board = 9 - board
@@ -42,8 +44,10 @@ loop-again c =
     let l = c .before .before .before .loop in
     let h = c .before .before .loop-test .taken in (
       search needs,
-      one-more (λ b. board-hash b (cell-at (a .local-boards) b) (state-at (a .global-states) b)) (l .board) h (l .hash) (c .board-hash .result) _
-          (c .board-hash .ensures ∙ ap (board-hash (l .board) (cell-at (a .local-boards) (l .board))) (c .before .at .ensures)) (l .inv .1),
+      one-more (λ b. board-hash b (cell-at (a .local-boards) b) (state-at (a .global-states) b)) (l .board) h (l .hash)
+          (c .board-hash .result) _
+          (c .board-hash .ensures ∙ ap (board-hash (l .board) (cell-at (a .local-boards) (l .board))) (c .before .at .ensures))
+          (l .inv .1),
     )
 
 returns : tie.Need-returns Inv-loop μ-loop
@@ -51,7 +55,8 @@ unfolding packed xors
 returns c =
     let a = c .before .before .args in
     let e : c .before .loop .board ≡ 9 = omega arith in
-    ap (with-hash (parts (a .next-player) (a .next-board) (a .local-boards) (a .global-states) (a .game-state))) (sym (xor-zero-r (c .before .loop .hash)) ∙ (rw e at (c .before .loop .inv .1)))
+    ap (with-hash (parts (a .next-player) (a .next-board) (a .local-boards) (a .global-states) (a .game-state)))
+    (sym (xor-zero-r (c .before .loop .hash)) ∙ (rw e at (c .before .loop .inv .1)))
 
 pub pack-spec : {M : Type 1} → statement M
 pack-spec =

@@ -57,7 +57,8 @@ returns c =
       | inl w ↦ w .1 ∙ next-only _ _ _ (c .before .before .in-play .ensures) (w .0 .taken)
       | inr w ↦ w .1 ∙ next-any _ _ _ (c .before .before .in-play .ensures) (w .0 .left)
     ])
-    (boards .set .ensures) (winner .check-winner .ensures) (states .set2 .ensures) (c .before .before .before .check-winner2 .ensures) (square .for-square .ensures) (closing .hash-after .ensures)
+    (boards .set .ensures) (winner .check-winner .ensures) (states .set2 .ensures) (c .before .before .before .check-winner2 .ensures)
+    (square .for-square .ensures) (closing .hash-after .ensures)
 
 pub play-spec : {M : Type 1} → statement M
 play-spec =

@@ -30,7 +30,8 @@ returns : tie.Need-returns
 unfolding with-turn
 returns c = let g = c .before .before .before .args .self in elim (c .before .before .match .came) [
   | inl w ↦ ap (bitXor (g .hash)) (w .3 ∙ turn-any (g .«next_board») (g .«next_player») _ (w .2 .ensures) (w .1 .given .1))
-  | inr w ↦ ap (bitXor (g .hash)) (w .5 ∙ turn-only (g .«next_board») (g .«next_player») _ (w .4 .ensures) _ _ (w .1 .given .1) (w .3 .ensures))
+  | inr w ↦ ap (bitXor (g .hash)) (w .5 ∙ turn-only (g .«next_board») (g .«next_player») _ (w .4 .ensures) _ _ (w .1 .given .1)
+      (w .3 .ensures))
 ]
 
 pub zobrist-spec : {M : Type 1} → statement M

@@ -10,7 +10,9 @@ use Rattle.input.proofs.Input.next_line.Statement.{statement}
 use Rattle.input.proofs.Input.next_line.Tie as tie
 
 abbrev Inv-loop : tie.InvT-loop
-Inv-loop buffer₀ kept₀ input₀ turns₀ buffer kept input turns = Went (input₀ .line) kept₀ (unused input₀ buffer₀) (input .line) kept (unused input buffer) × (length buffer ≡ length buffer₀) × (length kept ≡ length kept₀)
+Inv-loop buffer₀ kept₀ input₀ turns₀ buffer kept input turns =
+    Went (input₀ .line) kept₀ (unused input₀ buffer₀) (input .line) kept (unused input buffer) ×
+    (length buffer ≡ length buffer₀) × (length kept ≡ length kept₀)
 
 abbrev μ-loop : tie.MeasureT-loop
 μ-loop buffer₀ kept₀ input₀ turns₀ buffer kept input turns = turns
@@ -32,9 +34,14 @@ same-length-2 c = search needs
 
 returns : tie.Need-returns Inv-loop μ-loop
 returns c =
-    let a = c .before .before .before .before .before .before .before .before .before .before .before .args in
-    let l = c .before .before .before .before .before .before .before .loop in
-    reads (a .self) (now (a .buffer)) (now (a .kept)) (l .input) (l .buffer) (l .kept) _ _ (went-from (a .self) (c .before .before .before .before .before .before .before .before .begun .result) _ _ _ _ _ (c .before .before .before .before .before .before .before .before .begun .ensures) (l .inv .0)) (c .before .before .before .take .ensures)
+    let at-loop = c .before .before .before .before .before .before .before in
+    let at-begun = at-loop .before in
+    let start = at-begun .before .before .before in
+    let a = start .args in
+    let l = at-loop .loop in
+    reads (a .self) (now (a .buffer)) (now (a .kept)) (l .input) (l .buffer) (l .kept) _ _
+    (went-from (a .self) (at-begun .begun .result) _ _ _ _ _ (at-begun .begun .ensures) (l .inv .0))
+    (c .before .before .before .take .ensures)
 
 fill-requires : tie.Need-fill-requires Inv-loop μ-loop
 fill-requires c κs = search needs
@@ -50,11 +57,19 @@ same-length-4 c = search needs
 
 returns-2 : tie.Need-returns-2 Inv-loop μ-loop
 returns-2 c =
-    let a = c .before .before .before .before .before .before .before .before .before .before .before .before .before .before .before .before .before .args in
-    let l = c .before .before .before .before .before .before .before .before .before .before .before .before .before .loop in
+    let at-if1 = c .before .before .before .before .before .before in
+    let at-take = at-if1 .before .before .before in
+    let at-loop = at-take .before .before .before .before in
+    let at-begun = at-loop .before in
+    let start = at-begun .before .before .before in
+    let a = start .args in
+    let l = at-loop .loop in
     let r = c .before .refilled in
-    let w = went-on _ _ _ (l .input) (l .buffer) (l .kept) (c .before .before .before .before .before .before .before .before .before .take .result) _ (unused (r .result) (c .before .before .before .before .fill .last .0)) (l .inv .0) (c .before .before .before .before .before .before .before .before .before .take .ensures) (c .before .before .before .before .before .before .if1 .left) in
-    reads-end (a .self) (now (a .buffer)) (now (a .kept)) (r .result) _ _ (went-from (a .self) (c .before .before .before .before .before .before .before .before .before .before .before .before .before .before .begun .result) _ _ _ _ _ (c .before .before .before .before .before .before .before .before .before .before .before .before .before .before .begun .ensures) (rw (r .ensures .2) w)) (rw (r .ensures .1, c .if2 .taken) (drop-nil (r .result .at))) (r .ensures .3)
+    let w = went-on _ _ _ (l .input) (l .buffer) (l .kept) (at-take .take .result) _
+    (unused (r .result) (c .before .before .before .before .fill .last .0)) (l .inv .0) (at-take .take .ensures) (at-if1 .if1 .left) in
+    reads-end (a .self) (now (a .buffer)) (now (a .kept)) (r .result) _ _
+    (went-from (a .self) (at-begun .begun .result) _ _ _ _ _ (at-begun .begun .ensures) (rw (r .ensures .2) w))
+    (rw (r .ensures .1, c .if2 .taken) (drop-nil (r .result .at))) (r .ensures .3)
 
 sub-turns : tie.Need-sub-turns Inv-loop μ-loop
 sub-turns c = search needs
@@ -64,9 +79,16 @@ loop-less c = search needs
 
 loop-again : tie.Need-loop-again Inv-loop μ-loop
 loop-again c =
-    let l = c .before .before .before .before .before .before .before .before .before .before .before .before .before .loop in
-    let r = c .before .refilled in
-    (rw (r .ensures .2) (went-on _ _ _ (l .input) (l .buffer) (l .kept) (c .before .before .before .before .before .before .before .before .before .take .result) _ (unused (r .result) (c .before .before .before .before .fill .last .0)) (l .inv .0) (c .before .before .before .before .before .before .before .before .before .take .ensures) (c .before .before .before .before .before .before .if1 .left)), search needs, search needs)
+    let at-if1 = c .before .before .before .before .before .before in
+    let at-take = at-if1 .before .before .before in
+    let at-loop = at-take .before .before .before .before in
+    let l = at-loop .loop in
+    let r = c .before .refilled in (
+      rw (r .ensures .2) (went-on _ _ _ (l .input) (l .buffer) (l .kept) (at-take .take .result) _
+          (unused (r .result) (c .before .before .before .before .fill .last .0)) (l .inv .0) (at-take .take .ensures) (at-if1 .if1 .left)),
+      search needs,
+      search needs,
+    )
 
 take-requires-2 : tie.Need-take-requires-2 Inv-loop μ-loop
 take-requires-2 c κs = search needs
@@ -79,9 +101,13 @@ same-length-6 c = search needs
 
 returns-3 : tie.Need-returns-3 Inv-loop μ-loop
 returns-3 c =
-    let a = c .before .before .before .before .before .before .before .before .before .before .args in
-    let l = c .before .before .before .before .before .before .loop in
-    reads (a .self) (now (a .buffer)) (now (a .kept)) (l .input) (l .buffer) (l .kept) _ _ (went-from (a .self) (c .before .before .before .before .before .before .before .begun .result) _ _ _ _ _ (c .before .before .before .before .before .before .before .begun .ensures) (l .inv .0)) (c .before .before .take2 .ensures)
+    let at-loop = c .before .before .before .before .before .before in
+    let at-begun = at-loop .before in
+    let start = at-begun .before .before .before in
+    let a = start .args in
+    let l = at-loop .loop in
+    reads (a .self) (now (a .buffer)) (now (a .kept)) (l .input) (l .buffer) (l .kept) _ _
+    (went-from (a .self) (at-begun .begun .result) _ _ _ _ _ (at-begun .begun .ensures) (l .inv .0)) (c .before .before .take2 .ensures)
 
 pub next-line-spec : {M : Type 1} → statement M
 next-line-spec =

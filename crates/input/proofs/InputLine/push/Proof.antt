@@ -19,7 +19,11 @@ returns : tie.Need-returns
 returns c = (rw (c .before .one-more .ensures), refl)
 
 returns-2 : tie.Need-returns-2
-returns-2 c = let a = c .before .before .before .args in (rw (c .before .one-more .ensures), sym (set-out (now (a .kept)) (a .self .length) (a .b) (c .if1 .left)))
+returns-2 c =
+    let a = c .before .before .before .args in (
+      rw (c .before .one-more .ensures),
+      sym (set-out (now (a .kept)) (a .self .length) (a .b) (c .if1 .left)),
+    )
 
 pub push-spec : {M : Type 1} → statement M
 push-spec =

@@ -9,7 +9,8 @@ use Rattle.input.proofs.InputLine.whole.Statement.{statement}
 use Rattle.input.proofs.InputLine.whole.Tie as tie
 
 slice-aggregate-result : tie.Need-slice-aggregate-result
-slice-aggregate-result c = let a = c .before .before .args in let h = length-take-le (a .self .length) (now (a .kept)) (c .before .if1 .taken) in search needs
+slice-aggregate-result c =
+    let a = c .before .before .args in let h = length-take-le (a .self .length) (now (a .kept)) (c .before .if1 .taken) in search needs
 
 slice-aggregate-result-2 : tie.Need-slice-aggregate-result-2
 slice-aggregate-result-2 c = search needs

@@ -37,14 +37,18 @@ loop-less c = search needs
 loop-again : tie.Need-loop-again Inv-loop μ-loop
 loop-again c =
     let l = c .before .before .before .loop in
-    let bs = c .before .before .before .before .before .before .args .line .now in
-    (refl, ap (λ (h : LineBuffer). pushed-all h (drop (l .i + 1) bs)) (c .push .ensures) ∙ pushed-next (l .held) bs (l .i) 0 (c .before .before .loop-test .taken) ∙ l .inv .1)
+    let bs = c .before .before .before .before .before .before .args .line .now in (
+      refl,
+      ap (λ (h : LineBuffer). pushed-all h (drop (l .i + 1) bs)) (c .push .ensures)
+          ∙ pushed-next (l .held) bs (l .i) 0 (c .before .before .loop-test .taken) ∙ l .inv .1,
+    )
 
 returns : tie.Need-returns Inv-loop μ-loop
 returns c =
     let l = c .before .loop in
     let bs = c .before .before .before .before .args .line .now in
-    sym (pushed-end (l .held) bs (l .i) (c .loop-test .left)) ∙ l .inv .1 ∙ ap (λ (h : LineBuffer). pushed-all h bs) (c .before .before .new .ensures)
+    sym (pushed-end (l .held) bs (l .i) (c .loop-test .left)) ∙ l .inv .1
+    ∙ ap (λ (h : LineBuffer). pushed-all h bs) (c .before .before .new .ensures)
 
 pub held-spec : {M : Type 1} → statement M
 held-spec =

@@ -10,7 +10,8 @@ use Rattle.interface.proofs.lent.put_bytes.Statement.{statement}
 use Rattle.interface.proofs.lent.put_bytes.Tie as tie
 
 abbrev Inv-loop : tie.InvT-loop
-Inv-loop out₀ at bytes i₀ i-end out i = (i-end ≡ length bytes) × (length out ≡ length out₀) × (sets out (at + i) (drop i bytes) ≡ sets out₀ at bytes)
+Inv-loop out₀ at bytes i₀ i-end out i =
+    (i-end ≡ length bytes) × (length out ≡ length out₀) × (sets out (at + i) (drop i bytes) ≡ sets out₀ at bytes)
 
 abbrev μ-loop : tie.MeasureT-loop
 μ-loop out₀ at bytes i₀ i-end out i = i-end - i
@@ -36,8 +37,12 @@ loop-less c = search needs
 loop-again : tie.Need-loop-again Inv-loop μ-loop
 loop-again c =
     let l = c .before .before .loop in
-    let s = c .before .before .before .args in
-    (refl, simp length-set (l .inv .1), sets-next (l .out) (s .at) (l .i) (s .bytes .now) _ (c .before .loop-test .taken) refl ∙ l .inv .2)
+    let s = c .before .before .before .args in (
+      refl,
+      simp length-set (l .inv .1),
+      sets-next (l .out) (s .at) (l .i) (s .bytes .now) _ (c .before .loop-test .taken) refl
+          ∙ l .inv .2,
+    )
 
 same-length : tie.Need-same-length Inv-loop μ-loop
 same-length c = search needs

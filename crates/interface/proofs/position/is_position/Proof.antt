@@ -37,7 +37,8 @@ array-read-if2 c = search needs
 returns-2 : tie.Need-returns-2 Inv-loop μ-loop
 returns-2 c =
     let l = c .before .before .before .loop in
-    sym (l .inv .2 ∙ within-over most (c .before .before .before .before .before .args .words .now) (l .i) (c .before .before .loop-test .taken) (omega (arith, c .before .before .loop-test .taken, l .inv .0)) (c .if2 .taken))
+    sym (l .inv .2 ∙ within-over most (c .before .before .before .before .before .args .words .now) (l .i)
+    (c .before .before .loop-test .taken) (omega (arith, c .before .before .loop-test .taken, l .inv .0)) (c .if2 .taken))
 
 add-i : tie.Need-add-i Inv-loop μ-loop
 add-i c = search needs
@@ -47,8 +48,13 @@ loop-less c = omega arith
 
 loop-again : tie.Need-loop-again Inv-loop μ-loop
 loop-again c =
-    let l = c .before .before .before .loop in
-    (l .inv .0, omega (arith, c .before .before .loop-test .taken), l .inv .2 ∙ within-under most (c .before .before .before .before .before .args .words .now) (l .i) (c .before .before .loop-test .taken) (omega (arith, c .before .before .loop-test .taken, l .inv .0)) (c .if2 .left))
+    let l = c .before .before .before .loop in (
+      l .inv .0,
+      omega (arith, c .before .before .loop-test .taken),
+      l .inv .2
+          ∙ within-under most (c .before .before .before .before .before .args .words .now) (l .i) (c .before .before .loop-test .taken)
+          (omega (arith, c .before .before .loop-test .taken, l .inv .0)) (c .if2 .left),
+    )
 
 returns-3 : tie.Need-returns-3 Inv-loop μ-loop
 returns-3 c =

@@ -20,7 +20,9 @@ returns : tie.Need-returns
 returns c = search needs
 
 returns-2 : tie.Need-returns-2
-returns-2 c = c .error-place .ensures ∙ ap (λ (a : ParseAnswer). read-place (reading-of a (c .before .before .before .before .args .parsed .game))) (sym (c .before .before .answer .given .1))
+returns-2 c =
+    c .error-place .ensures ∙ ap (λ (a : ParseAnswer). read-place (reading-of a (c .before .before .before .before .args .parsed .game)))
+    (sym (c .before .before .answer .given .1))
 
 pub place-spec : {M : Type 1} → statement M
 place-spec =

@@ -16,7 +16,9 @@ use Rattle.interface.proofs.position.play.Statement.{statement}
 use Rattle.interface.proofs.position.play.Tie as tie
 
 abbrev Inv-loop : tie.InvT-loop
-Inv-loop moves answers₀ game₀ i₀ i-end answers game i = (i-end ≡ length moves) × (length answers ≡ length answers₀) × (games-after game (drop i moves) ≡ games-after game₀ moves) × (sets answers i (answers-each game (drop i moves)) ≡ sets answers₀ 0 (answers-each game₀ moves))
+Inv-loop moves answers₀ game₀ i₀ i-end answers game i =
+    (i-end ≡ length moves) × (length answers ≡ length answers₀) × (games-after game (drop i moves) ≡ games-after game₀ moves) ×
+    (sets answers i (answers-each game (drop i moves)) ≡ sets answers₀ 0 (answers-each game₀ moves))
 
 abbrev μ-loop : tie.MeasureT-loop
 μ-loop moves answers₀ game₀ i₀ i-end answers game i = i-end - i
@@ -65,8 +67,10 @@ same-length c = search needs
 returns : tie.Need-returns Inv-loop μ-loop
 returns c =
     let l = c .before .loop in
-    let ms = c .before .before .before .before .args .moves .now in
-    (sym (games-all (l .game) ms (l .i) (c .loop-test .left)) ∙ l .inv .2, answers-end (l .answers) ms _ (l .game) (l .i) (c .loop-test .left) (l .inv .3))
+    let ms = c .before .before .before .before .args .moves .now in (
+      sym (games-all (l .game) ms (l .i) (c .loop-test .left)) ∙ l .inv .2,
+      answers-end (l .answers) ms _ (l .game) (l .i) (c .loop-test .left) (l .inv .3),
+    )
 
 pub play-spec : {M : Type 1} → statement M
 play-spec =

@@ -21,7 +21,14 @@ same-length : tie.Need-same-length
 same-length c = search needs
 
 returns : tie.Need-returns
-returns c = record { stored = c .before .before .put .ensures ∙ ap (sets (c .before .before .before .before .before .before .before .args .out .now) 0) (c .before .before .before .before .words-of .ensures); many = omega (arith, ap length (c .before .before .before .before .words-of .ensures)) }
+returns c =
+    record {
+      stored = c .before .before .put .ensures
+          ∙ ap (sets (c .before .before .before .before .before .before .before .args .out .now) 0)
+          (c .before .before .before .before .words-of .ensures);
+      many = omega
+          (arith, ap length (c .before .before .before .before .words-of .ensures));
+    }
 
 pub put-spec : {M : Type 1} → statement M
 put-spec =

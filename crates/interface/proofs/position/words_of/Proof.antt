@@ -59,9 +59,17 @@ number-requires c κs = search needs
 
 returns : tie.Need-returns
 returns c =
-    let s = c .before .before .before .before .before .before .before .before .before .before .before .before .before .before in
+    let at-wide5 = c .before .before .before .before .before .before in
+    let at-wide4 = at-wide5 .before in
+    let at-wide3 = at-wide4 .before in
+    let at-wide2 = at-wide3 .before in
+    let at-wide = at-wide2 .before in
+    let at-place = at-wide .before .before .before .before in
+    let s = at-place in
     let n : length (s .args .game .«local_boards» .rows) ≡ 3 = simp length-map at (s .good .0 .1 .1 .1 .1 .0 .1 .1 .0 .1 .0 .1) in
-    words-made (s .args .game) _ _ _ _ _ _ _ _ _ n (c .before .before .before .before .before .before .before .before .before .before .wide .ensures) (c .before .before .before .before .before .before .before .before .before .wide2 .ensures) (c .before .before .before .before .before .before .before .before .wide3 .ensures) (c .before .before .before .before .before .before .before .wide4 .ensures) (c .before .before .before .before .before .before .wide5 .ensures) (c .before .before .before .before .before .wide6 .ensures) (c .before .before .as-bit .ensures) (c .before .due-word .ensures) (c .number .ensures)
+    words-made (s .args .game) _ _ _ _ _ _ _ _ _ n (at-wide .wide .ensures) (at-wide2 .wide2 .ensures) (at-wide3 .wide3 .ensures)
+    (at-wide4 .wide4 .ensures) (at-wide5 .wide5 .ensures) (c .before .before .before .before .before .wide6 .ensures)
+    (c .before .before .as-bit .ensures) (c .before .due-word .ensures) (c .number .ensures)
 
 pub words-of-spec : {M : Type 1} → statement M
 words-of-spec =

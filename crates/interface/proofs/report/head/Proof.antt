@@ -28,10 +28,14 @@ cast-t10 c = search needs
 
 returns : tie.Need-returns
 returns c =
-    let s = c .before .before .before .before .before .before .before .args .found .score in
-    seven _ _ _ _ _ _ _ _ _ _ _ _ (c .before .before .before .before .before .number .ensures) (c .before .before .before .before .stopped .ensures)
-    (c .before .before .to-word .ensures ∙ ap to-word (toZ-ofZ {z = s} (record { sfits = c .before .before .before .struct-told .given .1 .1 .1 .0 .1 })))
-    (c .before .number2 .ensures) (ap (λ (s : Status). s .bits) (c .before .before .before .before .before .before .status .ensures))
+    let at-status = c .before .before .before .before .before .before in
+    let start = at-status .before in
+    let s = start .args .found .score in
+    seven _ _ _ _ _ _ _ _ _ _ _ _ (c .before .before .before .before .before .number .ensures)
+    (c .before .before .before .before .stopped .ensures)
+    (c .before .before .to-word .ensures
+    ∙ ap to-word (toZ-ofZ {z = s} (record { sfits = c .before .before .before .struct-told .given .1 .1 .1 .0 .1 })))
+    (c .before .number2 .ensures) (ap (λ (s : Status). s .bits) (at-status .status .ensures))
 
 pub head-spec : {M : Type 1} → statement M
 head-spec =

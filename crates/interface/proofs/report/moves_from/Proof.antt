@@ -37,8 +37,12 @@ loop-less c = omega arith
 loop-again : tie.Need-loop-again Inv-loop μ-loop
 loop-again c =
     let l = c .before .before .loop in
-    let s = c .before .before .before in
-    (omega (arith, c .before .loop-test .taken), simp length-set (l .inv .1), moves-next (l .moves) (s .args .bytes .now) (s .args .at) (l .i) (omega (arith, c .before .loop-test .taken, l .inv .1)) (omega (arith, c .before .loop-test .taken, s .pre)) (l .inv .2))
+    let s = c .before .before .before in (
+      omega (arith, c .before .loop-test .taken),
+      simp length-set (l .inv .1),
+      moves-next (l .moves) (s .args .bytes .now) (s .args .at) (l .i) (omega (arith, c .before .loop-test .taken, l .inv .1))
+          (omega (arith, c .before .loop-test .taken, s .pre)) (l .inv .2),
+    )
 
 returns : tie.Need-returns Inv-loop μ-loop
 returns c =

@@ -30,11 +30,16 @@ same-length c = search needs
 
 returns : tie.Need-returns
 returns c =
-    let s = c .before .before .before .before .before .before .before .before .before .before .before .before .before .before .before .before .before in
+    let at-put-line = c .before .before .before .before .before .before in
+    let at-put = at-put-line .before .before .before .before in
+    let at-head = at-put .before .before in
+    let at-place = at-head .before .before .before .before .before in
+    let s = at-place in
     let n : length (s .args .found .pv) ≡ 81 = simp length-map at (s .good .1 .0 .1 .1 .1 .1 .1 .1 .1 .0 .1 .0 .1) in
     let k : length (s .args .found .stats) ≡ 81 = simp length-map at (s .good .1 .0 .1 .1 .1 .1 .1 .1 .1 .1 .0 .1 .0 .1) in
     report-put (s .args .out .now) _ _ _ (report-of (s .args .found) []) _ _ (simp length-map n) (simp length-map k)
-    (c .before .before .before .before .before .before .before .before .before .before .put .ensures ∙ ap (sets (s .args .out .now) 0) (c .before .before .before .before .before .before .before .before .before .before .before .before .head .ensures)) (c .before .before .before .before .before .before .put-line .ensures) (c .before .before .put-stats .ensures)
+    (at-put .put .ensures ∙ ap (sets (s .args .out .now) 0) (at-head .head .ensures)) (at-put-line .put-line .ensures)
+    (c .before .before .put-stats .ensures)
 
 pub put-spec : {M : Type 1} → statement M
 put-spec =

@@ -12,7 +12,8 @@ use Rattle.interface.proofs.report.put_line.Statement.{statement}
 use Rattle.interface.proofs.report.put_line.Tie as tie
 
 abbrev Inv-loop : tie.InvT-loop
-Inv-loop out₀ at line i₀ out i = (length out ≡ length out₀) × (sets out (at + i) (drop i (bytes-of line)) ≡ sets out₀ at (bytes-of line))
+Inv-loop out₀ at line i₀ out i =
+    (length out ≡ length out₀) × (sets out (at + i) (drop i (bytes-of line)) ≡ sets out₀ at (bytes-of line))
 
 abbrev μ-loop : tie.MeasureT-loop
 μ-loop out₀ at line i₀ out i = 81 - i
@@ -46,8 +47,11 @@ loop-again c =
     let l = c .before .before .before .loop in
     let s = c .before .before .before .before .before in
     let n : length (s .args .t3) ≡ 81 = s .good .1 .1 .0 .1 .0 .1 in
-    let h : l .i < length (bytes-of (s .args .t3)) = simp length-map (omega (arith, c .before .before .loop-test .taken)) in
-    (simp length-set (l .inv .0), sets-next (l .out) (s .args .at) (l .i) (bytes-of (s .args .t3)) _ h (c .word .ensures ∙ sym (List·getD-map byte-of (s .args .t3) (l .i) (record { bits = 0 }))) ∙ l .inv .1)
+    let h : l .i < length (bytes-of (s .args .t3)) = simp length-map (omega (arith, c .before .before .loop-test .taken)) in (
+      simp length-set (l .inv .0),
+      sets-next (l .out) (s .args .at) (l .i) (bytes-of (s .args .t3)) _ h
+          (c .word .ensures ∙ sym (List·getD-map byte-of (s .args .t3) (l .i) (record { bits = 0 }))) ∙ l .inv .1,
+    )
 
 same-length : tie.Need-same-length Inv-loop μ-loop
 same-length c = search needs

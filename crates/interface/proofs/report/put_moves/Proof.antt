@@ -12,7 +12,8 @@ use Rattle.interface.proofs.report.put_moves.Statement.{statement}
 use Rattle.interface.proofs.report.put_moves.Tie as tie
 
 abbrev Inv-loop : tie.InvT-loop
-Inv-loop out₀ at moves i₀ out i = (length out ≡ length out₀) × (sets out (at + i) (drop i (bytes-of moves)) ≡ sets out₀ at (bytes-of moves))
+Inv-loop out₀ at moves i₀ out i =
+    (length out ≡ length out₀) × (sets out (at + i) (drop i (bytes-of moves)) ≡ sets out₀ at (bytes-of moves))
 
 abbrev μ-loop : tie.MeasureT-loop
 μ-loop out₀ at moves i₀ out i = 256 - i
@@ -40,8 +41,11 @@ loop-again c =
     let l = c .before .before .loop in
     let s = c .before .before .before in
     let n : length (s .args .t3) ≡ 256 = s .good .1 .1 .0 .1 .0 .1 in
-    let h : l .i < length (bytes-of (s .args .t3)) = simp length-map (omega (arith, c .before .loop-test .taken)) in
-    (simp length-set (l .inv .0), sets-next (l .out) (s .args .at) (l .i) (bytes-of (s .args .t3)) _ h (sym (List·getD-map byte-of (s .args .t3) (l .i) (record { bits = 0 }))) ∙ l .inv .1)
+    let h : l .i < length (bytes-of (s .args .t3)) = simp length-map (omega (arith, c .before .loop-test .taken)) in (
+      simp length-set (l .inv .0),
+      sets-next (l .out) (s .args .at) (l .i) (bytes-of (s .args .t3)) _ h
+          (sym (List·getD-map byte-of (s .args .t3) (l .i) (record { bits = 0 }))) ∙ l .inv .1,
+    )
 
 same-length : tie.Need-same-length Inv-loop μ-loop
 same-length c = search needs

@@ -14,7 +14,9 @@ use Rattle.interface.proofs.report.put_stats.Statement.{statement}
 use Rattle.interface.proofs.report.put_stats.Tie as tie
 
 abbrev Inv-loop : tie.InvT-loop
-Inv-loop out₀ at stats i₀ out i = (length out ≡ length out₀) × (sets out (at + 7 * i) (all-stats (map stats-of (drop i stats))) ≡ sets out₀ at (all-stats (map stats-of stats)))
+Inv-loop out₀ at stats i₀ out i =
+    (length out ≡ length out₀) ×
+    (sets out (at + 7 * i) (all-stats (map stats-of (drop i stats))) ≡ sets out₀ at (all-stats (map stats-of stats)))
 
 abbrev μ-loop : tie.MeasureT-loop
 μ-loop out₀ at stats i₀ out i = 81 - i
@@ -51,11 +53,18 @@ loop-less c = omega arith
 
 loop-again : tie.Need-loop-again Inv-loop μ-loop
 loop-again c =
-    let l = c .before .before .before .before .before .before .before .before .loop in
-    let s = c .before .before .before .before .before .before .before .before .before .before in
+    let at-put = c .before .before in
+    let at-loop = at-put .before .before .before .before .before in
+    let at-loop-2 = at-loop .before in
+    let at-place = at-loop-2 .before .before in
+    let l = at-loop-2 .loop in
+    let s = at-place in
     let n : length (s .args .t3) ≡ 81 = s .good .1 .1 .0 .1 .0 .1 in
-    let put = c .before .before .put .ensures ∙ ap (sets (l .out) (s .args .at + 7 * l .i)) (c .before .before .before .before .before .stats-words .ensures) in
-    (c .before .before .put .kept .0 ∙ l .inv .0, stats-next (l .out) _ (s .args .at) (l .i) (s .args .t3) _ (omega (arith, c .before .before .before .before .before .before .before .loop-test .taken)) put ∙ l .inv .1)
+    let put = at-put .put .ensures ∙ ap (sets (l .out) (s .args .at + 7 * l .i)) (at-put .before .before .before .stats-words .ensures) in (
+      at-put .put .kept .0 ∙ l .inv .0,
+      stats-next (l .out) _ (s .args .at) (l .i) (s .args .t3) _
+          (omega (arith, at-loop .loop-test .taken)) put ∙ l .inv .1,
+    )
 
 same-length : tie.Need-same-length Inv-loop μ-loop
 same-length c = search needs

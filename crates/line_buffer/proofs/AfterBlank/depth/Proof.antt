@@ -1,6 +1,7 @@
 -- The arms of the code are those of the definition.
 use borrow.Author.Tests.{not-false}
-use Rattle.line_buffer.proofs.BufferDepth.{digit-bounds, tens-fit, sum-fits, after-nothing, after-other, one-digit, one-other, two-first-other, two-digits, two-second-other}
+use Rattle.line_buffer.proofs.BufferDepth.{digit-bounds, tens-fit, sum-fits, after-nothing, after-other, one-digit, one-other}
+use Rattle.line_buffer.proofs.BufferDepth.{two-first-other, two-digits, two-second-other}
 use borrow.Author.Needs.{needs}
 use Rattle.line_buffer.proofs.AfterBlank.depth.Statement.{statement}
 use Rattle.line_buffer.proofs.AfterBlank.depth.Tie as tie
@@ -39,7 +40,9 @@ sub-t15 : tie.Need-sub-t15
 sub-t15 c = digit-bounds _ _ (c .before .is-digit3 .ensures) (c .if3 .taken) .0
 
 add-t16 : tie.Need-add-t16
-add-t16 c = sum-fits _ _ _ _ (c .before .before .before .is-digit2 .ensures) (c .before .before .if2 .left) (c .before .is-digit3 .ensures) (c .if3 .taken)
+add-t16 c =
+    sum-fits _ _ _ _ (c .before .before .before .is-digit2 .ensures) (c .before .before .if2 .left) (c .before .is-digit3 .ensures)
+    (c .if3 .taken)
 
 enum-told-2 : tie.Need-enum-told-2
 enum-told-2 c = search needs
@@ -54,10 +57,14 @@ returns-4 : tie.Need-returns-4
 returns-4 c = one-other _ _ (c .before .before .before .self .given .1) _ (c .before .is-digit .ensures) (c .if1 .left)
 
 returns-5 : tie.Need-returns-5
-returns-5 c = two-digits _ _ _ (c .before .before .before .before .before .self2 .given .1) _ (c .before .before .before .is-digit2 .ensures) (c .before .before .if2 .left) _ (c .before .is-digit3 .ensures) (c .if3 .taken)
+returns-5 c =
+    two-digits _ _ _ (c .before .before .before .before .before .self2 .given .1) _ (c .before .before .before .is-digit2 .ensures)
+    (c .before .before .if2 .left) _ (c .before .is-digit3 .ensures) (c .if3 .taken)
 
 returns-6 : tie.Need-returns-6
-returns-6 c = two-second-other _ _ _ (c .before .before .before .before .before .self2 .given .1) _ (c .before .before .before .is-digit2 .ensures) (c .before .before .if2 .left) _ (c .before .is-digit3 .ensures) (c .if3 .left)
+returns-6 c =
+    two-second-other _ _ _ (c .before .before .before .before .before .self2 .given .1) _ (c .before .before .before .is-digit2 .ensures)
+    (c .before .before .if2 .left) _ (c .before .is-digit3 .ensures) (c .if3 .left)
 
 returns-7 : tie.Need-returns-7
 returns-7 c = after-other _ (c .enum-told2 .given .1)

@@ -17,10 +17,12 @@ add-len : tie.Need-add-len
 add-len c = search needs
 
 -- with room and when full
-kept : (c : lts.Joined1 (push-reads.Asked, push-reads.Learnt) reads.Pre reads.Post) → Kept (c .before .before .args .self) (c .before .before .args .b) (c .if1 .bytes) (c .if1 .len)
+kept : (c : lts.Joined1 (push-reads.Asked, push-reads.Learnt) reads.Pre reads.Post) →
+    Kept (c .before .before .args .self) (c .before .before .args .b) (c .if1 .bytes) (c .if1 .len)
 kept c =
     let n : length (c .before .before .args .self .bytes) ≡ 257 = simp length-map at (c .before .before .good .0 .1 .1 .0 .1 .0 .1) in
-    ⊎-elim (λ w. kept-with-room _ _ _ _ (w .0 .taken) (w .1) (w .2)) (λ w. kept-when-full _ _ _ _ n (w .0 .left) (w .1) (w .2)) (c .if1 .came)
+    ⊎-elim (λ w. kept-with-room _ _ _ _ (w .0 .taken) (w .1) (w .2)) (λ w. kept-when-full _ _ _ _ n (w .0 .left) (w .1) (w .2))
+    (c .if1 .came)
 
 returns : tie.Need-returns
 returns c = pushed-blank _ _ _ _ (kept (c .before)) (c .if2 .taken)

@@ -27,7 +27,8 @@ add-i c = search needs
 returns : tie.Need-returns Inv-loop μ-loop
 returns c =
     let l = c .before .before .before in
-    takes _ (l .before .before .args .bytes .now) _ _ _ (l .loop .inv .0 ∙ line-found _ _ (l .loop .i) (c .before .before .loop-test .taken) (c .if1 .taken)) refl refl refl
+    takes _ (l .before .before .args .bytes .now) _ _ _ (l .loop .inv .0
+    ∙ line-found _ _ (l .loop .i) (c .before .before .loop-test .taken) (c .if1 .taken)) refl refl refl
     (λ _. (omega (arith, l .loop .inv .1), omega (arith, c .before .before .loop-test .taken)))
 
 push-requires : tie.Need-push-requires Inv-loop μ-loop
@@ -38,13 +39,17 @@ loop-less c = search needs
 
 loop-again : tie.Need-loop-again Inv-loop μ-loop
 loop-again c =
-    let l = c .before .before .before .before in
-    (l .loop .inv .0 ∙ byte-taken _ _ (l .loop .i) (c .before .before .before .loop-test .taken) (c .before .if1 .left) _ (c .push .ensures), omega (arith, l .loop .inv .1))
+    let l = c .before .before .before .before in (
+      l .loop .inv .0 ∙ byte-taken _ _ (l .loop .i) (c .before .before .before .loop-test .taken) (c .before .if1 .left) _
+          (c .push .ensures),
+      omega (arith, l .loop .inv .1),
+    )
 
 returns-2 : tie.Need-returns-2 Inv-loop μ-loop
 returns-2 c =
     let l = c .before in
-    takes _ (l .before .before .args .bytes .now) _ _ _ (l .loop .inv .0 ∙ all-taken _ _ (l .loop .i) (c .loop-test .left)) refl refl (drop-of-length-le _ (c .loop-test .left))
+    takes _ (l .before .before .args .bytes .now) _ _ _ (l .loop .inv .0 ∙ all-taken _ _ (l .loop .i) (c .loop-test .left)) refl refl
+    (drop-of-length-le _ (c .loop-test .left))
     (λ e. absurd (let z : _≡_ {A = ℕ} 0 1 = cc e in omega arith))
 
 pub take-spec : {M : Type 1} → statement M

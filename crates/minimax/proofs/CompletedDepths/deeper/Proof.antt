@@ -26,8 +26,10 @@ returns : tie.Need-returns
 returns c =
     let s = c .before .before .before .before .before .before in
     let n : length (s .args .self .stats) ≡ 81 = simp length-map at (s .good .0 .1 .1 .1 .0 .1 .0 .1) in (
-      deeper-whole (s .args .self) (s .args .r) (c .before .before .of .result) (s .pre .0) (s .pre .1) n (s .pre .2) (c .before .before .of .ensures) _ (told (s .args .r .score) (c .struct-told .given .1 .1 .0 .1)),
-      deeper-empty (s .args .self) (s .args .r) (c .before .before .of .result) (s .pre .0) (s .pre .1) n (s .pre .2) (c .before .before .of .ensures) _,
+      deeper-whole (s .args .self) (s .args .r) (c .before .before .of .result) (s .pre .0) (s .pre .1) n (s .pre .2)
+          (c .before .before .of .ensures) _ (told (s .args .r .score) (c .struct-told .given .1 .1 .0 .1)),
+      deeper-empty (s .args .self) (s .args .r) (c .before .before .of .result) (s .pre .0) (s .pre .1) n (s .pre .2)
+          (c .before .before .of .ensures) _,
       refl,
     )
 

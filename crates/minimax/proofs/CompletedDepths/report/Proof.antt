@@ -18,7 +18,8 @@ returns c =
     let s = c .before .before .before .before .before .before .before .before in
     let n : length (s .args .self .pv .moves) ≡ 81 = simp length-map at (s .good .0 .1 .1 .0 .1 .1 .0 .1 .0 .1) in
     let k : length (s .args .self .stats) ≡ 81 = simp length-map at (s .good .0 .1 .1 .1 .0 .1 .0 .1) in
-    report-made (s .args .self) (s .args .state) (s .args .stopped) (s .pre) n k (c .before .before .ending .result) (c .before .before .ending .ensures) _ (told (s .args .self .score) (c .struct-told .given .1 .1 .1 .0 .1))
+    report-made (s .args .self) (s .args .state) (s .args .stopped) (s .pre) n k (c .before .before .ending .result)
+    (c .before .before .ending .ensures) _ (told (s .args .self .score) (c .struct-told .given .1 .1 .1 .0 .1))
 
 pub report-spec : {M : Type 1} → statement M
 report-spec = tie.close (tie.spec ending-requires cast-t12 returns)

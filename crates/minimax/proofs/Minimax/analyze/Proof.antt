@@ -20,12 +20,16 @@ enum-told : tie.Need-enum-told
 enum-told c = search needs
 
 deepen-requires : tie.Need-deepen-requires
-deepen-requires c κs = limits (settings-of (c .before .before .before .before .before .args .config)) _ (sym (ap entry-number (c .before .enum-told .given .1)) ∙ c .before .before .before .check .ensures)
+deepen-requires c κs =
+    limits (settings-of (c .before .before .before .before .before .args .config)) _
+    (sym (ap entry-number (c .before .enum-told .given .1)) ∙ c .before .before .before .check .ensures)
 
 returns : tie.Need-returns
 returns c =
     let s = c .before .before .before .before .before .before in
-    c .refused .ensures _ ∙ refused-reported (structs (scoring-of (s .args .config))) (settings-of (s .args .config)) (s .args .game) _ _ (c .before .before .why .given .0 .0) (sym (ap entry-number (c .before .before .why .given .1)) ∙ c .before .before .before .before .check .ensures)
+    c .refused .ensures _ ∙ refused-reported (structs (scoring-of (s .args .config))) (settings-of (s .args .config)) (s .args .game) _ _
+    (c .before .before .why .given .0 .0) (sym (ap entry-number (c .before .before .why .given .1))
+    ∙ c .before .before .before .before .check .ensures)
 
 same-length : tie.Need-same-length
 same-length c = search needs
@@ -33,7 +37,9 @@ same-length c = search needs
 returns-2 : tie.Need-returns-2
 returns-2 c =
     let s = c .before .before .before .before .before .before .before .before in
-    c .before .before .deepen .ensures ∙ accepted-reported (structs (scoring-of (s .args .config))) (settings-of (s .args .config)) (s .args .game) _ _ (sym (ap entry-number (c .before .before .before .before .enum-told .given .1)) ∙ c .before .before .before .before .before .before .check .ensures)
+    c .before .before .deepen .ensures ∙ accepted-reported (structs (scoring-of (s .args .config))) (settings-of (s .args .config))
+    (s .args .game) _ _ (sym (ap entry-number (c .before .before .before .before .enum-told .given .1))
+    ∙ c .before .before .before .before .before .before .check .ensures)
 
 pub analyze-spec : {M : Type 1} → statement M
 analyze-spec =

@@ -1,4 +1,5 @@
--- The two functions together: a position is entered, answered or searched over its moves, and each turn over the moves is one of the definition's.
+-- The two functions together: a position is entered, answered or searched over its moves, and each turn over the moves is one of the
+-- definition's.
 use mathlib.Core.Path.{_≡_, refl, sym, ap, _∙_}
 use mathlib.Core.Bool.{Bool, true, false}
 use mathlib.Core.List.{[]}
@@ -13,8 +14,12 @@ use Rattle.order.specs.Order.{order-left}
 use Rattle.minimax.specs.declared.search.NodeResult.{NodeResult}
 use Rattle.base.proofs.Signed.{result}
 use Rattle.minimax.proofs.StateScores.{told}
-use Rattle.minimax.proofs.StateEntering.{Begun as Entering, Looked, Knows, Goes, may-enter, may-leaf, may-hit, may-suffice, stop-gives, leaf-gives, none-goes, known-gives, some-goes, goes-gives, goes-on}
-use Rattle.minimax.proofs.StateMoves.{stand, Turn, Begun, Held, Met, Brought, Raised, walk-shorter, words-long, may-raise, turn-first, turn-done, may-count, may-tell-leaf, leaf-below, stop-below, by-parts, under-asked, under-counted, under-lower, turn-stopped, score-within, cut-room, turn-not, turn-better, turn-cut}
+use Rattle.minimax.proofs.StateEntering.{Begun as Entering, Looked, Knows, Goes, may-enter, may-leaf, may-hit, may-suffice}
+use Rattle.minimax.proofs.StateEntering.{stop-gives, leaf-gives, none-goes, known-gives, some-goes, goes-gives, goes-on}
+use Rattle.minimax.proofs.StateMoves.{stand, Turn, Begun, Held, Met, Brought, Raised, walk-shorter, words-long, may-raise}
+use Rattle.minimax.proofs.StateMoves.{turn-first, turn-done, may-count, may-tell-leaf, leaf-below, stop-below, by-parts}
+use Rattle.minimax.proofs.StateMoves.{under-asked, under-counted, under-lower, turn-stopped, score-within, cut-room, turn-not}
+use Rattle.minimax.proofs.StateMoves.{turn-better, turn-cut}
 use borrow.Author.Needs.{needs}
 use borrow.Fn.Kinds.{In, Out}
 use borrow.Fn.PlainCycle.{Measures, is, falls, and}
@@ -141,7 +146,8 @@ moves-env t = (
 )
 
 abbrev moves-Inv-loop : moves-lts.InvT-loop
-moves-Inv-loop a words₀ game walk₀ s₀ best₀ local₀ words walk s best local = Turn a (stand words₀ walk₀ s₀ best₀ local₀) (stand words walk s best local)
+moves-Inv-loop a words₀ game walk₀ s₀ best₀ local₀ words walk s best local =
+    Turn a (stand words₀ walk₀ s₀ best₀ local₀) (stand words walk s best local)
 
 abbrev moves-μ-loop : moves-lts.MeasureT-loop
 moves-μ-loop a words₀ game walk₀ s₀ best₀ local₀ words walk s best local = length (order-left (a .game) walk)
@@ -151,7 +157,8 @@ module _ (t : ℕ) where
   abbrev Minimax : (minimax-lts.Claims → In 1 minimax-kinds.ps → Out 1 minimax-kinds.ps minimax-kinds.r → Type 0) → Type 0
   Minimax place = place (minimax-env t) (minimax-at t) minimax.Post
 
-  abbrev Moves : (moves-lts.Claims → In 1 moves-kinds.ps → Out 1 moves-kinds.ps moves-kinds.r → moves-lts.InvT-loop → moves-lts.MeasureT-loop → Type 0) → Type 0
+  abbrev Moves : (moves-lts.Claims → In 1 moves-kinds.ps → Out 1 moves-kinds.ps moves-kinds.r → moves-lts.InvT-loop →
+      moves-lts.MeasureT-loop → Type 0) → Type 0
   Moves place = place (moves-env t) (moves-at t) moves.Post moves-Inv-loop moves-μ-loop
 
   -- ---- the search of a position: entered, no leaf, and what the table has
@@ -189,12 +196,22 @@ module _ (t : ℕ) where
     told-suffices = c .suffices .ensures;
   }
 
-  abbrev goes : (c : Minimax minimax-lts.At-match-came) → Goes (entering (c .before .before .before .before .before .before .before .before)) (c .match .first) (c .match .s)
+  abbrev goes : (c : Minimax minimax-lts.At-match-came) →
+      Goes (entering (c .before .before .before .before .before .before .before .before)) (c .match .first) (c .match .s)
   goes c =
       let none = c .before .before .before .before .none in
       ⊎-elim
       (λ w. goes-on (w .3) (w .2) (none-goes (looked (c .before)) (w .1 .given .1) (none .result) (none .ensures)))
-      (λ w. goes-on (w .8) (w .7) (some-goes {k = looked (c .before)} (record { entry = _; is-held = w .1 .given .1; s₂ = w .3 .result; was-hit = w .3 .ensures; b = w .4 .result; told-suffices = w .4 .ensures }) (w .5 .left) _ refl))
+      (λ w. goes-on (w .8) (w .7)
+      (some-goes {k = looked (c .before)}
+      (record {
+        entry = _;
+        is-held = w .1 .given .1;
+        s₂ = w .3 .result;
+        was-hit = w .3 .ensures;
+        b = w .4 .result;
+        told-suffices = w .4 .ensures;
+      }) (w .5 .left) _ refl))
       (c .match .came)
 
   minimax-stop-requires : Minimax minimax-lts.Need-stop-requires
@@ -202,10 +219,13 @@ module _ (t : ℕ) where
 
   minimax-returns : Minimax minimax-lts.Need-returns
   minimax-returns c = let start = c .before .before .before .before .before in
-      stop-gives (start .args .a) (start .args .state) (start .args .pv) (now (start .args .words)) (c .stop .result) (c .before .if1 .taken) (c .stop .ensures)
+      stop-gives (start .args .a) (start .args .state) (start .args .pv) (now (start .args .words)) (c .stop .result)
+      (c .before .if1 .taken) (c .stop .ensures)
 
   minimax-enter-requires : Minimax minimax-lts.Need-enter-requires
-  minimax-enter-requires c κs = let start = c .before .before .before .before in may-enter (start .args .a) (start .args .state) (start .pre .1 .0) (start .pre .1 .1) (c .if1 .left)
+  minimax-enter-requires c κs =
+      let start = c .before .before .before .before in may-enter (start .args .a) (start .args .state) (start .pre .1 .0)
+      (start .pre .1 .1) (c .if1 .left)
 
   minimax-is-leaf-requires : Minimax minimax-lts.Need-is-leaf-requires
   minimax-is-leaf-requires c κs = tt
@@ -220,7 +240,8 @@ module _ (t : ℕ) where
   minimax-returns-2 c =
       let e = entering (c .before .before .before .before) in
       let told = c .before .before .before in
-      leaf-gives (e .a) (e .s) (e .l) (e .words) (e .more) (e .s₁) (e .entered) (c .before .leaf .result) (c .before .leaf .ensures) (told .is-leaf .result) (told .is-leaf .ensures) (c .before .before .if2 .taken) (c .evaluated .result) (c .evaluated .ensures)
+      leaf-gives (e .a) (e .s) (e .l) (e .words) (e .more) (e .s₁) (e .entered) (c .before .leaf .result) (c .before .leaf .ensures)
+      (told .is-leaf .result) (told .is-leaf .ensures) (c .before .before .if2 .taken) (c .evaluated .result) (c .evaluated .ensures)
 
   minimax-none-requires : Minimax minimax-lts.Need-none-requires
   minimax-none-requires c κs = tt
@@ -244,7 +265,9 @@ module _ (t : ℕ) where
   minimax-suffices-requires c κs = tt
 
   minimax-suffice-requires : Minimax minimax-lts.Need-suffice-requires
-  minimax-suffice-requires c κs = may-suffice (entering (c .before .before .before .before .before .before .before .before .before .before .before .before .before)) (c .before .before .hit .result) (c .before .before .hit .ensures [])
+  minimax-suffice-requires c κs =
+      may-suffice (entering (c .before .before .before .before .before .before .before .before .before .before .before .before .before))
+      (c .before .before .hit .result) (c .before .before .hit .ensures [])
 
   minimax-known-requires : Minimax minimax-lts.Need-known-requires
   minimax-known-requires c κs = tt
@@ -253,7 +276,9 @@ module _ (t : ℕ) where
   minimax-same-length c = refl
 
   minimax-returns-3 : Minimax minimax-lts.Need-returns-3
-  minimax-returns-3 c = known-gives (knows (c .before .before .before)) (c .before .before .if3 .taken) (c .before .suffice .result) (c .before .suffice .ensures) (c .known .result) (c .known .ensures)
+  minimax-returns-3 c =
+      known-gives (knows (c .before .before .before)) (c .before .before .if3 .taken) (c .before .suffice .result)
+      (c .before .suffice .ensures) (c .known .result) (c .known .ensures)
 
   minimax-moves-requires : Minimax minimax-lts.Need-moves-requires
   minimax-moves-requires c κs =
@@ -266,7 +291,8 @@ module _ (t : ℕ) where
       (goes came .ready .deep, entering (came .before .before .before .before .before .before .before .before) .asked .deep)
 
   minimax-same-length-2 : Minimax minimax-lts.Need-same-length-2
-  minimax-same-length-2 c = c .before .before .store .kept .1 .1 .0 ∙ c .before .before .before .before .before .before .moves .kept .1 .1 .1 .1 .0
+  minimax-same-length-2 c =
+      c .before .before .store .kept .1 .1 .0 ∙ c .before .before .before .before .before .before .moves .kept .1 .1 .1 .1 .0
 
   minimax-returns-4 : Minimax minimax-lts.Need-returns-4
   minimax-returns-4 c =
@@ -280,7 +306,9 @@ module _ (t : ℕ) where
     a = start .args .a;
     first = start .args .first;
     pv = start .args .pv;
-    from = stand (now (start .args .words)) (c .before .before .order .result) (start .args .state) (c .before .best .result) (c .empty .result);
+    from =
+        stand (now (start .args .words)) (c .before .before .order .result) (start .args .state) (c .before .best .result)
+        (c .empty .result);
     three = simp length-map at (start .good .0 .1 .1 .0 .1 .1 .1 .1 .0 .1 .1 .0 .1 .0 .1);
     asked = start .pre .1 .0;
     ready = start .pre .1 .1;
@@ -290,7 +318,12 @@ module _ (t : ℕ) where
   }
 
   abbrev held : Moves moves-lts.At-loop → Held
-  held c = record { begun = begun (c .before); at = stand (c .loop .words) (c .loop .order) (c .loop .s) (c .loop .best) (c .loop .local); turn = c .loop .inv }
+  held c =
+      record {
+        begun = begun (c .before);
+        at = stand (c .loop .words) (c .loop .order) (c .loop .s) (c .loop .best) (c .loop .local);
+        turn = c .loop .inv;
+      }
 
   abbrev met : (c : Moves moves-lts.After-below) → Met (held (c .before .before .before .before .before .before))
   met c = record {
@@ -302,7 +335,8 @@ module _ (t : ℕ) where
   }
 
   -- by the search of the position, stopped or not
-  abbrev searched-below : {b : Bool} (c : Moves moves-lts.After-slice-known2) → c .before .before .minimax .result .stopped ≡ b → Brought (met (c .before .before .before .before .before .before)) b
+  abbrev searched-below : {b : Bool} (c : Moves moves-lts.After-slice-known2) → c .before .before .minimax .result .stopped ≡ b →
+      Brought (met (c .before .before .before .before .before .before)) b
   searched-below c e = let below = c .before .before .minimax in record {
     r = below .result;
     words = below .last .1 .1 .1 .0;
@@ -316,7 +350,8 @@ module _ (t : ℕ) where
   stopped-below c = record {
     r = c .stop .result;
     words = _;
-    gives = stop-below (met (c .before .before .before .before .before .before)) (c .before .if3 .taken) (c .stop .result) (c .stop .ensures);
+    gives =
+        stop-below (met (c .before .before .before .before .before .before)) (c .before .if3 .taken) (c .stop .result) (c .stop .ensures);
     long = refl;
     is-stopped = ap (λ (f : NodeResult). f .stopped) (c .stop .ensures);
   }
@@ -329,16 +364,26 @@ module _ (t : ℕ) where
         r = record { state = c .if2 .s; pv = c .if2 .local; score = toZ w64 (c .if2 .score); stopped = false };
         words = c .if2 .words;
         gives = ⊎-elim
-            (λ w. by-parts _ _ refl (leaf-below m (w .3 .left) (w .4 .result) (w .4 .ensures) (w .5 .result) (w .5 .ensures) (c .before .is-leaf .result) (c .before .is-leaf .ensures) (w .0 .taken) _ (result (w .6 .ok) (w .6 .ensures)))
+            (λ w. by-parts _ _ refl (leaf-below m (w .3 .left) (w .4 .result) (w .4 .ensures) (w .5 .result) (w .5 .ensures)
+            (c .before .is-leaf .result) (c .before .is-leaf .ensures) (w .0 .taken) _ (result (w .6 .ok) (w .6 .ensures)))
             (w .8) (w .9) (ap (toZ w64) (w .10)) (w .7))
-            (λ w. by-parts (w .2 .result) (w .2 .last .1 .1 .1 .0) (w .5 .left) (w .2 .ensures) (w .10) (w .11) (ap (toZ w64) (w .12) ∙ told (w .2 .result .score) (w .8 .given .1 .1 .0 .1)) (w .9))
+            (λ w. by-parts (w .2 .result) (w .2 .last .1 .1 .1 .0) (w .5 .left) (w .2 .ensures) (w .10) (w .11)
+            (ap (toZ w64) (w .12) ∙ told (w .2 .result .score) (w .8 .given .1 .1 .0 .1)) (w .9))
             (c .if2 .came);
-        long = ⊎-elim {C = length (c .if2 .words) ≡ length (c .before .before .before .before .before .before .before .before .loop .words)} (λ w. ap length (w .7)) (λ w. ap length (w .9) ∙ w .2 .kept .1 .1 .1 .0) (c .if2 .came);
+        long =
+            ⊎-elim {C = length (c .if2 .words)
+            ≡ length (c .before .before .before .before .before .before .before .before .loop .words)} (λ w. ap length (w .7))
+            (λ w. ap length (w .9) ∙ w .2 .kept .1 .1 .1 .0) (c .if2 .came);
         is-stopped = refl;
       }
 
   abbrev raised : (c : Moves moves-lts.After-raise) → Raised (whole (c .before .before .before))
-  raised c = record { best = c .raise .result; better = sym (c .before .before .is-below .ensures) ∙ c .before .if5 .taken; raises = c .raise .ensures }
+  raised c =
+      record {
+        best = c .raise .result;
+        better = sym (c .before .before .is-below .ensures) ∙ c .before .if5 .taken;
+        raises = c .raise .ensures;
+      }
 
   moves-order-requires : Moves moves-lts.Need-order-requires
   moves-order-requires c κs = (c .before .before .pre .1 .1 .deep, c .before .before .pre .1 .0 .deep)
@@ -365,10 +410,13 @@ module _ (t : ℕ) where
   moves-same-length c = c .before .before .before .before .before .loop .inv .long
 
   moves-returns : Moves moves-lts.Need-returns
-  moves-returns c = turn-done (held (c .before .before .before .before .before)) (c .before .before .before .before .next .ensures) (sym (c .before .before .is-none .ensures) ∙ c .before .if1 .taken) (c .of .ensures)
+  moves-returns c =
+      turn-done (held (c .before .before .before .before .before)) (c .before .before .before .before .next .ensures)
+      (sym (c .before .before .is-none .ensures) ∙ c .before .if1 .taken) (c .of .ensures)
 
   moves-below-requires : Moves moves-lts.Need-below-requires
-  moves-below-requires c κs = let h = held (c .before .before .before .before .before) in (h .begun .ready .deep, h .begun .asked .beta-within, h .turn .score)
+  moves-below-requires c κs =
+      let h = held (c .before .before .before .before .before) in (h .begun .ready .deep, h .begun .asked .beta-within, h .turn .score)
 
   moves-is-leaf-requires : Moves moves-lts.Need-is-leaf-requires
   moves-is-leaf-requires c κs = tt
@@ -386,13 +434,22 @@ module _ (t : ℕ) where
   moves-enter-requires c κs = may-count (met (c .before .before .before .before .before)) (c .if3 .left)
 
   moves-leaf-requires : Moves moves-lts.Need-leaf-requires
-  moves-leaf-requires c κs = may-tell-leaf (met (c .before .before .before .before .before .before)) (c .before .if3 .left) (c .enter .result) (c .enter .ensures)
+  moves-leaf-requires c κs =
+      may-tell-leaf (met (c .before .before .before .before .before .before)) (c .before .if3 .left) (c .enter .result) (c .enter .ensures)
 
   moves-evaluate-requires : Moves moves-lts.Need-evaluate-requires
   moves-evaluate-requires c κs = under-asked (met (c .before .before .before .before .before .before .before)) .valued
 
   moves-minimax-requires : Moves moves-lts.Need-minimax-requires
-  moves-minimax-requires c κs = let m = met (c .before .before .before) in (omega (arith, under-lower m, c .before .before .before .before .before .before .before .before .before .before .before .before .before .before .before .pre .0), (under-asked m, under-counted m))
+  moves-minimax-requires c κs =
+      let m = met (c .before .before .before) in (
+        omega (
+          arith,
+          under-lower m,
+          c .before .before .before .before .before .before .before .before .before .before .before .before .before .before .before .pre .0,
+        ),
+        (under-asked m, under-counted m),
+      )
 
   moves-same-length-3 : Moves moves-lts.Need-same-length-3
   moves-same-length-3 c = words-long (searched-below (c .before) (c .if4 .taken))
@@ -419,7 +476,9 @@ module _ (t : ℕ) where
   moves-same-length-4 c = words-long (whole (c .before .before .before .before .before .before .before))
 
   moves-returns-4 : Moves moves-lts.Need-returns-4
-  moves-returns-4 c = turn-cut (raised (c .before .before .before .before)) (sym (c .before .before .before .is-cut .ensures) ∙ c .before .before .if6 .taken) (c .before .cut .ensures) (c .of2 .ensures)
+  moves-returns-4 c =
+      turn-cut (raised (c .before .before .before .before)) (sym (c .before .before .before .is-cut .ensures)
+      ∙ c .before .before .if6 .taken) (c .before .cut .ensures) (c .of2 .ensures)
 
   moves-loop-less : Moves moves-lts.Need-loop-less
   moves-loop-less c = walk-shorter (whole (c .before .before .before .before .before))

@@ -11,7 +11,11 @@ new-requires : tie.Need-new-requires
 new-requires c κs = search needs
 
 returns : tie.Need-returns
-returns c = (new-order (c .before .before .args .game) (c .before .before .args .first) (c .before .before .args .second) _ (c .before .all-moves .ensures), c .new .ensures)
+returns c = (
+  new-order (c .before .before .args .game) (c .before .before .args .first) (c .before .before .args .second) _
+      (c .before .all-moves .ensures),
+  c .new .ensures,
+)
 
 pub new-spec : {M : Type 1} → statement M
 new-spec = tie.close (tie.spec all-moves-requires new-requires returns)

@@ -30,14 +30,17 @@ enum-told c = search needs
 has-requires : tie.Need-has-requires Inv-loop μ-loop
 has-requires c κs = search needs
 
-met : (c : tie.After-known-told Inv-loop μ-loop) → candidates-left (c .before .before .before .before .loop .left) ≡ c .before .m .given .0 .0 .bits ∷ candidates-left (c .before .m .given .0 .1 .0)
+met : (c : tie.After-known-told Inv-loop μ-loop) → candidates-left (c .before .before .before .before .loop .left)
+    ≡ c .before .m .given .0 .0 .bits ∷ candidates-left (c .before .m .given .0 .1 .0)
 met c = was-next _ _ (c .before .before .before .next .ensures) _ _ (c .before .m .given .1)
 
 loop-less : tie.Need-loop-less Inv-loop μ-loop
 loop-less c = shorter _ _ _ (met (c .before .before))
 
 loop-again : tie.Need-loop-again Inv-loop μ-loop
-loop-again c = repeated (c .before .before .before .before .before .before .before .before .before .args .game) _ _ _ _ (met (c .before .before)) _ (c .before .has .ensures) (c .if1 .taken) ∙ c .before .before .before .before .before .before .loop .inv
+loop-again c =
+    repeated (c .before .before .before .before .before .before .before .before .before .args .game) _ _ _ _ (met (c .before .before)) _
+    (c .before .has .ensures) (c .if1 .taken) ∙ c .before .before .before .before .before .before .loop .inv
 
 with-requires : tie.Need-with-requires Inv-loop μ-loop
 with-requires c κs = search needs
@@ -49,7 +52,13 @@ enum-told-2 : tie.Need-enum-told-2 Inv-loop μ-loop
 enum-told-2 c = search needs
 
 returns : tie.Need-returns Inv-loop μ-loop
-returns c = accepted _ _ _ _ _ (met (c .before .before .before .before .before .before .before)) _ (c .before .before .before .before .before .before .has .ensures) (c .before .before .before .before .before .if1 .left) _ (c .before .before .before .before .with .ensures) _ (c .before .before .before .make-move .ensures) (c .before .enum-told2 .given .1) _ (c .before .before .before .before .before .before .before .before .before .before .before .loop .inv)
+returns c =
+    let at-has = c .before .before .before .before .before .before in
+    let at-place = at-has .before in
+    let at-loop = at-place .before .before .before .before in
+    accepted _ _ _ _ _ (met (at-place)) _ (at-has .has .ensures) (c .before .before .before .before .before .if1 .left) _
+    (c .before .before .before .before .with .ensures) _ (c .before .before .before .make-move .ensures)
+    (c .before .enum-told2 .given .1) _ (at-loop .loop .inv)
 
 enum-told-3 : tie.Need-enum-told-3 Inv-loop μ-loop
 enum-told-3 c = search needs
@@ -58,13 +67,21 @@ loop-less-2 : tie.Need-loop-less-2 Inv-loop μ-loop
 loop-less-2 c = shorter _ _ _ (met (c .before .before .before .before .before .before))
 
 loop-again-2 : tie.Need-loop-again-2 Inv-loop μ-loop
-loop-again-2 c = refused _ _ _ _ _ (met (c .before .before .before .before .before .before)) _ (c .before .before .before .before .before .has .ensures) (c .before .before .before .before .if1 .left) _ (c .before .before .before .with .ensures) _ (c .before .before .make-move .ensures) _ (c .enum-told3 .given .1) ∙ c .before .before .before .before .before .before .before .before .before .before .loop .inv
+loop-again-2 c =
+    let at-place = c .before .before .before .before .before .before in
+    let at-loop = at-place .before .before .before .before in
+    refused _ _ _ _ _ (met (at-place)) _ (c .before .before .before .before .before .has .ensures)
+    (c .before .before .before .before .if1 .left) _ (c .before .before .before .with .ensures) _
+    (c .before .before .make-move .ensures) _ (c .enum-told3 .given .1) ∙ at-loop .loop .inv
 
 none-requires : tie.Need-none-requires Inv-loop μ-loop
 none-requires c κs = search needs
 
 returns-2 : tie.Need-returns-2 Inv-loop μ-loop
-returns-2 c = ended _ (c .before .before .before .before .loop .left) (c .before .before .before .before .loop .seen) _ (was-end _ _ (c .before .before .before .next .ensures) (c .before .enum-told .given .1)) (c .before .before .before .before .loop .inv) _ (c .none .ensures)
+returns-2 c =
+    ended _ (c .before .before .before .before .loop .left) (c .before .before .before .before .loop .seen) _
+    (was-end _ _ (c .before .before .before .next .ensures) (c .before .enum-told .given .1))
+    (c .before .before .before .before .loop .inv) _ (c .none .ensures)
 
 pub next-spec : {M : Type 1} → statement M
 next-spec =

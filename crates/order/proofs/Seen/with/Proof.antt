@@ -29,7 +29,9 @@ returns c =
     let s = start .args .self in
     let m = start .args .m .bits in
     let n : length (s .marks) ≡ 4 = simp length-map at (start .good .0 .1 .1 .0 .1 .0 .1) in
-    let e = c .with-word .ensures ∙ ap (λ (w : ℕ). record { marks = set (s .marks) (m / 64) (bitOr w (1 * 2 ^ (m % 64) % 18446744073709551616)) }) (c .before .word .ensures) in
+    let e = c .with-word .ensures
+    ∙ ap (λ (w : ℕ). record { marks = set (s .marks) (m / 64) (bitOr w (1 * 2 ^ (m % 64) % 18446744073709551616)) })
+    (c .before .word .ensures) in
     λ k. ap (λ (r : Seen). marked r k) e ∙ one-more s m (omega arith) k
 
 pub with-spec : {M : Type 1} → statement M

@@ -20,7 +20,8 @@ draw-letter-requires c κs = search needs
 
 returns-2 : tie.Need-returns-2
 unfolding draw-of if_then_else_
-returns-2 c = rw (eq-eqb (length (now (c .before .before .before .before .args .text))) 1 (c .before .before .if1 .left)) (c .draw-letter .ensures)
+returns-2 c =
+    rw (eq-eqb (length (now (c .before .before .before .before .args .text))) 1 (c .before .before .if1 .left)) (c .draw-letter .ensures)
 
 pub draw-of-spec : {M : Type 1} → statement M
 draw-of-spec =

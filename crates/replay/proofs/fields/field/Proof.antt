@@ -30,7 +30,9 @@ loop-less : tie.Need-loop-less Inv-loop μ-loop
 loop-less c = search needs
 
 loop-again : tie.Need-loop-again Inv-loop μ-loop
-loop-again c = let l = c .before .before .loop in (rw (c .next-field .ensures .0) (sym (field-next (l .left) _ (c .before .loop-test .taken)) ∙ l .inv .0), c .next-field .ensures .1)
+loop-again c =
+    let l = c .before .before .loop in
+    (rw (c .next-field .ensures .0) (sym (field-next (l .left) _ (c .before .loop-test .taken)) ∙ l .inv .0), c .next-field .ensures .1)
 
 end-of-field-requires : tie.Need-end-of-field-requires Inv-loop μ-loop
 end-of-field-requires c κs = search needs
@@ -49,7 +51,8 @@ returns c =
     let line = now (c .before .before .before .before .before .args .line) in
     let l = c .before .before .before .loop in
     let z : l .left ≡ 0 = omega arith in
-    until-at line (l .at) _ (c .before .end-of-field .ensures .0) ∙ sym (field-zero (drop (l .at) line)) ∙ ap {B = List ℕ} (λ n. field n (drop (l .at) line)) (sym z) ∙ l .inv .0
+    until-at line (l .at) _ (c .before .end-of-field .ensures .0) ∙ sym (field-zero (drop (l .at) line))
+    ∙ ap {B = List ℕ} (λ n. field n (drop (l .at) line)) (sym z) ∙ l .inv .0
 
 pub field-spec : {M : Type 1} → statement M
 field-spec =

@@ -13,10 +13,15 @@ add-result : tie.Need-add-result
 add-result c = search needs
 
 returns : tie.Need-returns
-returns c = let a = c .before .before .before .args in (past-at (now (a .line)) (a .at) _ (c .before .end-of-field .ensures .0), omega arith)
+returns c =
+    let a = c .before .before .before .args in (past-at (now (a .line)) (a .at) _ (c .before .end-of-field .ensures .0), omega arith)
 
 returns-2 : tie.Need-returns-2
-returns-2 c = let a = c .before .before .before .args in (past-end (now (a .line)) (a .at) _ (c .before .end-of-field .ensures .0) (c .if1 .left), c .before .end-of-field .ensures .1)
+returns-2 c =
+    let a = c .before .before .before .args in (
+      past-end (now (a .line)) (a .at) _ (c .before .end-of-field .ensures .0) (c .if1 .left),
+      c .before .end-of-field .ensures .1,
+    )
 
 pub next-field-spec : {M : Type 1} → statement M
 next-field-spec = tie.close (tie.spec end-of-field-requires add-result returns returns-2)

@@ -36,7 +36,24 @@ loop-less c = search needs
 loop-again : tie.Need-loop-again Inv-loop μ-loop
 loop-again c =
     let l = c .before .before .before .loop in
-    ⊎-elim (λ w. (omega (arith, tab-here (now (c .before .before .before .before .args .line)) (l .i) (c .before .before .loop-test .taken) (w .0 .taken)), omega arith, omega arith)) (λ w. (omega (arith, tab-more (now (c .before .before .before .before .args .line)) (l .i) (c .before .before .loop-test .taken) (w .0 .left)), omega arith, omega arith)) (c .if1 .came)
+    ⊎-elim (λ w. (
+      omega (
+        arith,
+        tab-here (now (c .before .before .before .before .args .line)) (l .i)
+            (c .before .before .loop-test .taken) (w .0 .taken),
+      ),
+      omega arith,
+      omega arith,
+    ))
+    (λ w. (
+      omega (
+        arith,
+        tab-more (now (c .before .before .before .before .args .line)) (l .i) (c .before .before .loop-test .taken)
+            (w .0 .left),
+      ),
+      omega arith,
+      omega arith,
+    )) (c .if1 .came)
 
 returns : tie.Need-returns Inv-loop μ-loop
 returns c = let l = c .before .loop in omega (arith, tab-end (now (c .before .before .args .line)) (l .i) (c .loop-test .left))

@@ -7,7 +7,8 @@ use Rattle.replay_search.proofs.chain.replayed.Statement.{statement}
 use Rattle.replay_search.proofs.chain.replayed.Tie as tie
 
 abbrev Inv-loop : tie.InvT-loop
-Inv-loop line count config table₀ draw-winner state₀ apart₀ k₀ table state apart k = (k ≤ count) × (length table ≡ length table₀)
+Inv-loop line count config table₀ draw-winner state₀ apart₀ k₀ table state apart k =
+    (k ≤ count) × (length table ≡ length table₀)
 
 abbrev μ-loop : tie.MeasureT-loop
 μ-loop line count config table₀ draw-winner state₀ apart₀ k₀ table state apart k = count - k

@@ -15,10 +15,14 @@ enum-told-2 : tie.Need-enum-told-2
 enum-told-2 c = search needs
 
 returns : tie.Need-returns
-returns c = lowest-bit-test _ ∙ sym (ap (λ (w : Player). allows (set-of (c .before .before .before .args .self)) w) (c .before .enum-told .given .1))
+returns c =
+    lowest-bit-test _ ∙ sym (ap (λ (w : Player). allows (set-of (c .before .before .before .args .self)) w)
+    (c .before .enum-told .given .1))
 
 returns-2 : tie.Need-returns-2
-returns-2 c = next-bit-test _ ∙ sym (ap (λ (w : Player). allows (set-of (c .before .before .before .args .self)) w) (c .before .enum-told2 .given .1))
+returns-2 c =
+    next-bit-test _ ∙ sym (ap (λ (w : Player). allows (set-of (c .before .before .before .args .self)) w)
+    (c .before .enum-told2 .given .1))
 
 pub is-winnable-spec : {M : Type 1} → statement M
 is-winnable-spec = tie.close (tie.spec enum-told enum-told-2 returns returns-2)

@@ -38,10 +38,14 @@ shr-if3 : tie.Need-shr-if3
 shr-if3 c = search needs
 
 returns-3 : tie.Need-returns-3
-returns-3 c = reads-o _ _ _ _ (three (c .before .before .before .before .before .before)) (omega arith) (c .before .before .before .before .row .ensures) (c .before .before .if2 .left) (c .if3 .taken)
+returns-3 c =
+    reads-o _ _ _ _ (three (c .before .before .before .before .before .before)) (omega arith)
+    (c .before .before .before .before .row .ensures) (c .before .before .if2 .left) (c .if3 .taken)
 
 returns-4 : tie.Need-returns-4
-returns-4 c = reads-none _ _ _ _ (three (c .before .before .before .before .before .before)) (omega arith) (c .before .before .before .before .row .ensures) (c .before .before .if2 .left) (c .if3 .left)
+returns-4 c =
+    reads-none _ _ _ _ (three (c .before .before .before .before .before .before)) (omega arith)
+    (c .before .before .before .before .row .ensures) (c .before .before .if2 .left) (c .if3 .left)
 
 pub at-spec : {M : Type 1} → statement M
 at-spec =

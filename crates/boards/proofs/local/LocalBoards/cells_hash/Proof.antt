@@ -14,7 +14,9 @@ use Rattle.boards.proofs.local.LocalBoards.cells_hash.Statement.{statem
 use Rattle.boards.proofs.local.LocalBoards.cells_hash.Tie as tie
 
 abbrev Inv-loop : tie.InvT-loop
-Inv-loop self global hash₀ i₀ hash i = (i ≤ 9) × (bitXor hash (xors (λ k. cell-key global k (cell-at self global k)) (drop i nine)) ≡ cells-hash global (cell-at self global))
+Inv-loop self global hash₀ i₀ hash i =
+    (i ≤ 9) × (bitXor hash (xors (λ k. cell-key global k (cell-at self global k)) (drop i nine))
+    ≡ cells-hash global (cell-at self global))
 
 abbrev μ-loop : tie.MeasureT-loop
 μ-loop self global hash₀ i₀ hash i = 9 - i
@@ -42,12 +44,14 @@ loop-again c =
     let h = c .before .before .loop-test .taken in (
       search needs,
       one-more (λ k. cell-key (a .global) k (cell-at (a .self) (a .global) k)) (l .i) h (l .hash) (c .for-cell .result) _
-          (c .for-cell .ensures ∙ ap (cell-key-in (a .global) (l .i)) (c .before .at .ensures) ∙ key-of-cell (a .self) (a .global) (l .i) h) (l .inv .1),
+          (c .for-cell .ensures ∙ ap (cell-key-in (a .global) (l .i)) (c .before .at .ensures)
+          ∙ key-of-cell (a .self) (a .global) (l .i) h) (l .inv .1),
     )
 
 returns : tie.Need-returns Inv-loop μ-loop
 unfolding xors
-returns c = let e : c .before .loop .i ≡ 9 = omega arith in sym (xor-zero-r (c .before .loop .hash)) ∙ (rw e at (c .before .loop .inv .1))
+returns c =
+    let e : c .before .loop .i ≡ 9 = omega arith in sym (xor-zero-r (c .before .loop .hash)) ∙ (rw e at (c .before .loop .inv .1))
 
 pub cells-hash-spec : {M : Type 1} → statement M
 cells-hash-spec =

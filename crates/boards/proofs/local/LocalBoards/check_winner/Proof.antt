@@ -18,10 +18,14 @@ mask-requires : tie.Need-mask-requires
 mask-requires c κs = search needs
 
 returns-2 : tie.Need-returns-2
-returns-2 c = is-drawn _ _ _ (line-known _ _ _ _ (c .before .before .before .before .playerbits .ensures) (c .before .before .before .has-line .ensures) (c .before .before .if1 .left)) (sym (c .before .mask .ensures) ∙ c .if2 .taken)
+returns-2 c =
+    is-drawn _ _ _ (line-known _ _ _ _ (c .before .before .before .before .playerbits .ensures)
+    (c .before .before .before .has-line .ensures) (c .before .before .if1 .left)) (sym (c .before .mask .ensures) ∙ c .if2 .taken)
 
 returns-3 : tie.Need-returns-3
-returns-3 c = is-open _ _ _ (line-known _ _ _ _ (c .before .before .before .before .playerbits .ensures) (c .before .before .before .has-line .ensures) (c .before .before .if1 .left)) (λ e. c .if2 .left (c .before .mask .ensures ∙ e))
+returns-3 c =
+    is-open _ _ _ (line-known _ _ _ _ (c .before .before .before .before .playerbits .ensures)
+    (c .before .before .before .has-line .ensures) (c .before .before .if1 .left)) (λ e. c .if2 .left (c .before .mask .ensures ∙ e))
 
 pub check-winner-spec : {M : Type 1} → statement M
 check-winner-spec =

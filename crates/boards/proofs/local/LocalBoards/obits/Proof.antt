@@ -21,7 +21,8 @@ shr-result c = search needs
 
 returns : tie.Need-returns
 returns c =
-    let n : length (c .before .before .before .args .self .rows) ≡ 3 = simp length-map at (c .before .before .before .good .0 .1 .1 .0 .1 .0 .1) in
+    let n : length (c .before .before .before .args .self .rows) ≡ 3 = simp length-map at
+    (c .before .before .before .good .0 .1 .1 .0 .1 .0 .1) in
     o-cells _ _ _ n (c .before .before .row .ensures) (omega arith)
 
 pub obits-spec : {M : Type 1} → statement M

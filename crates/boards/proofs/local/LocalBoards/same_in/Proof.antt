@@ -30,7 +30,11 @@ same-in-requires-2 : tie.Need-same-in-requires-2
 same-in-requires-2 c κs = search needs
 
 returns-2 : tie.Need-returns-2
-returns-2 c = rw (sym (c .before .before .before .before .same-in .ensures) ∙ not-false _ (c .before .before .before .if1 .left), sym (c .before .same-in2 .ensures) ∙ not-true _ (c .if2 .taken))
+returns-2 c =
+    rw (
+      sym (c .before .before .before .before .same-in .ensures) ∙ not-false _ (c .before .before .before .if1 .left),
+      sym (c .before .same-in2 .ensures) ∙ not-true _ (c .if2 .taken),
+    )
 
 element-copy-out-same-in-3 : tie.Need-element-copy-out-same-in-3
 element-copy-out-same-in-3 c = search needs
@@ -39,7 +43,12 @@ same-in-requires-3 : tie.Need-same-in-requires-3
 same-in-requires-3 c κs = search needs
 
 returns-3 : tie.Need-returns-3
-returns-3 c = rw (sym (c .before .before .before .before .before .before .same-in .ensures) ∙ not-false _ (c .before .before .before .before .before .if1 .left), sym (c .before .before .before .same-in2 .ensures) ∙ not-false _ (c .before .before .if2 .left)) (c .same-in3 .ensures)
+returns-3 c =
+    rw (
+      sym (c .before .before .before .before .before .before .same-in .ensures)
+          ∙ not-false _ (c .before .before .before .before .before .if1 .left),
+      sym (c .before .before .before .same-in2 .ensures) ∙ not-false _ (c .before .before .if2 .left),
+    ) (c .same-in3 .ensures)
 
 pub same-in-spec : {M : Type 1} → statement M
 same-in-spec =

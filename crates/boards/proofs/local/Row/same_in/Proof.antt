@@ -9,7 +9,10 @@ row-cells-requires : tie.Need-row-cells-requires
 row-cells-requires c κs = search needs
 
 returns : tie.Need-returns
-returns c = same-row (c .before .before .before .before .before .before .before .args .self) (c .before .before .before .before .before .before .before .args .rhs) _ _ (omega arith) (omega arith) (c .before .before .before .before .before .before .row-cells .ensures)
+returns c =
+    same-row (c .before .before .before .before .before .before .before .args .self)
+    (c .before .before .before .before .before .before .before .args .rhs) _ _ (omega arith) (omega arith)
+    (c .before .before .before .before .before .before .row-cells .ensures)
 
 pub same-in-spec : {M : Type 1} → statement M
 same-in-spec = tie.close (tie.spec row-cells-requires returns)

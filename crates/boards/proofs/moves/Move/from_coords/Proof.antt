@@ -15,7 +15,9 @@ returns c = record { number = rw (le-ltb _ 9 (c .if1 .taken)); built = rw (le-lt
 
 returns-2 : tie.Need-returns-2
 unfolding range-refusal if_then_else_
-returns-2 c = let e = le-ltb _ 9 (c .if2 .taken) in let f = and-false (ltb (c .before .before .args .global) 9) in record { number = rw (e, f); built = rw (e, f) }
+returns-2 c =
+    let e = le-ltb _ 9 (c .if2 .taken) in let f = and-false (ltb (c .before .before .args .global) 9) in
+    record { number = rw (e, f); built = rw (e, f) }
 
 mul-t11 : tie.Need-mul-t11
 mul-t11 c = search needs
@@ -28,7 +30,9 @@ cast-t13 c = search needs
 
 returns-3 : tie.Need-returns-3
 unfolding range-refusal if_then_else_
-returns-3 c = let d = lt-ltb (c .before .before .args .global) 9 (omega arith) in let e = lt-ltb (c .before .before .args .local) 9 (omega arith) in record { number = rw (d, e); built = rw (d, e) }
+returns-3 c =
+    let d = lt-ltb (c .before .before .args .global) 9 (omega arith) in let e = lt-ltb (c .before .before .args .local) 9 (omega arith) in
+    record { number = rw (d, e); built = rw (d, e) }
 
 pub from-coords-spec : {M : Type 1} → statement M
 from-coords-spec = tie.close (tie.spec returns returns-2 mul-t11 add-t12 cast-t13 returns-3)

@@ -18,19 +18,25 @@ without-lowest-requires-2 : tie.Need-without-lowest-requires-2
 without-lowest-requires-2 c κs = search needs
 
 move-at-requires-2 : tie.Need-move-at-requires-2
-move-at-requires-2 c κs = (lit< tt, lowest-place (c .before .before .before .before .before .before .args .self .middle) (c .before .if2 .taken))
+move-at-requires-2 c κs =
+    (lit< tt, lowest-place (c .before .before .before .before .before .before .args .self .middle) (c .before .if2 .taken))
 
 returns-2 : tie.Need-returns-2
-returns-2 c = next-middle _ _ _ (c .before .before .before .if1 .left) (c .before .before .if2 .taken) (c .before .without-lowest2 .ensures) (c .move-at2 .ensures)
+returns-2 c =
+    next-middle _ _ _ (c .before .before .before .if1 .left) (c .before .before .if2 .taken) (c .before .without-lowest2 .ensures)
+    (c .move-at2 .ensures)
 
 without-lowest-requires-3 : tie.Need-without-lowest-requires-3
 without-lowest-requires-3 c κs = search needs
 
 move-at-requires-3 : tie.Need-move-at-requires-3
-move-at-requires-3 c κs = (lit< tt, lowest-place (c .before .before .before .before .before .before .before .args .self .bottom) (c .before .if3 .taken))
+move-at-requires-3 c κs =
+    (lit< tt, lowest-place (c .before .before .before .before .before .before .before .args .self .bottom) (c .before .if3 .taken))
 
 returns-3 : tie.Need-returns-3
-returns-3 c = next-bottom _ _ _ (c .before .before .before .before .if1 .left) (c .before .before .before .if2 .left) (c .before .before .if3 .taken) (c .before .without-lowest3 .ensures) (c .move-at3 .ensures)
+returns-3 c =
+    next-bottom _ _ _ (c .before .before .before .before .if1 .left) (c .before .before .before .if2 .left) (c .before .before .if3 .taken)
+    (c .before .without-lowest3 .ensures) (c .move-at3 .ensures)
 
 returns-4 : tie.Need-returns-4
 returns-4 c = next-none _ (c .before .before .if1 .left) (c .before .if2 .left) (c .if3 .left)

@@ -23,7 +23,9 @@ shr-result : tie.Need-shr-result
 shr-result c = search needs
 
 returns-2 : tie.Need-returns-2
-returns-2 c = digit-clear _ _ ∙ ap not (ap (λ (n : ℕ). bit n (c .before .before .args .board)) (c .donebits .ensures) ∙ bit-digits _ 9 _ (omega arith)) ∙ Bool·not-not _
+returns-2 c =
+    digit-clear _ _ ∙ ap not (ap (λ (n : ℕ). bit n (c .before .before .args .board)) (c .donebits .ensures)
+    ∙ bit-digits _ 9 _ (omega arith)) ∙ Bool·not-not _
 
 pub in-play-spec : {M : Type 1} → statement M
 in-play-spec = tie.close (tie.spec returns donebits-requires cast-result shr-result returns-2)

@@ -36,13 +36,19 @@ returns-2 : tie.Need-returns-2
 returns-2 c = with-state-as _ _ _ _ _ (omega arith) (c .enum-told .given .1) refl
 
 returns-3 : tie.Need-returns-3
-returns-3 c = with-state-as _ _ _ _ _ (omega arith) (c .before .before .enum-told2 .given .1) (rw (shl-one 16 (c .before .before .before .before .before .args .board) (omega arith)))
+returns-3 c =
+    with-state-as _ _ _ _ _ (omega arith) (c .before .before .enum-told2 .given .1)
+    (rw (shl-one 16 (c .before .before .before .before .before .args .board) (omega arith)))
 
 returns-4 : tie.Need-returns-4
-returns-4 c = with-state-as _ _ _ _ _ (omega arith) (c .before .before .before .before .state .given .1 ∙ ap Won (c .before .enum-told3 .given .1)) (rw (shl-one 16 (c .before .before .before .before .before .before .before .args .board) (omega arith)))
+returns-4 c =
+    with-state-as _ _ _ _ _ (omega arith) (c .before .before .before .before .state .given .1 ∙ ap Won (c .before .enum-told3 .given .1))
+    (rw (shl-one 16 (c .before .before .before .before .before .before .before .args .board) (omega arith)))
 
 returns-5 : tie.Need-returns-5
-returns-5 c = with-state-as _ _ _ _ _ (omega arith) (c .before .before .before .before .state .given .1 ∙ ap Won (c .before .enum-told4 .given .1)) (rw (shl-one 16 (c .before .before .before .before .before .before .before .args .board) (omega arith)))
+returns-5 c =
+    with-state-as _ _ _ _ _ (omega arith) (c .before .before .before .before .state .given .1 ∙ ap Won (c .before .enum-told4 .given .1))
+    (rw (shl-one 16 (c .before .before .before .before .before .before .before .args .board) (omega arith)))
 
 pub set-spec : {M : Type 1} → statement M
 set-spec =

@@ -10,13 +10,16 @@ longer-requires : tie.Need-longer-requires
 longer-requires c κs = search needs
 
 returns : tie.Need-returns
-returns c = let a = c .before .before .before .args in goes-on (a .self) (a .b) (now (a .words)) _ (c .before .if1 .taken) (c .longer .ensures)
+returns c =
+    let a = c .before .before .before .args in goes-on (a .self) (a .b) (now (a .words)) _ (c .before .if1 .taken) (c .longer .ensures)
 
 spoilt-requires : tie.Need-spoilt-requires
 spoilt-requires c κs = search needs
 
 returns-2 : tie.Need-returns-2
-returns-2 c = let a = c .before .before .before .before .before .args in nothing (a .self) (a .b) (now (a .words)) _ (c .before .before .before .if1 .left) (not-true _ (c .before .if2 .taken)) (c .spoilt .ensures)
+returns-2 c =
+    let a = c .before .before .before .before .before .args in nothing (a .self) (a .b) (now (a .words)) _
+    (c .before .before .before .if1 .left) (not-true _ (c .before .if2 .taken)) (c .spoilt .ensures)
 
 mul-words : tie.Need-mul-words
 mul-words c = search needs
@@ -31,13 +34,17 @@ same-length : tie.Need-same-length
 same-length c = search needs
 
 returns-3 : tie.Need-returns-3
-returns-3 c = let a = c .before .before .before .before .before .args in room (a .self) (a .b) (now (a .words)) (c .before .before .before .if1 .left) (not-false _ (c .before .if2 .left)) (c .if3 .taken)
+returns-3 c =
+    let a = c .before .before .before .before .before .args in room (a .self) (a .b) (now (a .words))
+    (c .before .before .before .if1 .left) (not-false _ (c .before .if2 .left)) (c .if3 .taken)
 
 spoilt-requires-2 : tie.Need-spoilt-requires-2
 spoilt-requires-2 c κs = search needs
 
 returns-4 : tie.Need-returns-4
-returns-4 c = let a = c .before .before .before .before .before .before .args in no-room (a .self) (a .b) (now (a .words)) _ (c .before .before .before .before .if1 .left) (not-false _ (c .before .before .if2 .left)) (c .before .if3 .left) (c .spoilt2 .ensures)
+returns-4 c =
+    let a = c .before .before .before .before .before .before .args in no-room (a .self) (a .b) (now (a .words)) _
+    (c .before .before .before .before .if1 .left) (not-false _ (c .before .before .if2 .left)) (c .before .if3 .left) (c .spoilt2 .ensures)
 
 pub push-spec : {M : Type 1} → statement M
 push-spec =

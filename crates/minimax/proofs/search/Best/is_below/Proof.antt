@@ -9,7 +9,8 @@ sub-result : tie.Need-sub-result
 sub-result c = minus-fits _ (c .pre)
 
 returns : tie.Need-returns
-returns c = ap₂ ltZ (told (c .before .before .args .self .score) (c .struct-told .given .1 .0 .1)) (minus-reads _ (c .before .before .pre))
+returns c =
+    ap₂ ltZ (told (c .before .before .args .self .score) (c .struct-told .given .1 .0 .1)) (minus-reads _ (c .before .before .pre))
 
 pub is-below-spec : {M : Type 1} → statement M
 is-below-spec = tie.close (tie.spec sub-result returns)

@@ -32,8 +32,18 @@ returns c =
     let child = start .args .child in
     let x = minus-reads _ (start .pre .1) in
     let y = minus-reads _ (start .pre .2) in
-    let v = called .after .ensures ∙ ap (λ (b : ℕ). set (a .values .boards) b (board-value (position-of (child .game)) b)) (called .before .global .ensures) in
-    λ i. record { game = child .game; depth = a .depth - 1; alpha = x i; beta = y i; prev = child .m; «draw_winner» = a .«draw_winner»; allowance = a .allowance; values = record { boards = v i } }
+    let v = called .after .ensures ∙ ap (λ (b : ℕ). set (a .values .boards) b (board-value (position-of (child .game)) b))
+    (called .before .global .ensures) in
+    λ i. record {
+      game = child .game;
+      depth = a .depth - 1;
+      alpha = x i;
+      beta = y i;
+      prev = child .m;
+      «draw_winner» = a .«draw_winner»;
+      allowance = a .allowance;
+      values = record { boards = v i };
+    }
 
 pub below-spec : {M : Type 1} → statement M
 below-spec = tie.close (tie.spec global-requires after-requires sub-t10 sub-t11 sub-t12 returns)

@@ -17,7 +17,8 @@ returns c =
     let s = c .before .before .before in
     let a = s .args .self in
     let sc = node-scoring a in
-    result (c .evaluate .ok) (c .evaluate .ensures) ∙ ap (evaluate-by sc (position-of (a .game))) (s .pre) ∙ by-values sc (position-of (a .game))
+    result (c .evaluate .ok) (c .evaluate .ensures) ∙ ap (evaluate-by sc (position-of (a .game))) (s .pre)
+    ∙ by-values sc (position-of (a .game))
 
 pub evaluate-spec : {M : Type 1} → statement M
 evaluate-spec = tie.close (tie.spec evaluate-requires returns)

@@ -11,7 +11,9 @@ evaluate-requires : tie.Need-evaluate-requires
 evaluate-requires c κs = search needs
 
 returns : tie.Need-returns
-returns c = ap (λ (z : ℤ). record { state = c .before .args .state; pv = c .before .args .pv; score = z; stopped = false }) (result (c .evaluate .ok) (c .evaluate .ensures))
+returns c =
+    ap (λ (z : ℤ). record { state = c .before .args .state; pv = c .before .args .pv; score = z; stopped = false })
+    (result (c .evaluate .ok) (c .evaluate .ensures))
 
 pub evaluated-spec : {M : Type 1} → statement M
 evaluated-spec = tie.close (tie.spec evaluate-requires returns)

@@ -17,7 +17,11 @@ new-requires : tie.Need-new-requires
 new-requires c κs = search needs
 
 returns : tie.Need-returns
-returns c = λ words. walk-candidates (c .before .before .before .before .before .before .args .self) (c .before .before .before .before .before .before .args .state) words (c .before .before .before .before .before .before .args .pv) _ _ _ (c .before .before .before .before .before .before .args .first) _ (c .new .ensures) (c .before .hint .ensures) (c .before .before .before .response-to .ensures words) (c .before .before .first .ensures _ (c .before .before .before .before .before .before .pre .0))
+returns c =
+    let start = c .before .before .before .before .before .before in
+    λ words. walk-candidates (start .args .self) (start .args .state) words (start .args .pv) _ _ _ (start .args .first) _
+    (c .new .ensures) (c .before .hint .ensures) (c .before .before .before .response-to .ensures words)
+    (c .before .before .first .ensures _ (start .pre .0))
 
 pub order-spec : {M : Type 1} → statement M
 order-spec =

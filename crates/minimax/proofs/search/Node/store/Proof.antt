@@ -27,9 +27,21 @@ same-length c = search needs
 
 returns-2 : tie.Need-returns-2
 returns-2 c =
-    let s = c .before .before .before .before .before .before .before .before .before .before .before .before in
-    told-found (s .args .self) (s .args .found) _ _ _ (record { value = reads (s .args .found .score); depth = s .args .self .depth; bound = c .before .before .before .before .before .before .before .bound-of .result; pv = c .before .before .before .before .before .before .first .result }) (c .before .before .before .before .before .before .before .before .before .before .if1 .left) (c .before .before .before .zobrist .ensures) (c .before .before .store .ensures)
-    (told (s .args .found .score) (c .before .before .before .before .before .struct-told .given .1 .1 .0 .1)) refl (c .before .before .before .before .before .before .before .bound-of .ensures) (c .before .before .before .before .before .before .first .ensures _ (s .pre .0))
+    let at-first = c .before .before .before .before .before .before in
+    let at-bound-of = at-first .before in
+    let at-if1 = at-bound-of .before .before .before in
+    let at-place = at-if1 .before .before in
+    let s = at-place in
+    told-found (s .args .self) (s .args .found) _ _ _
+    (record {
+      value = reads (s .args .found .score);
+      depth = s .args .self .depth;
+      bound = at-bound-of .bound-of .result;
+      pv = at-first .first .result;
+    }) (at-if1 .if1 .left) (c .before .before .before .zobrist .ensures)
+    (c .before .before .store .ensures)
+    (told (s .args .found .score) (c .before .before .before .before .before .struct-told .given .1 .1 .0 .1)) refl
+    (at-bound-of .bound-of .ensures) (at-first .first .ensures _ (s .pre .0))
 
 pub store-spec : {M : Type 1} → statement M
 store-spec =

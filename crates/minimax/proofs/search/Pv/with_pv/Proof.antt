@@ -42,15 +42,21 @@ loop-again : tie.Need-loop-again Inv-loop μ-loop
 loop-again c =
     let s = c .before .before .before in
     let n : length (s .args .self .moves) ≡ 81 = simp length-map at (s .good .0 .1 .1 .0 .1 .0 .1) in
-    let b : length (s .args .t3 .moves) ≡ 81 = simp length-map at (s .good .1 .1 .0 .1 .1 .0 .1 .0 .1) in
-    (placed-more (s .args .self .moves) (s .args .t3 .moves) _ (s .args .m) (c .before .before .loop .i) _ (c .before .before .loop .inv .0) (omega (arith, c .before .loop-test .taken, s .pre .1)) (omega (arith, c .before .loop-test .taken, s .pre .1)), omega (arith, c .before .loop-test .taken))
+    let b : length (s .args .t3 .moves) ≡ 81 = simp length-map at (s .good .1 .1 .0 .1 .1 .0 .1 .0 .1) in (
+      placed-more (s .args .self .moves) (s .args .t3 .moves) _ (s .args .m) (c .before .before .loop .i) _
+          (c .before .before .loop .inv .0) (omega (arith, c .before .loop-test .taken, s .pre .1))
+          (omega (arith, c .before .loop-test .taken, s .pre .1)),
+      omega (arith, c .before .loop-test .taken),
+    )
 
 returns : tie.Need-returns Inv-loop μ-loop
 returns c =
     let s = c .before .before in
     let n : length (s .args .self .moves) ≡ 81 = simp length-map at (s .good .0 .1 .1 .0 .1 .0 .1) in
     let b : length (s .args .t3 .moves) ≡ 81 = simp length-map at (s .good .1 .1 .0 .1 .1 .0 .1 .0 .1) in
-    placed-all (s .args .self .moves) (s .args .t3 .moves) _ (s .args .m) (s .args .depth) (c .before .loop .i) (omega (arith, c .before .loop .inv .1, c .loop-test .left, s .pre .0)) (omega arith) (omega (arith, c .before .loop .inv .1, s .pre .1)) (c .before .loop .inv .0)
+    placed-all (s .args .self .moves) (s .args .t3 .moves) _ (s .args .m) (s .args .depth) (c .before .loop .i)
+    (omega (arith, c .before .loop .inv .1, c .loop-test .left, s .pre .0)) (omega arith)
+    (omega (arith, c .before .loop .inv .1, s .pre .1)) (c .before .loop .inv .0)
 
 pub with-pv-spec : {M : Type 1} → statement M
 with-pv-spec =

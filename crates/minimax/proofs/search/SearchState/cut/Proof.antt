@@ -23,10 +23,14 @@ element-set-from-m-2 : tie.Need-element-set-from-m-2
 element-set-from-m-2 c = search needs
 
 returns : tie.Need-returns
-returns c = λ words. cut-x (c .before .before .before .args .self) words (c .before .before .before .args .prev) (c .before .before .before .args .m) _ (c .enum-told .given .1)
+returns c =
+    λ words. cut-x (c .before .before .before .args .self) words (c .before .before .before .args .prev)
+    (c .before .before .before .args .m) _ (c .enum-told .given .1)
 
 returns-2 : tie.Need-returns-2
-returns-2 c = λ words. cut-o (c .before .before .before .args .self) words (c .before .before .before .args .prev) (c .before .before .before .args .m) _ (c .enum-told2 .given .1)
+returns-2 c =
+    λ words. cut-o (c .before .before .before .args .self) words (c .before .before .before .args .prev)
+    (c .before .before .before .args .m) _ (c .enum-told2 .given .1)
 
 pub cut-spec : {M : Type 1} → statement M
 cut-spec =

@@ -26,13 +26,15 @@ returns : tie.Need-returns
 returns c =
     let s = c .before .before .before .before in
     let n : length (s .args .t1 .«responses_o») ≡ 256 = simp length-map at (s .good .0 .1 .1 .1 .0 .1 .0 .1) in
-    λ words. response-by (s .args .t1) words (s .args .prev) (s .args .t1 .«responses_o») (s .args .turn) (rw (c .before .enum-told .given .1)) (omega arith) _
+    λ words. response-by (s .args .t1) words (s .args .prev) (s .args .t1 .«responses_o») (s .args .turn)
+    (rw (c .before .enum-told .given .1)) (omega arith) _
 
 returns-2 : tie.Need-returns-2
 returns-2 c =
     let s = c .before .before .before .before in
     let n : length (s .args .t1 .«responses_x») ≡ 256 = simp length-map at (s .good .0 .1 .1 .0 .1 .0 .1) in
-    λ words. response-by (s .args .t1) words (s .args .prev) (s .args .t1 .«responses_x») (s .args .turn) (rw (c .before .enum-told2 .given .1)) (omega arith) _
+    λ words. response-by (s .args .t1) words (s .args .prev) (s .args .t1 .«responses_x») (s .args .turn)
+    (rw (c .before .enum-told2 .given .1)) (omega arith) _
 
 pub response-to-spec : {M : Type 1} → statement M
 response-to-spec =

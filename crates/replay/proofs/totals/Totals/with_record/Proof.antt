@@ -43,10 +43,20 @@ returns : tie.Need-returns
 returns c = rw (c .before .enum-told .given .1, c .before .before .before .one-more .ensures, c .one-more2 .ensures)
 
 returns-2 : tie.Need-returns-2
-returns-2 c = rw (c .before .before .enum-told2 .given .1, c .before .before .before .before .one-more .ensures, c .before .one-more3 .ensures, c .one-more4 .ensures)
+returns-2 c =
+    rw (
+      c .before .before .enum-told2 .given .1,
+      c .before .before .before .before .one-more .ensures,
+      c .before .one-more3 .ensures,
+      c .one-more4 .ensures,
+    )
 
 returns-3 : tie.Need-returns-3
-returns-3 c = rw (c .before .before .before .before .before .enum-told3 .given .1, c .before .before .before .before .before .before .before .one-more .ensures)
+returns-3 c =
+    rw (
+      c .before .before .before .before .before .enum-told3 .given .1,
+      c .before .before .before .before .before .before .before .one-more .ensures,
+    )
 
 pub with-record-spec : {M : Type 1} → statement M
 with-record-spec =
