@@ -30,7 +30,7 @@ in-range b c = ltb b 9 && ltb c 9
 unfoldable pub range-refusal : Bool → ℕ
 range-refusal ok = if ok then (λ _. 0) else λ _. 9
 
--- with the empty move
+-- what building a move gives; refused, the empty move
 pub record Builds (b c : ℕ) (r : Built) : Type 0 where
   pub number : answer-number (r .answer) ≡ range-refusal (in-range b c)
   pub built : r .m .bits ≡ (if in-range b c then (λ _. move-of b c) else λ _. no-move)

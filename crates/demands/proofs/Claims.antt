@@ -33,21 +33,21 @@ use Rattle.minimax.proofs.ReportRefusals.{some-depth, accepted-reported, turned
 use Rattle.demands.specs.Claims.{NotStopped, MarkSays, ReportsMinimax, StatusHolds}
 
 -- ---- a variation and what is appended to it
-walk-longer : (G : Game) (d : ℕ) (p : G .Pos) (line rest : List ℕ) → length line ≡ d →
+play-out-longer : (G : Game) (d : ℕ) (p : G .Pos) (line rest : List ℕ) → length line ≡ d →
     play-out G d p (line ++ rest) ≡ play-out G d p line
 unfolding play-out
-walk-longer G zero p line rest e = refl
-walk-longer G (suc d) p [] rest e = absurd (omega arith)
-walk-longer G (suc d) p (m ∷ line) rest e =
+play-out-longer G zero p line rest e = refl
+play-out-longer G (suc d) p [] rest e = absurd (omega arith)
+play-out-longer G (suc d) p (m ∷ line) rest e =
     ap (λ (w : Playout (G .Pos)). if G .over p then (λ _. record { accepted = true; end = p; odd = false })
     else λ _. record { accepted = G .accepts p m && w .accepted; end = w .end; odd = not (w .odd) })
-    (walk-longer G d (G .play p m) line rest (omega arith))
+    (play-out-longer G d (G .play p m) line rest (omega arith))
 
 ends-longer : (G : Game) (d : ℕ) (p : G .Pos) (line rest : List ℕ) → length line ≡ d →
     ends-on G d p (line ++ rest) ≡ ends-on G d p line
 unfolding ends-on
 ends-longer G d p line rest e =
-    ap (λ (w : Playout (G .Pos)). cond (w .odd) (negℤ (G .value (w .end))) (G .value (w .end))) (walk-longer G d p line rest e)
+    ap (λ (w : Playout (G .Pos)). cond (w .odd) (negℤ (G .value (w .end))) (G .value (w .end))) (play-out-longer G d p line rest e)
 
 -- the first move of a variation that begins so
 module _ (sc : Scoring) (k : ℕ) (p : Position) where
@@ -108,7 +108,7 @@ module _ (ms : List ℕ) (t : T (unfinished (reached start ms))) (sc : Scoring) 
           deep = elim (r .deep) [ inl q ↦ inl (q ∙ sym d) | inr q ↦ inr q ];
           line-legal =
               subst (λ (w : Playout Position). T (w .accepted))
-              (sym (walk-longer (game sc) (answer .completed .depth) p (answer .completed .pv) _ places)) (r .accepted);
+              (sym (play-out-longer (game sc) (answer .completed .depth) p (answer .completed .pv) _ places)) (r .accepted);
           line-ends = r .ends ∙ sym (ends-longer (game sc) (answer .completed .depth) p (answer .completed .pv) _ places);
         }
 

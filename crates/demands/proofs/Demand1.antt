@@ -58,8 +58,7 @@ use Rattle.minimax.specs.declared.Minimax.{Minimax}
 use Rattle.minimax.specs.declared.Config.{Config}
 use Rattle.minimax.specs.declared.Report.{Report}
 use Rattle.minimax.specs.Structs.{structs}
-use Rattle.minimax.specs.State.{responses-of}
-use Rattle.minimax.specs.Report.{settings-of, report-of, answer-of, reported-of, scoring-of}
+use Rattle.minimax.specs.Report.{settings-of, report-of, answer-of, reported-of, scoring-of, responses-of}
 use Rattle.demands.specs.Demand1.{Playing, depth-1-enters, searching, NothingReported, Searching, line-of-boards, broken-board}
 use Rattle.demands.specs.Demand1.{unsound, analysing, Analysing, JudgingMove, LookingCell, LookingBoard, Building, Demand1}
 

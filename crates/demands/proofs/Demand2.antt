@@ -23,8 +23,7 @@ use Rattle.game.proofs.AfterList.{played-neat, played-means, played-hash}
 use Rattle.notation.specs.declared.Parsed.{Parsed}
 use Rattle.notation.specs.Parsed.{game-for, Parses}
 use Rattle.notation.proofs.ParsedGames.{ReadGame, read-gives-a-game}
-use Rattle.minimax.specs.State.{responses-of}
-use Rattle.minimax.specs.Report.{scoring-of, settings-of}
+use Rattle.minimax.specs.Report.{scoring-of, settings-of, responses-of}
 use Rattle.minimax.proofs.Structs.{reported-rules}
 use Rattle.demands.specs.Demand2.{SameAs, Demand2}
 

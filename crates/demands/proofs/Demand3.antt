@@ -30,8 +30,7 @@ use Rattle.endgame.specs.Means.{Analyses}
 use Rattle.minimax.specs.declared.Minimax.{Minimax}
 use Rattle.minimax.specs.declared.Config.{Config}
 use Rattle.minimax.specs.declared.Report.{Report}
-use Rattle.minimax.specs.State.{responses-of}
-use Rattle.minimax.specs.Report.{scoring-of, settings-of, report-of, reported-of}
+use Rattle.minimax.specs.Report.{scoring-of, settings-of, report-of, reported-of, responses-of}
 use Rattle.minimax.proofs.Structs.{reported-rules}
 use Rattle.demands.specs.Claims.{MarkSays, ReportsMinimax, StatusHolds}
 use Rattle.demands.specs.Demand3.{Demand3}

@@ -20,7 +20,7 @@ use Rattle.rules_game.specs.RulesGame.{game, plain-minimax, win-for}
 use Rattle.rules_game.specs.Answers.{entries}
 
 module _ (sc : Scoring) (c : Settings) (rs : Responses) (p : Position) where
-  -- a search is not stopped when nothing refuses it and the ordered search, unlimited, enters no more positions than it is allowed
+  -- what is asked for a search to run to its end: its entry passes, and the allowance covers all that the ordered search would enter
   pub record NotStopped : Type 0 where
     pub accepted : entry-refusal c 0 ≡ 0
     pub enough : entries sc (c .max-depth) p (fresh-memory rs []) ≤ c .allowance
@@ -37,22 +37,22 @@ module _ (sc : Scoring) (c : Settings) (rs : Responses) (p : Position) where
     pub record ReportsMinimax : Type 0 where
       -- the score is plain minimax's to the limit, scored the same way
       pub score : x .score ≡ plain-minimax sc (c .max-depth) p
-      -- the first move is legal, and plain minimax to one depth less after it, negated, is the score
+      -- the first move may be played, and what plain minimax gives after it, one depth less and with the other sign, is the score
       pub first-legal : T (accepts p (getD (x .pv) 0 no-move))
       pub first-attains : negℤ (plain-minimax sc (c .max-depth - 1) (tried p (getD (x .pv) 0 no-move))) ≡ x .score
       -- the variation's depth is the last completed depth, which is the limit unless the score ended the search sooner
       pub some-depth : 1 ≤ x .depth
       pub no-deeper : x .depth ≤ c .max-depth
       pub deep : (x .depth ≡ c .max-depth) ⊎ T (decided (x .score))
-      -- its moves up to that depth, or to the game's end if sooner, are each accepted, and the evaluation of the position reached, negated
-      -- if the other side is then to move, is the score
+      -- played out to that depth, or until the game is over, each of its moves is accepted; where it ends, the value, with the sign of the
+      -- root's side, is the score
       pub line-legal : T (play-out (game sc) (x .depth) p (x .pv) .accepted)
       pub line-ends : x .score ≡ ends-on (game sc) (x .depth) p (x .pv)
 
 -- with no draw winner, s being the endgame status
 module _ (c : Settings) (rs : Responses) (p : Position) (x : Reported) (s : Status) where
   pub record StatusHolds : Type 0 where
-    -- one side alone, without a draw: every search not stopped, to a limit of three or more, scores that side's win
+    -- it leaves w alone, and no draw: a search that runs to its end, three deep or deeper, has w's win for its score
     pub alone-wins : (w : Player) → T (alone s w) → NotStopped no-draw-winner c rs p → 3 ≤ c .max-depth → x .score ≡ win-for w p
-    -- a side that it leaves out: no search, stopped or not, scores that side's win
+    -- it leaves w out: w's win is the score of no search at all
     pub left-out-never : (w : Player) → T (not (allows s w)) → x .score ≡ win-for w p → ⊥

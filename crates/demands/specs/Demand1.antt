@@ -51,8 +51,7 @@ use Rattle.minimax.specs.declared.Minimax.{Minimax}
 use Rattle.minimax.specs.declared.Config.{Config}
 use Rattle.minimax.specs.declared.Report.{Report}
 use Rattle.minimax.specs.Structs.{structs}
-use Rattle.minimax.specs.State.{responses-of}
-use Rattle.minimax.specs.Report.{settings-of, report-of, answer-of, reported-of, scoring-of}
+use Rattle.minimax.specs.Report.{settings-of, report-of, answer-of, reported-of, scoring-of, responses-of}
 use Rattle.program_line.specs.Answered.{answer-line}
 
 -- ---- playing: the rules' own checks

@@ -21,8 +21,7 @@ use Rattle.notation.specs.declared.Parsed.{Parsed}
 use Rattle.notation.specs.Parsed.{Parses}
 use Rattle.minimax.specs.declared.Minimax.{Minimax}
 use Rattle.minimax.specs.declared.Config.{Config}
-use Rattle.minimax.specs.State.{responses-of}
-use Rattle.minimax.specs.Report.{scoring-of, settings-of, reported-of}
+use Rattle.minimax.specs.Report.{scoring-of, settings-of, reported-of, responses-of}
 
 -- on the left what a function promises of the struct g, on the right the definition at the position p
 pub record SameAs (g : Game) (p : Position) : Type 0 where

@@ -18,13 +18,12 @@ use Rattle.status.specs.Sets.{status-of}
 use Rattle.endgame.specs.Means.{analysis-number, endgame-stats-of}
 use Rattle.minimax.specs.declared.Minimax.{Minimax}
 use Rattle.minimax.specs.declared.Config.{Config}
-use Rattle.minimax.specs.State.{responses-of}
-use Rattle.minimax.specs.Report.{scoring-of, settings-of, report-of}
+use Rattle.minimax.specs.Report.{scoring-of, settings-of, report-of, responses-of}
 use Rattle.demands.specs.declared.AfterMoves.{AfterMoves}
 use Rattle.demands.specs.Claims.{NotStopped, MarkSays, ReportsMinimax, StatusHolds}
 
 module _ (ms : List ℕ) (m : Minimax) (c : Config) (r : AfterMoves) where
-  -- the position that the written rules reach when fed with the list's moves alone
+  -- where the list leads by the rules alone
   abbrev pub p : Position
   p = reached start ms
 

@@ -26,10 +26,11 @@ board-value p b = value-in p b (p .states b)
 unfoldable pub values-of : Position → List ℤ
 values-of p = map (board-value p) nine
 
--- by the values of its three boards
+-- the value of board i
 abbrev pub value-at : List ℤ → ℕ → ℤ
 value-at values i = getD values i (pos 0)
 
+-- an overall line by the values of its three boards
 unfoldable pub overall-value : (ℕ → Bool) → (ℕ → Bool) → List ℤ → Line → ℤ
 overall-value xs os values l =
     unless-both (places-in xs l) (places-in os l) (value-at values (l .i) +ℤ (value-at values (l .j) +ℤ value-at values (l .k)))

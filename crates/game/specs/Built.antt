@@ -44,11 +44,12 @@ with-hash g h =
       hash = h;
     }
 
--- a game from its parts, its hash worked out
+-- a game from its parts, with hash 0
 abbrev pub parts : Player → NextBoard → LocalBoards → GlobalStates → GameState → Game
 parts w n l s g =
     record { «next_player» = w; «next_board» = n; «local_boards» = l; «global_states» = s; «game_state» = g; hash = 0 }
 
+-- with its hash worked out
 unfoldable pub packed : Player → NextBoard → LocalBoards → GlobalStates → GameState → Game
 packed w n l s g = with-hash (parts w n l s g) (hash (position-of (parts w n l s g)))
 

@@ -7,7 +7,7 @@ use Rattle.boards.specs.Answers.{answer-number, in-range, range-refusal}
 use Rattle.game.specs.declared.CellAnswer.{CellAnswer}
 use Rattle.game.specs.declared.StateAnswer.{StateAnswer}
 
--- the position reads as empty and open there
+-- over 8 the position reads as empty and open
 pub record Looks-cell (p : Position) (b c : ℕ) (r : CellAnswer) : Type 0 where
   pub number : answer-number (r .answer) ≡ range-refusal (in-range b c)
   pub cell-is : r .cell ≡ p .cells b c

@@ -32,8 +32,7 @@ use Rattle.endgame.specs.Means.{analysis-number, Analyses}
 use Rattle.minimax.specs.declared.Minimax.{Minimax}
 use Rattle.minimax.specs.declared.Report.{Report}
 use Rattle.minimax.specs.Structs.{structs}
-use Rattle.minimax.specs.State.{responses-of}
-use Rattle.minimax.specs.Report.{ending-number, report-of, reported-of}
+use Rattle.minimax.specs.Report.{ending-number, report-of, reported-of, responses-of}
 use Rattle.answer_text.specs.declared.AnswerText.{AnswerText}
 use Rattle.program_line.specs.Answered.{answer-line, asked-text}
 use Rattle.line_buffer.specs.Buffer.{new-buffer, pushed-all, buffer-asks}

@@ -21,8 +21,7 @@ use Rattle.game.specs.After.{games-after}
 use Rattle.endgame.specs.Means.{analysis-number}
 use Rattle.minimax.specs.declared.Minimax.{Minimax}
 use Rattle.minimax.specs.declared.Config.{Config}
-use Rattle.minimax.specs.State.{responses-of}
-use Rattle.minimax.specs.Report.{scoring-of, settings-of, report-of}
+use Rattle.minimax.specs.Report.{scoring-of, settings-of, report-of, responses-of}
 use Rattle.demands.specs.declared.AfterMoves.{AfterMoves}
 use Rattle.demands.specs.Demand3.{Demand3}
 use Rattle.interface.specs.Lent.{left}

@@ -10,8 +10,7 @@ use Rattle.theory.specs.Deepening.{Stats as Meant}
 use Rattle.theory.specs.Reported.{Reported}
 use Rattle.boards.specs.declared.moves.Move.{Move}
 use Rattle.minimax.specs.declared.Stats.{Stats}
-use Rattle.minimax.specs.State.{byte-of, bytes-of}
-use Rattle.minimax.specs.Report.{stats-of}
+use Rattle.minimax.specs.Report.{stats-of, byte-of, bytes-of}
 use Rattle.interface.specs.Lent.{Puts}
 use Rattle.interface.specs.Calls.{stats-words, all-stats, head-words, report-words}
 use Rattle.interface.proofs.LentPlaces.{sets-join}
@@ -67,7 +66,7 @@ pub seven : (number stopped depth score count made bits n s z m b : ℕ) → num
     count ∷ m ∷ b ∷ []
 seven number stopped depth score count made bits n s z m b p q r t u = cc
 
--- the answers to X's moves, then those to O's
+-- the responses to X's moves, then those to O's
 pub both-put : (l l₁ l₂ : List ℕ) (xs os : List Move) → length xs ≡ 256 → length os ≡ 256 →
     l₁ ≡ sets l 0 (bytes-of xs) → l₂ ≡ sets l₁ 256 (bytes-of os) → Puts l (bytes-of xs ++ bytes-of os) 512 l₂
 both-put l l₁ l₂ xs os n k e f =

@@ -90,8 +90,8 @@ pub extern "C" fn ultimattt_play(position: &mut [u64], moves: &[u8], answers: &m
 }
 
 // The endgame analysis and the search, after moves tried from a position: 0, or refusal 15 to 18.
-// The draw winner is 0 for nobody, 1 for X, 2 for O. The 512 answers are those to X's moves, then those to O's, each by the move it
-// answers; the table is in words, and off without any.
+// The draw winner is 0 for nobody, 1 for X, 2 for O. The 512 responses in answers are those to X's moves, then those to O's, each
+// by the move it responds to; the table is in words, and off without any.
 #[no_mangle]
 pub extern "C" fn ultimattt_analyze(
     position: &[u64],

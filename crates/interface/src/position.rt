@@ -40,7 +40,7 @@ const MOST: [u64; 12] = [
     0xffff_ffff_ffff_ffff,
 ];
 
-fn due_word(next: NextBoard) -> u64
+fn next_board_word(next: NextBoard) -> u64
     ensures { λ r. ⌜ r ≡ next-board-word next ⌝ }
 {
     match next {
@@ -74,7 +74,7 @@ fn words_of(game: Game) -> [u64; 12]
         states.x as u64,
         states.o as u64,
         who.as_bit() as u64,
-        due_word(next),
+        next_board_word(next),
         state.number(),
         game.hash,
     ]
@@ -108,7 +108,7 @@ pub(crate) fn side_from(w: u64) -> Player
     if w == 0 { Player::X } else { Player::O }
 }
 
-fn due_from(w: u64) -> NextBoard
+fn next_board_from(w: u64) -> NextBoard
     requires { ⌜ w ≤ 256 ⌝ }
     ensures { λ r. ⌜ r ≡ next-board-from w ⌝ }
 {
@@ -147,7 +147,7 @@ pub(crate) fn game_from(words: &[u64]) -> Game
 {
     Game {
         next_player: side_from(words[8]),
-        next_board: due_from(words[9]),
+        next_board: next_board_from(words[9]),
         local_boards: LocalBoards {
             rows: [
                 row(words[0], words[1]),

@@ -23,8 +23,9 @@ use Rattle.minimax.specs.declared.search.SearchState.{SearchState}
 use Rattle.minimax.specs.declared.search.NodeResult.{NodeResult}
 use Rattle.game.specs.declared.Game.{Game}
 use Rattle.minimax.specs.Structs.{structs}
-use Rattle.minimax.specs.State.{byte-of, bytes-of, responses-of, memory-of, pv-of, tally-of, tables-of}
-use Rattle.minimax.specs.Report.{stats-of, ending-number, ending-stopped, completed-of, Empty-on, report-of}
+use Rattle.minimax.specs.State.{memory-of, pv-of, tally-of, tables-of}
+use Rattle.minimax.specs.Completed.{completed-of, Empty-on}
+use Rattle.minimax.specs.Report.{stats-of, ending-number, ending-stopped, report-of, byte-of, bytes-of, responses-of}
 use Rattle.minimax.proofs.ReportPlaces.{drop-next, take-drop, length-of-take, take-set, drop-set, rest-next}
 
 -- ---- how it ended

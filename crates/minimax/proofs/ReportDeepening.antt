@@ -24,9 +24,10 @@ use Rattle.evaluation.specs.Values.{values-of}
 use Rattle.minimax.specs.declared.search.Node.{Node}
 use Rattle.minimax.specs.declared.search.NodeResult.{NodeResult}
 use Rattle.minimax.specs.Structs.{structs}
-use Rattle.minimax.specs.State.{bytes-of, responses-of, memory-of, pv-of, outcome-of, node-outcome, NodeFits, Counted, NodeGives}
+use Rattle.minimax.specs.State.{memory-of, pv-of, outcome-of, node-outcome, NodeFits, Counted, NodeGives}
 use Rattle.minimax.specs.State.{tally-of}
-use Rattle.minimax.specs.Report.{scoring-of, completed-of, Empty-on, answer-of}
+use Rattle.minimax.specs.Completed.{completed-of, Empty-on}
+use Rattle.minimax.specs.Report.{scoring-of, answer-of, bytes-of, responses-of}
 use Rattle.minimax.proofs.StateOutcomes.{outcome-stopped, outcome-found}
 use Rattle.minimax.proofs.ReportPlaces.{take-next, rest-next}
 use Rattle.minimax.proofs.ReportAnswers.{drop-bytes, bytes-empty}

@@ -19,7 +19,8 @@ use Rattle.theory.specs.Deepening.{analyze}
 use Rattle.theory.specs.Reported.{Settings, entry-refusal, report, refused-entry, reported}
 use Rattle.minimax.specs.declared.SearchError.{SearchError}
 use Rattle.minimax.specs.declared.SearchError.the-variants.{Depth, Allowance, Words, Spent}
-use Rattle.minimax.specs.Report.{search-error-number, is-spent, refused-with}
+use Rattle.minimax.specs.Completed.{refused-with}
+use Rattle.minimax.specs.Report.{search-error-number, is-spent}
 
 -- a number from 1 to k
 within : (n k : ℕ) → (n ≡ 0 → ⊥) → n ≤ k → (leb 1 n && leb n k) ≡ true

@@ -46,17 +46,17 @@ use Rattle.minimax.proofs.StateEntering.{Begun as Entering, may-enter, 
 
 -- ---- the next move
 module _ {g : Game} {w : MoveOrder} {child : NextMove} (n : NextOf g w child) where
-  pub walk-ends : eqb (child .m .bits) no-move ≡ true → order-left g w ≡ []
-  walk-ends e = go (order-left g w) refl (next-left g w child n)
+  pub order-ends : eqb (child .m .bits) no-move ≡ true → order-left g w ≡ []
+  order-ends e = go (order-left g w) refl (next-left g w child n)
     where
       go : (ms : List ℕ) → order-left g w ≡ ms → NextIs g ms child → order-left g w ≡ []
       go [] q h = q
       go (m ∷ ms) q h = absurd (T-not (accepts (position-of g) no-move) (none-refused (position-of g))
           (subst (λ (z : ℕ). T (accepts (position-of g) z)) (sym (h .0) ∙ eqb-true _ no-move e) (left-accepted _ _ _ m ms q)))
 
-  pub walk-goes : eqb (child .m .bits) no-move ≡ false → (order-left g w ≡ child .m .bits ∷ order-left g (child .order)) ×
+  pub order-goes : eqb (child .m .bits) no-move ≡ false → (order-left g w ≡ child .m .bits ∷ order-left g (child .order)) ×
       (child .game ≡ game-after g (child .m .bits))
-  walk-goes e = go (order-left g w) refl (next-left g w child n)
+  order-goes e = go (order-left g w) refl (next-left g w child n)
     where
       go : (ms : List ℕ) → order-left g w ≡ ms → NextIs g ms child → (order-left g w ≡ child .m .bits ∷
           order-left g (child .order)) × (child .game ≡ game-after g (child .m .bits))
@@ -89,7 +89,7 @@ pub record Stand : Type 0 where
   pub local : Pv
 
 abbrev pub stand : List ℕ → MoveOrder → SearchState → Best → Pv → Stand
-stand words walk s best local = record { words = words; order = walk; s = s; best = best; local = local }
+stand words order s best local = record { words = words; order = order; s = s; best = best; local = local }
 
 -- what there is to search from there
 abbrev pub left-from : Node → Stand → Outcome
@@ -104,7 +104,7 @@ pub record Begun : Type 0 where
   pub three : length (a .game .«local_boards» .rows) ≡ 3
   pub asked : NodeFits a
   pub ready : Ready a (from .s)
-  pub walk-is : order-left (a .game) (from .order) ≡ candidates (node-game a) (some-move (first .bits))
+  pub order-is : order-left (a .game) (from .order) ≡ candidates (node-game a) (some-move (first .bits))
       (memory-of (from .s) (from .words)) (a .game) (a .prev .bits) (pv-of pv (a .depth))
   pub best-is : from .best ≡ record { pv = pv; score = a .alpha }
   pub local-is : from .local ≡ empty-pv
@@ -176,7 +176,7 @@ module _ (b : Begun) where
       Answers b r words
   unfolding over-all
   whole-is g = record {
-    same = g .same ∙ (λ i. over-left (b .a) (b .walk-is i) (b .best-is i) (b .local-is i) (b .from .s) (b .from .words));
+    same = g .same ∙ (λ i. over-left (b .a) (b .order-is i) (b .best-is i) (b .local-is i) (b .from .s) (b .from .words));
     places = λ z. g .places z ∙ ap (λ (x : Best). drop (b .a .depth) (x .pv .moves)) (b .best-is);
   }
 
@@ -197,7 +197,7 @@ module _ (h : Held) where
       Answers (h .begun) f (at .words)
   unfolding over-left
   turn-done n e q = subst (λ (x : NodeResult). Answers (h .begun) x (at .words)) (sym q) (whole-is (h .begun) (record {
-    same = outcome-found a _ (at .words) refl ∙ sym (over-none _ _ _ _ _ _ _ _ _) ∙ sym (ap over (walk-ends n e)) ∙ h .turn .same;
+    same = outcome-found a _ (at .words) refl ∙ sym (over-none _ _ _ _ _ _ _ _ _) ∙ sym (ap over (order-ends n e)) ∙ h .turn .same;
     places = λ _. h .turn .places;
   }))
 
@@ -206,7 +206,7 @@ module _ {h : Held} (m : Met h) where
   under-asked = subst NodeFits (sym (m .under-is)) (record {
     valued =
         carried (a h .game) (m .child .game) (m .child .m .bits) (board-of (m .child .m .bits)) (a h .values .boards) (h .begun .three)
-        (h .begun .asked .valued) (walk-goes (m .next) (m .is-some) .1) refl;
+        (h .begun .asked .valued) (order-goes (m .next) (m .is-some) .1) refl;
     deep = omega (arith, h .begun .asked .deep);
     alpha-within = neg-within (a h .beta) (h .begun .asked .beta-within);
     beta-within = neg-within (at h .best .score) (h .turn .score);
@@ -278,7 +278,7 @@ module _ {h : Held} (m : Met h) where
   rest = order-left (a h .game) (m .child .order)
 
   left-is : over h (m .child .m .bits ∷ rest) ≡ left-from (a h) (h .begun .from)
-  left-is = sym (ap (over h) (walk-goes (m .next) (m .is-some) .0)) ∙ h .turn .same
+  left-is = sym (ap (over h) (order-goes (m .next) (m .is-some) .0)) ∙ h .turn .same
 
   -- the search of the game after the move
   abbrev after : Game → Outcome
@@ -289,14 +289,14 @@ module _ {h : Held} {m : Met h} {b : Bool} (x : Brought m b) where
   below-is : after m (game-after (a h .game) (m .child .m .bits)) ≡ outcome-of (m .under) (x .r) (x .words)
   unfolding node-outcome
   below-is =
-      ap (after m) (sym (walk-goes (m .next) (m .is-some) .1))
+      ap (after m) (sym (order-goes (m .next) (m .is-some) .1))
       ∙ sym (ap (λ (u : Node). node-outcome u (at h .s) (at h .local) (at h .words)) (m .under-is)) ∙ sym (x .gives .same)
 
   pub words-long : length (x .words) ≡ length (h .begun .from .words)
   words-long = x .long ∙ h .turn .long
 
-  pub walk-shorter : length (rest m) < length (order-left (a h .game) (at h .order))
-  walk-shorter = rw (walk-goes (m .next) (m .is-some) .0) (omega arith)
+  pub order-shorter : length (rest m) < length (order-left (a h .game) (at h .order))
+  order-shorter = rw (order-goes (m .next) (m .is-some) .0) (omega arith)
 
 -- the allowance is spent below
 pub turn-stopped : {h : Held} {m : Met h} (x : Brought m true) → Answers (h .begun) (x .r) (x .words)

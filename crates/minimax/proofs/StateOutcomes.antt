@@ -16,7 +16,7 @@ use Rattle.boards.specs.declared.moves.Move.{Move}
 use Rattle.game.specs.Meaning.{position-of}
 use Rattle.order.specs.declared.MoveOrder.{MoveOrder}
 use Rattle.order.specs.Order.{marked, candidates-left, order-left}
-use Rattle.order.proofs.OrderSteps.{walk-new}
+use Rattle.order.proofs.OrderSteps.{order-new}
 use Rattle.table.specs.declared.Entry.{Entry}
 use Rattle.table.specs.Entries.{bound-number, entry-means}
 use Rattle.minimax.specs.declared.search.SearchState.{SearchState}
@@ -82,7 +82,7 @@ module _ (a : Node) (s : SearchState) (words : List ℕ) (l : Pv) (answer pv sec
       ∙ ap₂ (λ (x y : ℕ). if eqb x no-move then (λ _. some-move y) else λ _. x ∷ []) f g
 
   -- what a move order has left at first are the candidates
-  pub walk-candidates : (first : Move) (w : MoveOrder)
+  pub order-candidates : (first : Move) (w : MoveOrder)
       → (candidates-left (w .left) ≡ some-move (first .bits) ++ (some-move (second .bits) ++ moves (position-of (a .game)))) ×
       ((k : ℕ) → marked (w .seen) k ≡ false)
       → second ≡ (if eqb (answer .bits) no-move then (λ _. pv) else λ _. answer)
@@ -91,7 +91,7 @@ module _ (a : Node) (s : SearchState) (words : List ℕ) (l : Pv) (answer pv sec
       → order-left (a .game) w ≡ candidates (node-game a) (some-move (first .bits)) (memory-of s words) (a .game) (a .prev .bits)
       (pv-of l (a .depth))
   unfolding candidates
-  walk-candidates first w n e f g =
-      walk-new (a .game) w _ n
+  order-candidates first w n e f g =
+      order-new (a .game) w _ n
       ∙ ap (λ (hs : List ℕ). fresh (accepts (position-of (a .game))) []
       (some-move (first .bits) ++ (hs ++ moves (position-of (a .game))))) (hinted e f g)

@@ -8,7 +8,7 @@ use lib.ListN.{length, getD, set, take, drop, replicate}
 use Rattle.rules.specs.Play.{no-move}
 use Rattle.theory.specs.OrderedSearch.{set-first}
 use Rattle.boards.specs.declared.moves.Move.{Move}
-use Rattle.minimax.specs.State.{byte-of, bytes-of}
+use Rattle.minimax.specs.Report.{byte-of, bytes-of}
 
 -- ---- the first place
 pub first-place : (l : List Move) (x : Move) → 0 < length l → (d : ℕ) → 0 < d →

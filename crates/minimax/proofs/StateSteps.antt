@@ -16,7 +16,8 @@ use Rattle.theory.specs.Memory.{Responses, Memory, begin, enter, leaf, hit, ans
 use Rattle.boards.specs.declared.moves.Move.{Move}
 use Rattle.minimax.specs.declared.ResponseTables.{ResponseTables}
 use Rattle.minimax.specs.declared.search.SearchState.{SearchState}
-use Rattle.minimax.specs.State.{byte-of, bytes-of, responses-of, memory-of}
+use Rattle.minimax.specs.Report.{byte-of, bytes-of, responses-of}
+use Rattle.minimax.specs.State.{memory-of}
 
 -- the state with other counts
 abbrev with-counts : SearchState → ℕ → ℕ → ℕ → ℕ → ℕ → ℕ → SearchState

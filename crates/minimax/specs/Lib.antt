@@ -1,3 +1,4 @@
 pub mod Structs
-pub mod State
 pub mod Report
+pub mod State
+pub mod Completed

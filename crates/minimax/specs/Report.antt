@@ -1,19 +1,17 @@
--- What the structs of the search's entry point mean.
-use mathlib.Core.Path.{_≡_}
+-- What `analyze` is given and answers: each struct of its entry point as the definition's value.
 use mathlib.Core.Bool.{Bool, true, false}
 use mathlib.Core.List.{List, map}
-use Prim.Native.Nat.{ℕ, _-_, _≤_}
-use lib.IntN.{pos}
-use lib.ListN.{take, drop, replicate}
+use Prim.Native.Nat.{ℕ}
+use lib.ListN.{replicate}
 use Rattle.rules.specs.Play.{no-move}
 use Rattle.rules.specs.Evaluation.{Scoring, scoring-with}
-use Rattle.theory.specs.Limits.{console}
 use Rattle.theory.specs.Memory.{Responses, fresh-memory, counts}
 use Rattle.theory.specs.OrderedSearch.{at-most}
-use Rattle.theory.specs.Deepening.{Stats as Meant, Completed, SearchAnswer, analyze}
-use Rattle.theory.specs.Reported.{Settings, Reported, no-stats, reported}
+use Rattle.theory.specs.Deepening.{Stats as Meant, SearchAnswer, analyze}
+use Rattle.theory.specs.Reported.{Settings, Reported, reported}
 use Rattle.boards.specs.declared.moves.Move.{Move}
 use Rattle.game.specs.declared.Game.{Game}
+use Rattle.minimax.specs.declared.ResponseTables.{ResponseTables}
 use Rattle.minimax.specs.declared.Stats.{Stats}
 use Rattle.minimax.specs.declared.Config.{Config}
 use Rattle.minimax.specs.declared.Minimax.{Minimax}
@@ -22,13 +20,19 @@ use Rattle.minimax.specs.declared.SearchError.the-variants.{Depth, Allow
 use Rattle.minimax.specs.declared.Ending.{Ending}
 use Rattle.minimax.specs.declared.Ending.the-variants.{Whole as EndsWhole, Stopped, Refused}
 use Rattle.minimax.specs.declared.Report.{Report}
-use Rattle.minimax.specs.declared.EntryAnswer.{EntryAnswer}
-use Rattle.minimax.specs.declared.EntryAnswer.the-variants.{Allowed, Refused as Turned}
-use Rattle.minimax.specs.declared.CompletedDepths.{CompletedDepths}
 use Rattle.minimax.specs.Structs.{structs}
-use Rattle.minimax.specs.State.{bytes-of, responses-of, pv-of}
 
--- document 01's numbers
+-- ---- moves and response tables
+abbrev pub byte-of : Move → ℕ
+byte-of m = m .bits
+
+abbrev pub bytes-of : List Move → List ℕ
+bytes-of ms = map byte-of ms
+
+abbrev pub responses-of : ResponseTables → Responses
+responses-of t = record { to-x = bytes-of (t .x); to-o = bytes-of (t .o) }
+
+-- ---- document 01's numbers
 abbrev pub search-error-number : SearchError → ℕ
 search-error-number Depth = 15
 search-error-number Allowance = 16
@@ -52,6 +56,7 @@ ending-stopped EndsWhole = false
 ending-stopped Stopped = true
 ending-stopped (Refused e) = is-spent e
 
+-- ---- settings, and what is reported
 abbrev pub stats-of : Stats → Meant
 stats-of s = record {
   depth = s .depth;
@@ -77,39 +82,6 @@ report-of r words = record {
   responses = responses-of (r .state .responses);
   table = words;
 }
-
--- refused at the entry
-abbrev pub refused-with : SearchError → Responses → List ℕ → Reported
-refused-with e rs words = record {
-  number = search-error-number e;
-  is-stopped = is-spent e;
-  depth = 0;
-  score = pos 0;
-  pv = replicate (console .deepest) no-move;
-  stats = replicate (console .deepest) no-stats;
-  count = 0;
-  responses = rs;
-  table = words;
-}
-
-abbrev pub entry-number : EntryAnswer → ℕ
-entry-number Allowed = 0
-entry-number (Turned e) = search-error-number e
-
--- ---- the completed depths
-abbrev pub completed-of : CompletedDepths → Completed
-completed-of d = record {
-  depth = d .depth;
-  score = d .score;
-  pv = pv-of (d .pv) (d .depth);
-  stats = take (d .depth) (map stats-of (d .stats));
-}
-
--- the places after the last completed depth are empty
-pub record Empty-on (d : CompletedDepths) : Type 0 where
-  pub most : d .depth ≤ console .deepest
-  pub line-empty : drop (d .depth) (d .pv .moves) ≡ replicate (console .deepest - d .depth) (record { bits = no-move })
-  pub stats-empty : drop (d .depth) (map stats-of (d .stats)) ≡ replicate (console .deepest - d .depth) no-stats
 
 -- no move has a response
 abbrev pub empty-responses : Minimax

@@ -1,7 +1,7 @@
 -- What the structs of the search mean, and what the search of a position gives.
 use mathlib.Core.Path.{_≡_}
 use mathlib.Core.Bool.{false}
-use mathlib.Core.List.{List, map}
+use mathlib.Core.List.{List}
 use Prim.Native.Nat.{ℕ, _-_, _≤_, _<_}
 use lib.IntN.{ℤ}
 use lib.ListN.{take, drop, replicate, set}
@@ -12,7 +12,7 @@ use Rattle.rules.specs.Evaluation.{Scoring, scoring-with}
 use Rattle.theory.specs.Limits.{console}
 use Rattle.theory.specs.Game.{Game as Searched}
 use Rattle.theory.specs.PlainMinimax.{lowest, highest}
-use Rattle.theory.specs.Memory.{Responses, Memory, some-move, Tally, counts}
+use Rattle.theory.specs.Memory.{Memory, some-move, Tally, counts}
 use Rattle.theory.specs.OrderedSearch.{at-most, Outcome, stopped, found, unless-stopped, with-stored, candidates, over-moves, search}
 use Rattle.boards.specs.declared.moves.Move.{Move}
 use Rattle.game.specs.Meaning.{position-of}
@@ -26,17 +26,9 @@ use Rattle.minimax.specs.declared.search.Node.{Node}
 use Rattle.minimax.specs.declared.search.Best.{Best}
 use Rattle.minimax.specs.declared.search.NodeResult.{NodeResult}
 use Rattle.minimax.specs.Structs.{structs}
+use Rattle.minimax.specs.Report.{bytes-of, responses-of}
 
 -- ---- the state
-abbrev pub byte-of : Move → ℕ
-byte-of m = m .bits
-
-abbrev pub bytes-of : List Move → List ℕ
-bytes-of ms = map byte-of ms
-
-abbrev pub responses-of : ResponseTables → Responses
-responses-of t = record { to-x = bytes-of (t .x); to-o = bytes-of (t .o) }
-
 abbrev pub tally-of : SearchState → Tally
 tally-of s = counts (s .visited) (s .terminal) (s .cuts) (s .«tt_hit») (s .«tt_suffice»)
 

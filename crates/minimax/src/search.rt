@@ -250,10 +250,10 @@ impl NodeResult {
 }
 
 // The response, or lacking one the variation's move.
-fn hint(answer: Move, pv: Move) -> Move
-    ensures { λ r. ⌜ r ≡ (if eqb (answer .bits) no-move then (λ _. pv) else λ _. answer) ⌝ }
+fn hint(response: Move, pv: Move) -> Move
+    ensures { λ r. ⌜ r ≡ (if eqb (response .bits) no-move then (λ _. pv) else λ _. response) ⌝ }
 {
-    if answer.is_none() { pv } else { answer }
+    if response.is_none() { pv } else { response }
 }
 
 impl Best {
@@ -348,7 +348,8 @@ impl Node {
     // Stores what the search over the moves found, unless it was stopped.
     fn store(self, found: NodeResult, words: &mut [u64])
         requires { ⌜ (0 < self .depth) × (self .depth ≤ console .deepest) ⌝ }
-        ensures { λ _. ⌜ outcome-of self found (now (words .exit)) ≡ then-stored self (outcome-of self found (now (words .entry))) ⌝ }
+        ensures { λ _. ⌜ outcome-of self found (now (words .exit))
+            ≡ then-stored self (outcome-of self found (now (words .entry))) ⌝ }
     {
         if found.stopped {
             return;

@@ -37,7 +37,7 @@ use Rattle.order.specs.declared.MoveOrder.{MoveOrder}
 use Rattle.order.specs.declared.NextMove.{NextMove}
 use Rattle.order.specs.Order.{marked, candidates-left, Step, with-mark, step, step-of, NextOf, unmarked, order-left}
 
--- ---- a new walk
+-- ---- a new order
 pub new-order : (g : Game) (first second : Move) (list : MoveIterator) → list ≡ cursor-over (moves (position-of g))
     → candidates-left (record { first = first; second = second; list = list }) ≡ some-move (first .bits) ++
     (some-move (second .bits) ++ moves (position-of g))
@@ -152,11 +152,11 @@ module _ (ok : ℕ → Bool) where
       (λ _. if-both FirstOf (ok m) _ _ _ _ (λ _. (refl, refl)) (λ _. step-first (with-mark seen m) ms))
 
 -- with no mark, the order's moves with no repeat
-pub walk-new : (g : Game) (w : MoveOrder) (ms : List ℕ) → (candidates-left (w .left) ≡ ms) ×
+pub order-new : (g : Game) (w : MoveOrder) (ms : List ℕ) → (candidates-left (w .left) ≡ ms) ×
     ((k : ℕ) → marked (w .seen) k ≡ false)
     → order-left g w ≡ fresh (accepts (position-of g)) [] ms
 unfolding elem
-walk-new g w ms e = (λ i. unmarked (ok g) (λ k. e .1 k i) (e .0 i)) ∙ unmarked-listed (ok g) [] ms
+order-new g w ms e = (λ i. unmarked (ok g) (λ k. e .1 k i) (e .0 i)) ∙ unmarked-listed (ok g) [] ms
 
 -- the next of those left and the game after it, with the rest; where there is none the empty move and the game itself, with nothing left
 abbrev pub NextIs : Game → List ℕ → NextMove → Type 0

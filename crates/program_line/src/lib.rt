@@ -54,15 +54,8 @@ fn reported(game: Game, status: Status, report: Report) -> AnswerText
         return AnswerText::refused(number);
     }
     let legal = game.legal_moves() as u64;
-    let line = report.pv;
-    AnswerText::answer(
-        status,
-        legal,
-        report.depth,
-        report.score,
-        report.count,
-        line,
-    )
+    let pv = report.pv;
+    AnswerText::answer(status, legal, report.depth, report.score, report.count, pv)
 }
 
 // What a position that was read is answered as.

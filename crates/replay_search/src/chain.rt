@@ -21,7 +21,7 @@ pub struct ChainStep {
     pub state: Minimax,
 }
 
-// The answers that the first search begins with.
+// The response tables that the first search begins with.
 pub struct Begun {
     pub good: bool,
     pub state: Minimax,

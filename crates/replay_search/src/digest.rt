@@ -1,4 +1,4 @@
-// What the driver around the Rust prints of a memory: digests (FNV-1a, 64 bits), and how many answers and entries there are.
+// What the driver around the Rust prints of a memory: digests (FNV-1a, 64 bits), and how many responses and entries there are.
 use boards::Move;
 use minimax::Minimax;
 
@@ -58,7 +58,7 @@ pub fn of_table(words: &[u64]) -> u64 {
     digest
 }
 
-// With `before` others.
+// How many moves have a response, and `before` more.
 fn how_many(before: usize, answers: [Move; 256]) -> usize {
     let mut n = before;
     for i in 0..256 {

@@ -121,7 +121,7 @@ fn same_memory(numbers: &[u64], r: Report, table: &[u64]) -> bool {
     digest::used(table) == decimals::at(numbers, 8)
 }
 
-fn same_walk(numbers: &[u64], r: Report) -> bool {
+fn same_search(numbers: &[u64], r: Report) -> bool {
     let depth = decimals::at(numbers, 2) as usize;
     if depth > PLACES {
         return false;
@@ -142,7 +142,7 @@ pub fn is_met(numbers: &[u64], r: Report, table: &[u64]) -> bool {
     if !same_result(numbers, r) {
         return false;
     }
-    if !same_walk(numbers, r) {
+    if !same_search(numbers, r) {
         return false;
     }
     same_memory(numbers, r, table)

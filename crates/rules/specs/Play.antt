@@ -42,8 +42,8 @@ checks p b c =
 unfoldable pub accepts : Position → ℕ → Bool
 accepts p m = all-pass (checks p (board-of m) (cell-of m))
 
--- ---- the position after the side to move, w, has played cell c of board b: the cell is w's, the board and then the game are looked at for
--- w's lines, and the next board is the cell's number if that board is still in play, else free choice
+-- ---- the position after w, whose turn it is, has played cell c of board b: the cell is w's; w's lines decide the board, and then the game;
+-- board c is next, or any board where c is closed
 unfoldable pub after : Position → ℕ → ℕ → Position
 after p b c =
     let w = p .turn in

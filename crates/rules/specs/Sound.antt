@@ -7,8 +7,7 @@ use Rattle.rules.specs.declared.NextBoard.the-variants.{Any, Only}
 use Rattle.rules.specs.Board.{sides, nine, has-line}
 use Rattle.rules.specs.Position.{Position, unfinished, open-board, won-boards, free-cell, has}
 
--- document 01's "sound", asked of an unfinished position: no side has a line of boards, and each board in play has an empty cell and no
--- side's line
+-- sound, which is asked of unfinished positions: neither side's boards make a line, and a board still in play is neither full nor won
 unfoldable pub sound : Position → Bool
 sound p =
     all (λ w. not (has-line (won-boards p w))) sides &&

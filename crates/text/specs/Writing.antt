@@ -39,7 +39,6 @@ unfoldable pub text-of : Position → List ℕ
 text-of p = letter (p .turn) ∷ semicolon ∷ (map (overall-byte p) nine ++ (semicolon ∷ joined-by slash (board-text p) nine))
 
 -- ---- the same, byte by byte
--- ---- the text of a position
 -- what stands at place k of the cells' 89: cell k % 10 of board k / 10, and a `/` after nine of them
 unfoldable pub cells-byte : Position → ℕ → ℕ
 cells-byte p k = if eqb (k % 10) 9 then (λ _. slash) else λ _. cell-byte (p .cells (k / 10) (k % 10))

@@ -234,19 +234,19 @@ junk-passed-over : run unlimited 8 12 junk
 unfolding answer
 junk-passed-over = refl
 
--- ---- variations, walked: to the depth, or to the game's end if sooner, whatever stands after it
-walked : (play-out nim 4 (start 14) (2 ∷ 1 ∷ 3 ∷ 3 ∷ []) .accepted ≡ true) ×
+-- ---- variations, played out: to the depth, or to the game's end if sooner, whatever stands after it
+played-out : (play-out nim 4 (start 14) (2 ∷ 1 ∷ 3 ∷ 3 ∷ []) .accepted ≡ true) ×
     (ends-on nim 4 (start 14) (2 ∷ 1 ∷ 3 ∷ 3 ∷ []) ≡ negsuc 2) ×
     (play-out nim 4 (start 4) (2 ∷ 2 ∷ 7 ∷ 7 ∷ []) .accepted ≡ true) ×
     (ends-on nim 4 (start 4) (2 ∷ 2 ∷ 7 ∷ 7 ∷ []) ≡ lost) × (ends-on nim 1 (start 3) (3 ∷ []) ≡ won)
 unfolding play-out ends-on elem if_then_else_
-walked = (refl, refl, refl, refl, refl)
+played-out = (refl, refl, refl, refl, refl)
 
 -- a variation that is too short, or has a move that is not accepted, is not
-not-walked : (play-out nim 4 (start 14) (2 ∷ 1 ∷ 3 ∷ []) .accepted ≡ false) ×
+not-played-out : (play-out nim 4 (start 14) (2 ∷ 1 ∷ 3 ∷ []) .accepted ≡ false) ×
     (play-out nim 2 (start 4) (2 ∷ 3 ∷ []) .accepted ≡ false)
 unfolding play-out elem if_then_else_
-not-walked = (refl, refl)
+not-played-out = (refl, refl)
 
 -- ---- the table is on
 -- seven entries, all zero: some positions are hit, and some of the hits suffice

@@ -1,4 +1,4 @@
--- A variation whose every move attains the score: walked, it is accepted and ends on that score.
+-- A variation whose every move attains the score: played out, it is accepted and ends on that score.
 use mathlib.Core.Path.{_≡_, refl, sym, ap, _∙_}
 use mathlib.Core.Bool.{Bool, true, false, not, cond}
 use mathlib.Core.List.{List, [], _∷_}

@@ -1,4 +1,4 @@
--- The deepening search: depth 1, 2, .. to the limit, ending sooner at a score of 2^60 or beyond either way.
+-- The deepening search: one depth after another up to the limit, or until a score says that the game is won or lost.
 use mathlib.Core.Bool.{Bool, true, false, _||_}
 use mathlib.Core.List.{List, [], _∷_, _++_}
 use Prim.Native.Nat.{ℕ, zero, suc}

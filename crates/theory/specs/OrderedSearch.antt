@@ -1,4 +1,4 @@
--- The ordered search: the best over the moves left, each move scored by the search below it, within the window.
+-- The ordered search: move by move in a given order, each scored by the same search one depth lower, as far as a window shows.
 use mathlib.Core.Bool.{Bool, true}
 use mathlib.Core.List.{List, [], _∷_, _++_}
 use mathlib.Core.Option.{Option, none, some}

@@ -1,4 +1,4 @@
--- Plain minimax: at depth 0 or game over the evaluation; else the best over the list of moves of the negated value one ply lower.
+-- Plain minimax: a leaf's value is its evaluation, any other position's the greatest of its moves' values as the other side sees them.
 use mathlib.Core.List.{List, [], _∷_}
 use Prim.Native.Nat.{ℕ, zero, suc}
 use lib.IntN.{ℤ, pos, negsuc, negℤ}

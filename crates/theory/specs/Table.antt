@@ -1,4 +1,4 @@
--- The table: a row of 64-bit words, three an entry: hash; value as two's complement; depth + 256 × bound + 65,536 × move.
+-- The table: words of 64 bits, three for each entry (the hash; the value; depth, bound and move in one word).
 use mathlib.Core.Bool.{Bool, true, _&&_}
 use mathlib.Core.List.{List}
 use mathlib.Core.Option.{Option, none, some}
@@ -30,7 +30,7 @@ to-word (negsuc n) = 0xffff_ffff_ffff_ffff - n
 abbrev pub rest-of : Entry → ℕ
 rest-of e = e .depth + 256 * e .bound + 65536 * e .move
 
--- an entry is absent unless depth is 1 to the deepest, bound 0 to 2, the value from -2^60 - 1 to 2^60 + 1, and all higher bits zero
+-- what two words say, if they are an entry: a depth that can be asked, a bound, a move, a value within the root's window, and nothing above
 unfoldable pub entry-of : ℕ → ℕ → Option Entry
 entry-of value rest =
     let v = from-word value in

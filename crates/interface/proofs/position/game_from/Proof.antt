@@ -14,13 +14,13 @@ shared-slice-read-side-from c =
 side-from-requires : tie.Need-side-from-requires
 side-from-requires c κs = search needs
 
-shared-slice-read-due-from : tie.Need-shared-slice-read-due-from
-shared-slice-read-due-from c =
+shared-slice-read-next-board-from : tie.Need-shared-slice-read-next-board-from
+shared-slice-read-next-board-from c =
     let s = c .before .before .before .before in
     omega (arith, twelve (s .args .words .now) (s .pre))
 
-due-from-requires : tie.Need-due-from-requires
-due-from-requires c κs =
+next-board-from-requires : tie.Need-next-board-from-requires
+next-board-from-requires c κs =
     let s = c .before .before .before .before in
     omega (arith, word-most (s .args .words .now) (s .pre) 9 (omega arith))
 
@@ -117,7 +117,7 @@ returns c =
     let due = row1 .before .before .before in
     let side = due .before .before in
     let s = side .before .before .before in
-    game-made (s .args .words .now) _ _ _ _ _ _ (side .side-from .ensures) (due .due-from .ensures) (state .state-from .ensures)
+    game-made (s .args .words .now) _ _ _ _ _ _ (side .side-from .ensures) (due .next-board-from .ensures) (state .state-from .ensures)
     (row1 .row .ensures) (row2 .row2 .ensures) (row3 .row3 .ensures)
 
 pub game-from-spec : {M : Type 1} → statement M
@@ -126,8 +126,8 @@ game-from-spec =
     (tie.spec
     shared-slice-read-side-from
     side-from-requires
-    shared-slice-read-due-from
-    due-from-requires
+    shared-slice-read-next-board-from
+    next-board-from-requires
     shared-slice-read-row
     shared-slice-read-row-2
     row-requires

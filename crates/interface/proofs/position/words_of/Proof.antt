@@ -51,8 +51,8 @@ cast-t33 c = search needs
 as-bit-requires : tie.Need-as-bit-requires
 as-bit-requires c κs = search needs
 
-due-word-requires : tie.Need-due-word-requires
-due-word-requires c κs = search needs
+next-board-word-requires : tie.Need-next-board-word-requires
+next-board-word-requires c κs = search needs
 
 number-requires : tie.Need-number-requires
 number-requires c κs = search needs
@@ -69,7 +69,7 @@ returns c =
     let n : length (s .args .game .«local_boards» .rows) ≡ 3 = simp length-map at (s .good .0 .1 .1 .1 .1 .0 .1 .1 .0 .1 .0 .1) in
     words-made (s .args .game) _ _ _ _ _ _ _ _ _ n (at-wide .wide .ensures) (at-wide2 .wide2 .ensures) (at-wide3 .wide3 .ensures)
     (at-wide4 .wide4 .ensures) (at-wide5 .wide5 .ensures) (c .before .before .before .before .before .wide6 .ensures)
-    (c .before .before .as-bit .ensures) (c .before .due-word .ensures) (c .number .ensures)
+    (c .before .before .as-bit .ensures) (c .before .next-board-word .ensures) (c .number .ensures)
 
 pub words-of-spec : {M : Type 1} → statement M
 words-of-spec =
@@ -90,6 +90,6 @@ words-of-spec =
     cast-t32
     cast-t33
     as-bit-requires
-    due-word-requires
+    next-board-word-requires
     number-requires
     returns)

@@ -4,7 +4,7 @@ use Prim.Native.Nat.{_-_, _≤_}
 use native.Mathlib.Omega.{arith}
 use lib.ListN.{length, drop, take, length-set}
 use denote.Ref.{now}
-use Rattle.minimax.specs.State.{bytes-of}
+use Rattle.minimax.specs.Report.{bytes-of}
 use Rattle.interface.proofs.CallsReport.{moves-next, moves-end}
 use borrow.Author.Needs.{needs}
 use Rattle.interface.proofs.report.moves_from.Statement.{statement}

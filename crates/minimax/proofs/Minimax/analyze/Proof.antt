@@ -1,7 +1,8 @@
 -- Refused at the entry, or searched.
 use mathlib.Core.Path.{sym, ap, _∙_}
 use Rattle.minimax.specs.Structs.{structs}
-use Rattle.minimax.specs.Report.{scoring-of, entry-number, settings-of}
+use Rattle.minimax.specs.Completed.{entry-number}
+use Rattle.minimax.specs.Report.{scoring-of, settings-of}
 use Rattle.minimax.proofs.ReportRefusals.{limits, refused-reported, accepted-reported}
 use borrow.Author.Needs.{needs}
 use Rattle.minimax.proofs.Minimax.analyze.Statement.{statement}

@@ -16,7 +16,7 @@ use Rattle.base.proofs.Signed.{result}
 use Rattle.minimax.proofs.StateScores.{told}
 use Rattle.minimax.proofs.StateEntering.{Begun as Entering, Looked, Knows, Goes, may-enter, may-leaf, may-hit, may-suffice}
 use Rattle.minimax.proofs.StateEntering.{stop-gives, leaf-gives, none-goes, known-gives, some-goes, goes-gives, goes-on}
-use Rattle.minimax.proofs.StateMoves.{stand, Turn, Begun, Held, Met, Brought, Raised, walk-shorter, words-long, may-raise}
+use Rattle.minimax.proofs.StateMoves.{stand, Turn, Begun, Held, Met, Brought, Raised, order-shorter, words-long, may-raise}
 use Rattle.minimax.proofs.StateMoves.{turn-first, turn-done, may-count, may-tell-leaf, leaf-below, stop-below, by-parts}
 use Rattle.minimax.proofs.StateMoves.{under-asked, under-counted, under-lower, turn-stopped, score-within, cut-room, turn-not}
 use Rattle.minimax.proofs.StateMoves.{turn-better, turn-cut}
@@ -43,7 +43,7 @@ use Rattle.minimax.proofs.search.Node.evaluated.Reads as evaluated-read
 use Rattle.minimax.proofs.search.Node.is_leaf.Reads as is-leaf-reads
 use Rattle.minimax.proofs.search.Node.store.Reads as leave-reads
 use Rattle.minimax.proofs.search.Node.suffices.Reads as suffices-reads
-use Rattle.minimax.proofs.search.Node.order.Reads as walk-reads
+use Rattle.minimax.proofs.search.Node.order.Reads as order-reads
 use Rattle.minimax.proofs.search.Best.is_below.Reads as is-below-reads
 use Rattle.minimax.proofs.search.Best.raise.Reads as raise-reads
 use Rattle.minimax.proofs.search.NodeResult.known.Reads as known-reads
@@ -109,8 +109,8 @@ minimax-env t = (
 
 abbrev moves-env : ℕ → moves-lts.Claims
 moves-env t = (
-  walk-reads.Asked,
-  walk-reads.Learnt,
+  order-reads.Asked,
+  order-reads.Learnt,
   best-reads.Asked,
   best-reads.Learnt,
   empty-reads.Asked,
@@ -146,11 +146,11 @@ moves-env t = (
 )
 
 abbrev moves-Inv-loop : moves-lts.InvT-loop
-moves-Inv-loop a words₀ game walk₀ s₀ best₀ local₀ words walk s best local =
-    Turn a (stand words₀ walk₀ s₀ best₀ local₀) (stand words walk s best local)
+moves-Inv-loop a words₀ game order₀ s₀ best₀ local₀ words order s best local =
+    Turn a (stand words₀ order₀ s₀ best₀ local₀) (stand words order s best local)
 
 abbrev moves-μ-loop : moves-lts.MeasureT-loop
-moves-μ-loop a words₀ game walk₀ s₀ best₀ local₀ words walk s best local = length (order-left (a .game) walk)
+moves-μ-loop a words₀ game order₀ s₀ best₀ local₀ words order s best local = length (order-left (a .game) order)
 
 module _ (t : ℕ) where
   -- what is known at a place of each function, and what is needed there
@@ -312,7 +312,7 @@ module _ (t : ℕ) where
     three = simp length-map at (start .good .0 .1 .1 .0 .1 .1 .1 .1 .0 .1 .1 .0 .1 .0 .1);
     asked = start .pre .1 .0;
     ready = start .pre .1 .1;
-    walk-is = c .before .before .order .ensures (now (start .args .words));
+    order-is = c .before .before .order .ensures (now (start .args .words));
     best-is = c .before .best .ensures;
     local-is = c .empty .ensures;
   }
@@ -481,13 +481,13 @@ module _ (t : ℕ) where
       ∙ c .before .before .if6 .taken) (c .before .cut .ensures) (c .of2 .ensures)
 
   moves-loop-less : Moves moves-lts.Need-loop-less
-  moves-loop-less c = walk-shorter (whole (c .before .before .before .before .before))
+  moves-loop-less c = order-shorter (whole (c .before .before .before .before .before))
 
   moves-loop-again : Moves moves-lts.Need-loop-again
   moves-loop-again c = turn-better (raised (c .before .before)) (sym (c .before .is-cut .ensures) ∙ c .if6 .left)
 
   moves-loop-less-2 : Moves moves-lts.Need-loop-less-2
-  moves-loop-less-2 c = walk-shorter (whole (c .before .before))
+  moves-loop-less-2 c = order-shorter (whole (c .before .before))
 
   moves-loop-again-2 : Moves moves-lts.Need-loop-again-2
   moves-loop-again-2 c = turn-not (whole (c .before .before)) (sym (c .before .is-below .ensures) ∙ c .if5 .left)
