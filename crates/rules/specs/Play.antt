@@ -42,7 +42,7 @@ checks p b c =
 unfoldable pub accepts : Position → ℕ → Bool
 accepts p m = all-pass (checks p (board-of m) (cell-of m))
 
--- ---- the position after w, whose turn it is, has played cell c of board b: the cell is w's; w's lines decide the board, and then the game;
+-- ---- the position after w, whose turn it is, has played cell c of board b: the cell is w's; w's lines decide the board, then the game;
 -- board c is next, or any board where c is closed
 unfoldable pub after : Position → ℕ → ℕ → Position
 after p b c =

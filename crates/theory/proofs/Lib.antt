@@ -13,3 +13,4 @@ pub mod OrderedSearchGrowth
 pub mod OrderedSearchRange
 pub mod GameNim
 pub mod Table
+pub mod Reported
