@@ -71,12 +71,12 @@ uint64_t ultimattt_render(const uint64_t *position, size_t position_len, uint8_t
 uint64_t ultimattt_play(uint64_t *position, size_t position_len, const uint8_t *moves, size_t moves_len, uint8_t *answers, size_t answers_len);
 
 /* Tries moves from a position, then searches and analyses the position reached. depth: 1 to 81; allowance: positions that may be entered, 1 to
- * 1,000,000,000; draw_winner: for whom a drawn game counts as won, 0 nobody, 1 X, 2 O. answers: 512 remembered answers, to X's moves and
- * then to O's, each at the move it answers; 0xff for none. words: the table, three words an entry, at first zeros; empty, the table is off.
- * A number of words that is no multiple of 3, or over 196,608, is 17. answers and words are as the search left them. 14, which the endgame
+ * 1,000,000,000; draw_winner: for whom a drawn game counts as won, 0 nobody, 1 X, 2 O. responses: 512 of them, to X's moves and
+ * then to O's, each at the move that it responds to; 0xff for none. words: the table, three words an entry, at first zeros; empty, the table is off.
+ * A number of words that is no multiple of 3, or over 196,608, is 17. responses and words are as the search left them. 14, which the endgame
  * analysis alone gives, is in the report. Returns the report's number: 0, or 15 to 18. */
 uint64_t ultimattt_analyze(const uint64_t *position, size_t position_len, const uint8_t *moves, size_t moves_len, uint64_t depth, uint64_t allowance,
-                           uint64_t draw_winner, uint8_t *answers, size_t answers_len, uint64_t *words, size_t words_len, uint64_t *report,
+                           uint64_t draw_winner, uint8_t *responses, size_t responses_len, uint64_t *words, size_t words_len, uint64_t *report,
                            size_t report_len);
 
 #ifdef __cplusplus

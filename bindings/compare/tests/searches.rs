@@ -78,7 +78,7 @@ fn chains_of_searches_are_the_same() {
             assert_eq!(report.line.iter().map(|m| m.0).collect::<Vec<_>>(), line.iter().map(|m| m.bits()).collect::<Vec<_>>());
             assert_eq!(report.stats, counted);
             assert_eq!(report.count, counted.iter().map(|s| s.visited).sum::<u64>());
-            assert_eq!(memory.answers.to_vec(), probe::responses(&rust));
+            assert_eq!(memory.responses.to_vec(), probe::responses(&rust));
             assert_eq!(memory.words, probe::words(&rust));
             same_analysis(&report, &game);
             met[table] += 1;
@@ -122,7 +122,7 @@ fn stopped_searches_are_the_same() {
         assert_eq!(report.score, counted.last().map_or(0, |s| s.score));
         assert_eq!(report.stats, counted);
         assert_eq!(report.line.iter().map(|m| m.0).collect::<Vec<_>>(), said.pv.iter().map(|m| m.bits()).collect::<Vec<_>>());
-        assert_eq!(memory.answers.to_vec(), st::responses(&rust));
+        assert_eq!(memory.responses.to_vec(), st::responses(&rust));
         assert_eq!(memory.words, st::words(&rust));
         same_analysis(&report, &game);
         met[if refused { 2 } else { said.stopped as usize }] += 1;

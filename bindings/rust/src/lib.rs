@@ -22,8 +22,8 @@ mod calls {
             depth: u64,
             allowance: u64,
             draw_winner: u64,
-            answers: *mut u8,
-            answers_len: usize,
+            responses: *mut u8,
+            responses_len: usize,
             words: *mut u64,
             words_len: usize,
             report: *mut u64,
@@ -186,17 +186,17 @@ pub struct Settings {
     pub draw_winner: Option<Player>,
 }
 
-/// What a search keeps for the next: the remembered answers to X's moves and to O's, and the table, three words an entry.
+/// What a search keeps for the next: the responses to X's moves and to O's, and the table, three words an entry.
 #[derive(Clone, Debug, PartialEq, Eq)]
 pub struct Memory {
-    pub answers: [u8; 512],
+    pub responses: [u8; 512],
     pub words: Vec<u64>,
 }
 
 impl Memory {
-    /// No answers, and an empty table of so many entries; 0 is a table that is off.
+    /// No responses, and an empty table of so many entries; 0 is a table that is off.
     pub fn new(entries: usize) -> Memory {
-        Memory { answers: [0xff; 512], words: vec![0; 3 * entries] }
+        Memory { responses: [0xff; 512], words: vec![0; 3 * entries] }
     }
 }
 
@@ -282,8 +282,8 @@ pub fn analyze(position: &Position, moves: &[Move], settings: Settings, memory: 
             settings.depth,
             settings.allowance,
             draw_winner,
-            memory.answers.as_mut_ptr(),
-            memory.answers.len(),
+            memory.responses.as_mut_ptr(),
+            memory.responses.len(),
             memory.words.as_mut_ptr(),
             memory.words.len(),
             report.as_mut_ptr(),

@@ -217,7 +217,7 @@ module _ (p ms : List ℕ) (depth allowance draws : ℕ) (answers words report :
   wrongly bad =
       record {
         returns = returned-bad _ _ bad;
-        answers-is = left-kept _ answers _ bad;
+        responses-is = left-kept _ answers _ bad;
         words-is = kept-words _ _ bad;
         report-is = left-kept _ report _ bad;
       }
@@ -288,7 +288,7 @@ module _ (p ms : List ℕ) (depth allowance draws : ℕ) (answers words report :
                 (le-leb 655 (length report) b))) in
                 record {
                   returns = returned-well n (x .number) _ all (y ∙ ap (λ (k : Reported). k .number) found-is);
-                  answers-is =
+                  responses-is =
                       left-written (responses-bytes (x .responses)) answers answers-after _ all
                       (omega (arith, sym (ap length answers-are) ∙ u .many)) (u .stored ∙ ap (sets answers 0) answers-are);
                   words-is = left-words words-after (x .table) _ all (ap (λ (k : Reported). k .table) found-is);

@@ -91,7 +91,7 @@ scoring-from n = scoring-with (draws-from n)
 
 -- the response tables as bytes: to X's moves, then to O's
 abbrev pub responses-from : List ℕ → Responses
-responses-from answers = record { to-x = take 256 answers; to-o = take 256 (drop 256 answers) }
+responses-from bytes = record { to-x = take 256 bytes; to-o = take 256 (drop 256 bytes) }
 
 abbrev pub responses-bytes : Responses → List ℕ
 responses-bytes rs = rs .to-x ++ rs .to-o
@@ -114,20 +114,20 @@ head-words x refusal status =
 abbrev pub report-words : Reported → ℕ → ℕ → List ℕ
 report-words x refusal status = head-words x refusal status ++ (x .pv ++ all-stats (x .stats))
 
-module _ (position moves : List ℕ) (depth allowance draws : ℕ) (answers words report : List ℕ) where
+module _ (position moves : List ℕ) (depth allowance draws : ℕ) (responses words report : List ℕ) where
   abbrev pub analyze-ok : Bool
-  analyze-ok = is-position position && (leb draws 2 && (leb 512 (length answers) && leb 655 (length report)))
+  analyze-ok = is-position position && (leb draws 2 && (leb 512 (length responses) && leb 655 (length report)))
 
   abbrev pub analysed : Game
   analysed = games-after (game-from position) moves
 
   abbrev pub found : Reported
   found =
-      reported (structs (scoring-from draws)) (record { max-depth = depth; allowance = allowance }) analysed (responses-from answers) words
+      reported (structs (scoring-from draws)) (record { max-depth = depth; allowance = allowance }) analysed (responses-from responses) words
 
-  pub record Analyzes (answers-after words-after report-after : List ℕ) (r : ℕ) : Type 0 where
+  pub record Analyzes (responses-after words-after report-after : List ℕ) (r : ℕ) : Type 0 where
     pub returns : r ≡ returned analyze-ok (found .number)
-    pub answers-is : answers-after ≡ left analyze-ok (responses-bytes (found .responses)) answers
+    pub responses-is : responses-after ≡ left analyze-ok (responses-bytes (found .responses)) responses
     pub words-is : words-after ≡ (if analyze-ok then (λ _. found .table) else λ _. words)
     pub report-is :
         report-after ≡ left analyze-ok (report-words found (analysis (position-of analysed) .refusal)

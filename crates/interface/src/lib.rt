@@ -90,7 +90,7 @@ pub extern "C" fn ultimattt_play(position: &mut [u64], moves: &[u8], answers: &m
 }
 
 // The endgame analysis and the search, after moves tried from a position: 0, or refusal 15 to 18.
-// The draw winner is 0 for nobody, 1 for X, 2 for O. The 512 responses in answers are those to X's moves, then those to O's, each
+// The draw winner is 0 for nobody, 1 for X, 2 for O. The 512 responses are those to X's moves, then those to O's, each
 // by the move it responds to; the table is in words, and off without any.
 #[no_mangle]
 pub extern "C" fn ultimattt_analyze(
@@ -99,13 +99,13 @@ pub extern "C" fn ultimattt_analyze(
     depth: u64,
     allowance: u64,
     draw_winner: u64,
-    answers: &mut [u8],
+    responses: &mut [u8],
     words: &mut [u64],
     report: &mut [u64],
 ) -> u64
     ensures { λ r. ⌜ Analyzes (now (position .entry)) (now (moves .entry)) depth allowance «draw_winner»
-        (now (answers .entry)) (now (words .entry)) (now (report .entry))
-        (now (answers .exit)) (now (words .exit)) (now (report .exit)) r ⌝ }
+        (now (responses .entry)) (now (words .entry)) (now (report .entry))
+        (now (responses .exit)) (now (words .exit)) (now (report .exit)) r ⌝ }
 {
     if !position::is_position(position) {
         return BAD_ARGUMENT;
@@ -113,7 +113,7 @@ pub extern "C" fn ultimattt_analyze(
     if draw_winner > 2 {
         return BAD_ARGUMENT;
     }
-    if answers.len() < 512 {
+    if responses.len() < 512 {
         return BAD_ARGUMENT;
     }
     if report.len() < 655 {
@@ -125,8 +125,8 @@ pub extern "C" fn ultimattt_analyze(
         allowance,
         draw_winner: report::draws_from(draw_winner),
     };
-    let found = report::memory(answers).analyze(game, config, words);
-    report::put_memory(answers, found.state);
+    let found = report::memory(responses).analyze(game, config, words);
+    report::put_memory(responses, found.state);
     report::put(report, found, Analysis::new(game));
     let ending = found.ending;
     ending.number()

@@ -47,12 +47,12 @@ fn moves_from(bytes: &[u8], at: usize) -> [Move; 256]
     moves
 }
 
-pub(crate) fn memory(answers: &[u8]) -> Minimax
-    requires { ⌜ 512 ≤ length (now answers) ⌝ }
-    ensures { λ r. ⌜ responses-of (r .responses) ≡ responses-from (now (answers .entry)) ⌝ }
+pub(crate) fn memory(responses: &[u8]) -> Minimax
+    requires { ⌜ 512 ≤ length (now responses) ⌝ }
+    ensures { λ r. ⌜ responses-of (r .responses) ≡ responses-from (now (responses .entry)) ⌝ }
 {
-    let x = moves_from(answers, 0);
-    let o = moves_from(answers, 256);
+    let x = moves_from(responses, 0);
+    let o = moves_from(responses, 256);
     Minimax {
         responses: ResponseTables { x, o },
     }
@@ -69,15 +69,15 @@ fn put_moves(out: &mut [u8], at: usize, moves: [Move; 256])
     }
 }
 
-pub(crate) fn put_memory(answers: &mut [u8], state: Minimax)
-    requires { ⌜ 512 ≤ length (now answers) ⌝ }
-    ensures { λ _. ⌜ Puts (now (answers .entry)) (responses-bytes (responses-of (state .responses))) 512 (now (answers .exit)) ⌝ }
+pub(crate) fn put_memory(responses: &mut [u8], state: Minimax)
+    requires { ⌜ 512 ≤ length (now responses) ⌝ }
+    ensures { λ _. ⌜ Puts (now (responses .entry)) (responses-bytes (responses-of (state .responses))) 512 (now (responses .exit)) ⌝ }
 {
     let responses = state.responses;
     let x = responses.x;
     let o = responses.o;
-    put_moves(answers, 0, x);
-    put_moves(answers, 256, o);
+    put_moves(responses, 0, x);
+    put_moves(responses, 256, o);
 }
 
 fn spent(why: SearchError) -> u64

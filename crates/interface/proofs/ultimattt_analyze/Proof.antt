@@ -15,23 +15,23 @@ is-position-requires c κs = search needs
 
 returns : tie.Need-returns
 returns c = let s = c .before .before .before .before .before .before .before .args in
-    analyzes-none (s .position .now) (s .moves .now) (s .depth) (s .allowance) (s .draw-winner) (s .answers .now) (s .words .now)
+    analyzes-none (s .position .now) (s .moves .now) (s .depth) (s .allowance) (s .draw-winner) (s .responses .now) (s .words .now)
     (s .report .now) (sym (c .before .is-position .ensures) ∙ not-true _ (c .if1 .taken))
 
 returns-2 : tie.Need-returns-2
 returns-2 c = let s = c .before .before .before .before .before .before .before .before .args in
-    analyzes-no-draws (s .position .now) (s .moves .now) (s .depth) (s .allowance) (s .draw-winner) (s .answers .now) (s .words .now)
+    analyzes-no-draws (s .position .now) (s .moves .now) (s .depth) (s .allowance) (s .draw-winner) (s .responses .now) (s .words .now)
     (s .report .now) (sym (c .before .before .is-position .ensures) ∙ not-false _ (c .before .if1 .left)) (c .if2 .taken)
 
 returns-3 : tie.Need-returns-3
 returns-3 c = let s = c .before .before .before .before .before .before .before .before .before .args in
-    analyzes-few-answers (s .position .now) (s .moves .now) (s .depth) (s .allowance) (s .draw-winner) (s .answers .now) (s .words .now)
+    analyzes-few-answers (s .position .now) (s .moves .now) (s .depth) (s .allowance) (s .draw-winner) (s .responses .now) (s .words .now)
     (s .report .now) (sym (c .before .before .before .is-position .ensures) ∙ not-false _ (c .before .before .if1 .left))
     (c .before .if2 .left) (c .if3 .taken)
 
 returns-4 : tie.Need-returns-4
 returns-4 c = let s = c .before .before .before .before .before .before .before .before .before .before .args in
-    analyzes-no-report (s .position .now) (s .moves .now) (s .depth) (s .allowance) (s .draw-winner) (s .answers .now) (s .words .now)
+    analyzes-no-report (s .position .now) (s .moves .now) (s .depth) (s .allowance) (s .draw-winner) (s .responses .now) (s .words .now)
     (s .report .now) (sym (c .before .before .before .before .is-position .ensures)
     ∙ not-false _ (c .before .before .before .if1 .left)) (c .before .before .if2 .left) (c .before .if3 .left) (c .if4 .taken)
 
@@ -89,7 +89,7 @@ returns-5 c =
     let i1 = i2 .before in
     let is = i1 .before in
     let s = is .before .before .before .before .before .before .args in
-    analyzes-well (s .position .now) (s .moves .now) (s .depth) (s .allowance) (s .draw-winner) (s .answers .now) (s .words .now)
+    analyzes-well (s .position .now) (s .moves .now) (s .depth) (s .allowance) (s .draw-winner) (s .responses .now) (s .words .now)
     (s .report .now)
     (sym (is .is-position .ensures) ∙ not-false _ (i1 .if1 .left)) (i2 .if2 .left) (i3 .if3 .left) (i4 .if4 .left)
     (play .play-all .result) (play .play-all .ensures ∙ ap (λ (g : Game). games-after g (s .moves .now)) (game .game-from .ensures))

@@ -18,7 +18,7 @@ same-length c = search needs
 returns : tie.Need-returns
 returns c =
     let s = c .before .before .before .before .before .before .before .before .before .before .before .before in
-    both-put (s .args .answers .now) _ _ (s .args .state .responses .x) (s .args .state .responses .o)
+    both-put (s .args .responses .now) _ _ (s .args .state .responses .x) (s .args .state .responses .o)
     (simp length-map at (s .good .1 .0 .1 .1 .0 .1 .1 .0 .1 .0 .1)) (simp length-map at (s .good .1 .0 .1 .1 .0 .1 .1 .1 .0 .1 .0 .1))
     (c .before .before .before .before .before .before .put-moves .ensures) (c .before .before .put-moves2 .ensures)
 
