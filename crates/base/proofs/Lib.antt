@@ -12,3 +12,4 @@ pub mod ListsAgree
 pub mod BitsOnes
 pub mod ListsFilter
 pub mod Signed
+pub mod LineFeed

@@ -4,3 +4,4 @@ pub mod Update
 pub mod Integers
 pub mod Bits
 pub mod Checks
+pub mod LineFeed

@@ -1,7 +1,7 @@
 -- Each promise says the refusals of demand 1: the number is that of the first check that fails.
 use lib.Ieee.Bits.{is-true, is-false}
 use Rattle.demands.proofs.Demand1Lines.{asking-line-holds}
-use Rattle.demands.proofs.ReadingTexts.{reading-move-holds, reading-position-holds}
+use Rattle.demands.proofs.Demand1Texts.{reading-move-holds, reading-position-holds}
 use mathlib.Core.Path.{_≡_, refl, sym, ap, _∙_, subst}
 use mathlib.Core.Bool.{Bool, true, false, not, _||_, _&&_, or-assoc, Bool·not-not}
 use mathlib.Core.List.{List, [], _∷_, _++_}

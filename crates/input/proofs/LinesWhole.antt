@@ -8,8 +8,9 @@ use lib.ListN.{length, set, take, length-append, length-set}
 use lib.Seq.{take-suc-set, append-snoc}
 use borrow.Author.Tests.{lt-ltb, le-leb, ne-eqb}
 use Rattle.base.specs.Branch.{if_then_else_}
+use Rattle.base.specs.LineFeed.{UpToFeed, up-to-feed}
 use Rattle.input.specs.declared.InputLine.{InputLine}
-use Rattle.input.specs.Lines.{new-line, count-on, with-byte, complete-line, LineTaken, line-taken}
+use Rattle.input.specs.Lines.{new-line, count-on, with-byte, complete-line, KeptLine, line-taken}
 
 -- no byte of a list is a line feed
 abbrev pub Unbroken : List ℕ → Type 0
@@ -21,17 +22,17 @@ unfolding count-on if_then_else_
 one-more-is n h = rw (lt-ltb n 18446744073709551615 h) (omega arith)
 
 -- what is known of a line once `came` came, and then a line feed and `rest`
-record Kept (came rest : List ℕ) (room : ℕ) (t : LineTaken) : Type 0 where
-  pub length-is : t .line .length ≡ length came
-  pub room-is : length (t .kept) ≡ room
-  pub kept-is : take (length came) (t .kept) ≡ came
+record Kept (came rest : List ℕ) (room : ℕ) (t : UpToFeed KeptLine) : Type 0 where
+  pub length-is : t .line .counted .length ≡ length came
+  pub room-is : length (t .line .kept) ≡ room
+  pub kept-is : take (length came) (t .line .kept) ≡ came
   pub left-is : t .left ≡ rest
   pub found-is : t .found ≡ true
 
 goes : (l : InputLine) (kept came bs rest : List ℕ) → Unbroken bs → l .length ≡ length came → take (length came) kept ≡ came →
     length came + length bs ≤ length kept → length kept < 18446744073709551615 →
     Kept (came ++ bs) rest (length kept) (line-taken l kept (bs ++ (10 ∷ rest)))
-unfolding line-taken if_then_else_
+unfolding up-to-feed if_then_else_
 goes l kept came [] rest u e k fits small =
     rw (append-nil came) (record { length-is = e; room-is = refl; kept-is = k; left-is = refl; found-is = refl })
 goes l kept came (b ∷ bs) rest u e k fits small =
@@ -50,13 +51,13 @@ module _ (kept bs rest : List ℕ) (u : Unbroken bs) (fits : length bs ≤ lengt
   line-is-kept : Kept bs rest (length kept) (line-taken new-line kept (bs ++ (10 ∷ rest)))
   line-is-kept = goes new-line kept [] bs rest u refl refl (omega arith) small
 
-  pub whole-line : complete-line (line-taken new-line kept (bs ++ (10 ∷ rest)) .line)
-      (line-taken new-line kept (bs ++ (10 ∷ rest)) .kept) ≡ bs
+  pub whole-line : complete-line (line-taken new-line kept (bs ++ (10 ∷ rest)) .line .counted)
+      (line-taken new-line kept (bs ++ (10 ∷ rest)) .line .kept) ≡ bs
   unfolding complete-line if_then_else_
   whole-line =
       let l = line-is-kept in
-      let h : line-taken new-line kept (bs ++ (10 ∷ rest)) .line .length ≤ length
-      (line-taken new-line kept (bs ++ (10 ∷ rest)) .kept) = omega (arith, l .length-is, l .room-is) in
+      let h : line-taken new-line kept (bs ++ (10 ∷ rest)) .line .counted .length ≤ length
+      (line-taken new-line kept (bs ++ (10 ∷ rest)) .line .kept) = omega (arith, l .length-is, l .room-is) in
       rw (le-leb _ _ h, l .length-is) (l .kept-is)
 
   pub line-found : line-taken new-line kept (bs ++ (10 ∷ rest)) .found ≡ true

@@ -1,11 +1,12 @@
 -- A line of bytes, as far as it came.
 use mathlib.Core.Path.{_≡_}
-use mathlib.Core.Bool.{Bool, true, false, not, _&&_}
-use mathlib.Core.List.{List, [], _∷_, _++_}
+use mathlib.Core.Bool.{Bool, not, _&&_}
+use mathlib.Core.List.{List, [], _++_}
 use Prim.Native.Nat.{ℕ, _+_}
 use lib.Dec.{eqb, leb, ltb}
 use lib.ListN.{length, set, take, drop}
 use Rattle.base.specs.Branch.{if_then_else_}
+use Rattle.base.specs.LineFeed.{UpToFeed, up-to-feed}
 use Rattle.input.specs.declared.InputLine.{InputLine}
 use Rattle.input.specs.declared.Input.{Input}
 
@@ -24,18 +25,17 @@ with-byte l = record { length = count-on (l .length) }
 unfoldable pub complete-line : InputLine → List ℕ → List ℕ
 complete-line l kept = if leb (l .length) (length kept) then (λ _. take (l .length) kept) else λ _. []
 
--- what bytes make of a line and of what is kept of it, the bytes left after a line feed, and whether one was met
-pub record LineTaken : Type 0 where
-  pub line : InputLine
+-- a line with what is kept of it
+pub record KeptLine : Type 0 where
+  pub counted : InputLine
   pub kept : List ℕ
-  pub left : List ℕ
-  pub found : Bool
 
-unfoldable pub line-taken : InputLine → List ℕ → List ℕ → LineTaken
-line-taken l kept [] = record { line = l; kept = kept; left = []; found = false }
-line-taken l kept (b ∷ bs) =
-    if eqb b 0x0a then (λ _. record { line = l; kept = kept; left = bs; found = true })
-    else λ _. line-taken (with-byte l) (set kept (l .length) b) bs
+abbrev pub kept-with : KeptLine → ℕ → KeptLine
+kept-with k b = record { counted = with-byte (k .counted); kept = set (k .kept) (k .counted .length) b }
+
+-- what bytes make of a line and of what is kept of it, up to a line feed
+abbrev pub line-taken : InputLine → List ℕ → List ℕ → UpToFeed KeptLine
+line-taken l kept bs = up-to-feed kept-with (record { counted = l; kept = kept }) bs
 
 -- the bytes that are not yet used
 abbrev pub unused : Input → List ℕ → List ℕ
@@ -47,16 +47,16 @@ ended i = not (i .found) && eqb (i .line .length) 0
 -- the input after a line was taken from it, in an unchanged buffer
 pub record TakesLine (i : Input) (buffer kept : List ℕ) (r : Input) (after : List ℕ) : Type 0 where
   pub end-is : r .end ≡ i .end
-  pub line-is : r .line ≡ line-taken (i .line) kept (unused i buffer) .line
+  pub line-is : r .line ≡ line-taken (i .line) kept (unused i buffer) .line .counted
   pub found-is : r .found ≡ line-taken (i .line) kept (unused i buffer) .found
-  pub kept-is : after ≡ line-taken (i .line) kept (unused i buffer) .kept
+  pub kept-is : after ≡ line-taken (i .line) kept (unused i buffer) .line .kept
   pub left-is : unused r buffer ≡ line-taken (i .line) kept (unused i buffer) .left
   pub at-is : r .at + length (line-taken (i .line) kept (unused i buffer) .left) ≡ i .at + length (unused i buffer)
 
 -- the next line: the bytes that were not yet used, and then some that were read
 pub record ReadsLine (i : Input) (buffer kept : List ℕ) (r : Input) (buffer-after after : List ℕ) : Type 0 where
   pub came : List ℕ
-  pub line-is : r .line ≡ line-taken new-line kept (unused i buffer ++ came) .line
+  pub line-is : r .line ≡ line-taken new-line kept (unused i buffer ++ came) .line .counted
   pub found-is : r .found ≡ line-taken new-line kept (unused i buffer ++ came) .found
-  pub kept-is : after ≡ line-taken new-line kept (unused i buffer ++ came) .kept
+  pub kept-is : after ≡ line-taken new-line kept (unused i buffer ++ came) .line .kept
   pub left-is : unused r buffer-after ≡ line-taken new-line kept (unused i buffer ++ came) .left

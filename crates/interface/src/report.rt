@@ -73,9 +73,9 @@ pub(crate) fn put_memory(responses: &mut [u8], state: Minimax)
     requires { ⌜ 512 ≤ length (now responses) ⌝ }
     ensures { λ _. ⌜ Puts (now (responses .entry)) (responses-bytes (responses-of (state .responses))) 512 (now (responses .exit)) ⌝ }
 {
-    let responses = state.responses;
-    let x = responses.x;
-    let o = responses.o;
+    let tables = state.responses;
+    let x = tables.x;
+    let o = tables.o;
     put_moves(responses, 0, x);
     put_moves(responses, 256, o);
 }

@@ -1,4 +1,4 @@
-pub mod Finding
+pub mod PartsFinding
 pub mod PartsMarks
 pub mod PartsOverall
 pub mod PartsCells

@@ -1,6 +1,6 @@
 -- What the kit's `find` promises says it.
 use native.Mathlib.Omega.{arith}
-use Rattle.notation.proofs.Finding.{finds}
+use Rattle.notation.proofs.PartsFinding.{finds}
 use Rattle.notation.proofs.find.Statement.{statement}
 use Rattle.notation.proofs.find.Tie as tie
 

@@ -5,8 +5,9 @@ use native.Mathlib.Omega.{arith}
 use lib.ListN.{length, take, drop, length-take, length-drop, length-set, drop-of-length-le}
 use denote.Ref.{now}
 use borrow.Author.Needs.{needs}
-use Rattle.input.specs.Lines.{line-taken}
-use Rattle.input.proofs.Lines.{byte-taken, line-found, all-taken, takes}
+use Rattle.base.proofs.LineFeed.{all-taken-at}
+use Rattle.input.specs.Lines.{kept-with, line-taken}
+use Rattle.input.proofs.Lines.{buffer-byte-taken, buffer-feed-found, takes}
 use Rattle.input.proofs.Input.take.Statement.{statement}
 use Rattle.input.proofs.Input.take.Tie as tie
 
@@ -42,8 +43,8 @@ returns c =
     let l = c .before .before .before .loop in
     let all = take (a .self .end) (now (a .buffer)) in
     let h : l .i < length all = omega arith in
-    takes (a .self) (now (a .buffer)) (now (a .kept)) _ _ (l .inv .0 ∙ line-found (a .self .end) (now (a .buffer)) (l .line) (l .kept)
-    (l .i) h (c .if1 .taken)) refl refl refl refl
+    takes (a .self) (now (a .buffer)) (now (a .kept)) _ _ (l .inv .0
+    ∙ buffer-feed-found (a .self .end) (now (a .buffer)) (l .line) (l .kept) (l .i) h (c .if1 .taken)) refl refl refl refl
     (omega (arith, length-drop (a .self .at) all, length-drop (l .i + 1) all))
 
 push-requires : tie.Need-push-requires Inv-loop μ-loop
@@ -60,7 +61,7 @@ loop-again c =
     let l = at-loop .loop in
     let p = c .before .before .push .ensures in
     let h : l .i < length (take (a .self .end) (now (a .buffer))) = omega arith in (
-      rw (p .0, p .1) (l .inv .0 ∙ byte-taken (a .self .end) (now (a .buffer)) (l .line) (l .kept) (l .i) h
+      rw (p .0, p .1) (l .inv .0 ∙ buffer-byte-taken (a .self .end) (now (a .buffer)) (l .line) (l .kept) (l .i) h
           (c .before .before .before .before .if1 .left)),
       l .inv .1,
       omega arith,
@@ -77,8 +78,8 @@ returns-2 c =
     let l = c .before .loop in
     let all = take (a .self .end) (now (a .buffer)) in
     let h : length all ≤ l .i = omega arith in
-    takes (a .self) (now (a .buffer)) (now (a .kept)) _ _ (l .inv .0 ∙ all-taken (a .self .end) (now (a .buffer)) (l .line) (l .kept)
-    (l .i) h) refl refl refl (drop-of-length-le all h)
+    takes (a .self) (now (a .buffer)) (now (a .kept)) _ _ (l .inv .0
+    ∙ all-taken-at kept-with all (record { counted = l .line; kept = l .kept }) (l .i) h) refl refl refl (drop-of-length-le all h)
     (omega (arith, length-drop (a .self .at) all))
 
 pub take-spec : {M : Type 1} → statement M

@@ -4,8 +4,10 @@ use Prim.Native.Nat.{ℕ, _-_, _≤_}
 use native.Mathlib.Omega.{arith}
 use lib.ListN.{length, drop, drop-of-length-le}
 use borrow.Author.Needs.{needs}
+use Rattle.base.proofs.LineFeed.{byte-taken-at, feed-found-at, all-taken-at}
+use Rattle.line_buffer.specs.Buffer.{pushed}
 use Rattle.line_buffer.specs.Taking.{buffered}
-use Rattle.line_buffer.proofs.Taking.{byte-taken, line-found, all-taken, takes}
+use Rattle.line_buffer.proofs.Taking.{takes}
 use Rattle.line_buffer.proofs.LineBuffer.take.Statement.{statement}
 use Rattle.line_buffer.proofs.LineBuffer.take.Tie as tie
 
@@ -28,7 +30,7 @@ returns : tie.Need-returns Inv-loop μ-loop
 returns c =
     let l = c .before .before .before in
     takes _ (l .before .before .args .bytes .now) _ _ _ (l .loop .inv .0
-    ∙ line-found _ _ (l .loop .i) (c .before .before .loop-test .taken) (c .if1 .taken)) refl refl refl
+    ∙ feed-found-at pushed _ _ (l .loop .i) (c .before .before .loop-test .taken) (c .if1 .taken)) refl refl refl
     (λ _. (omega (arith, l .loop .inv .1), omega (arith, c .before .before .loop-test .taken)))
 
 push-requires : tie.Need-push-requires Inv-loop μ-loop
@@ -40,15 +42,16 @@ loop-less c = search needs
 loop-again : tie.Need-loop-again Inv-loop μ-loop
 loop-again c =
     let l = c .before .before .before .before in (
-      l .loop .inv .0 ∙ byte-taken _ _ (l .loop .i) (c .before .before .before .loop-test .taken) (c .before .if1 .left) _
-          (c .push .ensures),
+      rw (c .push .ensures) (l .loop .inv .0
+          ∙ byte-taken-at pushed _ _ (l .loop .i) (c .before .before .before .loop-test .taken) (c .before .if1 .left)),
       omega (arith, l .loop .inv .1),
     )
 
 returns-2 : tie.Need-returns-2 Inv-loop μ-loop
 returns-2 c =
     let l = c .before in
-    takes _ (l .before .before .args .bytes .now) _ _ _ (l .loop .inv .0 ∙ all-taken _ _ (l .loop .i) (c .loop-test .left)) refl refl
+    takes _ (l .before .before .args .bytes .now) _ _ _ (l .loop .inv .0
+    ∙ all-taken-at pushed _ _ (l .loop .i) (c .loop-test .left)) refl refl
     (drop-of-length-le _ (c .loop-test .left))
     (λ e. absurd (let z : _≡_ {A = ℕ} 0 1 = cc e in omega arith))
 
