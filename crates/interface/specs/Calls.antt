@@ -123,7 +123,8 @@ module _ (position moves : List ℕ) (depth allowance draws : ℕ) (responses wo
 
   abbrev pub found : Reported
   found =
-      reported (structs (scoring-from draws)) (record { max-depth = depth; allowance = allowance }) analysed (responses-from responses) words
+      reported (structs (scoring-from draws)) (record { max-depth = depth; allowance = allowance }) analysed
+      (responses-from responses) words
 
   pub record Analyzes (responses-after words-after report-after : List ℕ) (r : ℕ) : Type 0 where
     pub returns : r ≡ returned analyze-ok (found .number)
