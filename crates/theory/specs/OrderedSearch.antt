@@ -100,4 +100,4 @@ module _ (G : Game) where
       λ _. on-probe (probe s₁ (G .key p) (suc d) a b)
       (λ v m s₂. found v (set-first m pv) s₂)
       (λ first s₂. unless-stopped (over-moves (search n d) p b prev (candidates first s₂ p prev pv) a pv (replicate d no-move) s₂)
-      (λ r line' s₃. found r line' (with-stored s₃ (G .key p) (suc d) a b r line'))))
+      (λ r pv' s₃. found r pv' (with-stored s₃ (G .key p) (suc d) a b r pv'))))
