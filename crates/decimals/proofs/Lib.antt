@@ -1,2 +1,3 @@
 pub mod NumbersDigits
 pub mod Lists
+pub mod ListsRead

@@ -1,7 +1,7 @@
 // Lists of decimal numbers parted by single blanks, read byte by byte into lent words.
 ghost use mathlib.Core.Path.{_≡_};
 ghost use lib.ListN.{length, getD};
-ghost use Rattle.decimals.specs.Lists.{new-scan, spoilt, with-number, scanned, written, scanned-all, counted};
+ghost use Rattle.decimals.specs.Lists.{spoilt, with-number, scanned, words-after, counted, ListRead};
 ghost use Rattle.decimals.specs.Numbers.{with-digit};
 use crate::number::Number;
 use crate::number::with_digit;
@@ -56,7 +56,7 @@ impl Scan {
     // A digit makes the number longer; a blank ends it, and it is written at its place.
     pub fn push(self, b: u8, words: &mut [u64]) -> Scan
         ensures { λ r. ⌜ (r ≡ scanned self b (length (now (words .entry)))) ×
-            (now (words .exit) ≡ written self b (now (words .entry))) ⌝ }
+            (now (words .exit) ≡ words-after self b (now (words .entry))) ⌝ }
     {
         if b != b' ' {
             return self.longer(b);
@@ -90,8 +90,7 @@ fn counted(scan: Scan) -> Count
 
 // How many numbers a text holds, which are written from the first word on.
 pub fn numbers(text: &[u8], words: &mut [u64]) -> Count
-    ensures { λ r. ⌜ (r ≡ counted (scanned-all new-scan (now (words .entry)) (now (text .entry)) .scan)) ×
-        (now (words .exit) ≡ scanned-all new-scan (now (words .entry)) (now (text .entry)) .words) ⌝ }
+    ensures { λ r. ⌜ ListRead (now (text .entry)) (now (words .entry)) r (now (words .exit)) ⌝ }
 {
     let mut scan = Scan::NEW;
     let mut i: usize = 0;

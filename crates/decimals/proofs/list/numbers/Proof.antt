@@ -6,6 +6,7 @@ use lib.ListN.{length, drop}
 use denote.Ref.{now}
 use Rattle.decimals.specs.Lists.{scanned-all}
 use Rattle.decimals.proofs.Lists.{scan-next, scan-end}
+use Rattle.decimals.proofs.ListsRead.{list-read}
 use borrow.Author.Needs.{needs}
 use Rattle.decimals.proofs.list.numbers.Statement.{statement}
 use Rattle.decimals.proofs.list.numbers.Tie as tie
@@ -53,9 +54,12 @@ same-length c = search needs
 
 returns : tie.Need-returns Inv-loop μ-loop
 returns c =
-    let l = c .before .before .before .before .before .before .loop in let p = c .before .before .before .push2 .ensures in
-    let e = l .inv .0 ∙ scan-end (now (c .before .before .before .before .before .before .before .before .before .args .text)) (l .scan)
-    (l .words) (l .i) (c .before .before .before .before .before .loop-test .left) in rw e (c .counted .ensures ∙ rw (p .0), p .1)
+    let start = c .before .before .before .before .before .before .before .before .before in
+    let text = now (start .args .text) in
+    let l = c .before .before .before .before .before .before .loop in
+    let p = c .before .before .before .push2 .ensures in
+    let e = l .inv .0 ∙ scan-end text (l .scan) (l .words) (l .i) (c .before .before .before .before .before .loop-test .left) in
+    list-read text (now (start .args .words)) _ _ (c .counted .ensures ∙ rw (e, p .0)) (p .1 ∙ rw e)
 
 pub numbers-spec : {M : Type 1} → statement M
 numbers-spec =
