@@ -1,16 +1,22 @@
 -- A line taken from a part of a buffer: what one byte does, and a read after another.
-use mathlib.Core.Path.{_≡_, sym, _∙_}
-use mathlib.Core.Bool.{true, false}
-use mathlib.Core.List.{List, [], _++_, append-assoc, append-nil}
-use Prim.Native.Nat.{ℕ, _+_, _<_}
+use mathlib.Core.Path.{_≡_, refl, sym, ap, _∙_}
+use mathlib.Core.Bool.{Bool, true, false, true≢false}
+use mathlib.Core.Logic.{inl, inr}
+use mathlib.Core.List.{List, [], _∷_, _++_, append-assoc, append-nil}
+use Prim.Native.Nat.{ℕ, suc, _+_, _-_, _<_, _≤_, min}
 use native.Mathlib.Omega.{arith}
-use lib.ListN.{length, getD, set, take, drop, length-take}
+use lib.Dec.{eqb, ltb}
+use lib.ListN.{length, getD, set, take, drop, length-take, length-append}
 use lib.Seq.{getD-take}
-use Rattle.base.specs.LineFeed.{UpToFeed, up-to-feed}
+use borrow.Author.Tests.{ltb-true, ltb-false}
+use Rattle.base.specs.Branch.{if_then_else_}
+use Rattle.base.specs.LineFeed.{line-feed, UpToFeed, up-to-feed}
 use Rattle.base.proofs.LineFeed.{feed-append, byte-taken-at, feed-found-at}
 use Rattle.input.specs.declared.InputLine.{InputLine}
 use Rattle.input.specs.declared.Input.{Input}
-use Rattle.input.specs.Lines.{new-line, with-byte, KeptLine, kept-with, line-taken, unused, TakesLine, ReadsLine}
+use Rattle.input.specs.declared.Filled.{Filled}
+use Rattle.input.specs.Lines.{longest, new-line, count-on, with-byte, KeptLine, kept-with, line-taken, unused, begun, refilled}
+use Rattle.input.specs.Lines.{TakesLine, LastRead, Ended, ReadsLine}
 
 -- ---- one byte of a part of a buffer
 module _ (end : ℕ) (buffer : List ℕ) (line : InputLine) (kept : List ℕ) (i : ℕ) (h : i < length (take end buffer)) where
@@ -34,61 +40,119 @@ module _ (end : ℕ) (buffer : List ℕ) (line : InputLine) (kept : List ℕ) (i
 -- ---- what was taken, by parts
 pub takes : (i : Input) (buffer kept : List ℕ) (r : Input) (t : UpToFeed KeptLine) →
     line-taken (i .line) kept (unused i buffer) ≡ t →
-    r .end ≡ i .end → r .line ≡ t .line .counted → r .found ≡ t .found → unused r buffer ≡ t .left →
+    r .end ≡ i .end → r .failed ≡ i .failed → r .line ≡ t .line .counted → r .found ≡ t .found → unused r buffer ≡ t .left →
     r .at + length (t .left) ≡ i .at + length (unused i buffer) → TakesLine i buffer kept r (t .line .kept)
-takes i buffer kept r t e end-is line-is found-is left-is at-is =
-    record { end-is = end-is; line-is = rw e line-is; found-is = rw e found-is; kept-is = rw e; left-is = rw e left-is; at-is = rw e at-is }
+takes i buffer kept r t e end-is failed-is line-is found-is left-is at-is =
+    record {
+      end-is = end-is;
+      failed-is = failed-is;
+      line-is = rw e line-is;
+      found-is = rw e found-is;
+      kept-is = rw e;
+      left-is = rw e left-is;
+      at-is = rw e at-is;
+    }
 
 -- ---- a read after another
-pub record Went (l₀ : InputLine) (kept₀ unused₀ : List ℕ) (l : InputLine) (kept unused : List ℕ) : Type 0 where
+-- turns are left for the bytes that are not yet counted
+pub record Went (turns : ℕ) (i : Input) (buffer₀ kept₀ : List ℕ) (j : Input) (buffer kept : List ℕ) : Type 0 where
   pub came : List ℕ
-  pub same : line-taken l₀ kept₀ (unused₀ ++ came) ≡ line-taken l kept unused
+  pub same : line-taken (i .line) kept₀ (unused i buffer₀ ++ came) ≡ line-taken (j .line) kept (unused j buffer)
+  pub last-read : LastRead i buffer₀ came j buffer
+  pub long : longest ≤ turns + length came
 
-module _ (l₀ : InputLine) (kept₀ unused₀ : List ℕ) where
-  pub went-none : Went l₀ kept₀ unused₀ l₀ kept₀ unused₀
-  went-none = record { came = []; same = rw append-nil }
+module _ (i : Input) (buffer₀ kept₀ : List ℕ) where
+  pub went-none : (turns : ℕ) → longest ≤ turns → Went turns i buffer₀ kept₀ i buffer₀ kept₀
+  went-none turns h = record { came = []; same = rw append-nil; last-read = inl (refl, refl, refl); long = omega arith }
 
-  pub went-on : (i : Input) (buffer kept : List ℕ) (r : Input) (after more : List ℕ) →
-      Went l₀ kept₀ unused₀ (i .line) kept (unused i buffer) → TakesLine i buffer kept r after → r .found ≡ false →
-      Went l₀ kept₀ unused₀ (r .line) after more
-  went-on i buffer kept r after more w t e =
+  pub went-on : (turns : ℕ) (j : Input) (buffer kept : List ℕ) (r : Input) (after : List ℕ) (read : Filled) (more : List ℕ) (turns′ : ℕ) →
+      Went turns i buffer₀ kept₀ j buffer kept → TakesLine j buffer kept r after → r .found ≡ false →
+      turns ≤ turns′ + length (take (read .count) more) → Went turns′ i buffer₀ kept₀ (refilled r read) more after
+  went-on turns j buffer kept r after read more turns′ w t e h =
       let s = w .same in
-      let f : line-taken l₀ kept₀ (unused₀ ++ w .came) .found ≡ false = rw s (sym (t .found-is) ∙ e) in
+      let bytes = take (read .count) more in
+      let f : line-taken (i .line) kept₀ (unused i buffer₀ ++ w .came) .found ≡ false = rw s (sym (t .found-is) ∙ e) in
       record {
-        came = w .came ++ more;
+        came = w .came ++ bytes;
         same = rw (
-          ← append-assoc unused₀ (w .came) more,
-          feed-append kept-with (record { counted = l₀; kept = kept₀ }) (unused₀ ++ w .came) more f,
+          ← append-assoc (unused i buffer₀) (w .came) bytes,
+          feed-append kept-with (record { counted = i .line; kept = kept₀ }) (unused i buffer₀ ++ w .came) bytes f,
           s,
           t .line-is,
           t .kept-is,
         );
+        last-read = inr (w .came, refl);
+        long = omega (arith, w .long, length-append (w .came) bytes);
       }
+
+-- ---- a line that goes on has all bytes on it: its length is their number, up to the largest
+counted-on : (n : ℕ) → n ≤ longest → count-on n ≡ min longest (n + 1)
+unfolding count-on if_then_else_
+counted-on n h = go (ltb n longest) refl
+  where
+    go : (c : Bool) → ltb n longest ≡ c → (if c then (λ _. n + 1) else λ _. n) ≡ min longest (n + 1)
+    go true e = omega (arith, ltb-true n longest e)
+    go false e = omega (arith, ltb-false n longest e)
+
+byte-counted : (c : Bool) (s : KeptLine) (bs : List ℕ) (t : UpToFeed KeptLine) (k : ℕ) → (t .found ≡ false → t .line .counted .length ≡ k) →
+    (if c then (λ _. record { line = s; left = bs; found = true }) else λ _. t) .found ≡ false →
+    (if c then (λ _. record { line = s; left = bs; found = true }) else λ _. t) .line .counted .length ≡ k
+unfolding if_then_else_
+byte-counted true s bs t k h e = absurd (true≢false e)
+byte-counted false s bs t k h e = h e
+
+pub all-counted : (l : InputLine) (kept bs : List ℕ) → l .length ≤ longest → line-taken l kept bs .found ≡ false →
+    line-taken l kept bs .line .counted .length ≡ min longest (l .length + length bs)
+unfolding up-to-feed
+all-counted l kept [] h e = omega arith
+all-counted l kept (b ∷ bs) h e =
+    let n = counted-on (l .length) h in
+    byte-counted (eqb b line-feed) (record { counted = l; kept = kept }) bs (line-taken (with-byte l) (set kept (l .length) b) bs)
+    (min longest (l .length + length (b ∷ bs)))
+    (λ f. all-counted (with-byte l) (set kept (l .length) b) bs (omega arith) f ∙ omega arith) e
+
+-- what is taken stands in the same buffer
+still-last : (i : Input) (buffer₀ came : List ℕ) (j : Input) (buffer : List ℕ) (r : Input) → r .end ≡ j .end →
+    LastRead i buffer₀ came j buffer → LastRead i buffer₀ came r buffer
+still-last i buffer₀ came j buffer r e (inl h) = inl (h .0, e ∙ h .1, h .2)
+still-last i buffer₀ came j buffer r e (inr h) = inr (h .0, rw e (h .1))
 
 -- what is taken at last
 pub reads : (i : Input) (buffer₀ kept₀ : List ℕ) (j : Input) (buffer kept : List ℕ) (r : Input) (after : List ℕ) →
-    Went new-line kept₀ (unused i buffer₀) (j .line) kept (unused j buffer) → TakesLine j buffer kept r after →
-    ReadsLine i buffer₀ kept₀ r buffer after
-reads i buffer₀ kept₀ j buffer kept r after w t =
+    (turns : ℕ) → Went turns (begun i) buffer₀ kept₀ j buffer kept → TakesLine j buffer kept r after → j .failed ≡ false →
+    (r .found ≡ false → turns ≡ 0) → ReadsLine i buffer₀ kept₀ r buffer after
+reads i buffer₀ kept₀ j buffer kept r after turns w t good last =
+    let found : r .found ≡ line-taken new-line kept₀ (unused i buffer₀ ++ w .came) .found = rw (w .same) (t .found-is) in
+    let line : r .line ≡ line-taken new-line kept₀ (unused i buffer₀ ++ w .came) .line .counted = rw (w .same) (t .line-is) in
     record {
       came = w .came;
-      line-is = rw (w .same) (t .line-is);
-      found-is = rw (w .same) (t .found-is);
+      last-read = still-last (begun i) buffer₀ (w .came) j buffer r (t .end-is) (w .last-read);
+      line-is = line;
+      found-is = found;
       kept-is = rw (w .same) (t .kept-is);
       left-is = rw (w .same) (t .left-is);
+      ends = λ e. inr (ap (λ (l : InputLine). l .length) line
+          ∙ all-counted new-line kept₀ (unused i buffer₀ ++ w .came) (omega arith) (sym found ∙ e)
+          ∙ omega (arith, w .long, last e, length-append (unused i buffer₀) (w .came)));
+      failed-ends = λ f. absurd (true≢false (sym f ∙ t .failed-is ∙ good));
     }
 
--- the input ended: what was not used is nothing
-pub reads-end : (i : Input) (buffer₀ kept₀ : List ℕ) (r : Input) (buffer kept : List ℕ) →
-    Went new-line kept₀ (unused i buffer₀) (r .line) kept (unused r buffer) → unused r buffer ≡ [] → r .found ≡ false →
-    ReadsLine i buffer₀ kept₀ r buffer kept
+-- the last read gave nothing
+pub reads-end : (i : Input) (buffer₀ kept₀ : List ℕ) (r : Input) (read : Filled) (buffer kept : List ℕ) →
+    (turns : ℕ) → Went turns (begun i) buffer₀ kept₀ (refilled r read) buffer kept → read .count ≡ 0 →
+    ReadsLine i buffer₀ kept₀ (refilled r read) buffer kept
 unfolding up-to-feed
-reads-end i buffer₀ kept₀ r buffer kept w u e =
+reads-end i buffer₀ kept₀ r read buffer kept turns w z =
+    let u : unused (refilled r read) buffer ≡ [] = rw z in
     let s : line-taken new-line kept₀ (unused i buffer₀ ++ w .came) ≡ record
     { line = record { counted = r .line; kept = kept }; left = []; found = false } = w .same ∙ rw u in
-    record { came = w .came; line-is = rw s; found-is = rw s e; kept-is = rw s; left-is = rw s u }
-
-pub went-from : (i i₀ : Input) (buffer₀ kept₀ : List ℕ) (l : InputLine) (kept u : List ℕ) → (i₀ .at ≡ i .at) ×
-    (i₀ .end ≡ i .end) × (i₀ .line ≡ new-line) → Went (i₀ .line) kept₀ (unused i₀ buffer₀) l kept u →
-    Went new-line kept₀ (unused i buffer₀) l kept u
-went-from i i₀ buffer₀ kept₀ l kept u b w = record { came = w .came; same = rw (b .0, b .1, b .2) at (w .same) }
+    record {
+      came = w .came;
+      last-read = w .last-read;
+      line-is = rw s;
+      found-is = rw s;
+      kept-is = rw s;
+      left-is = rw s u;
+      ends = λ _. inl z;
+      failed-ends = λ _. (refl, z);
+    }

@@ -1,10 +1,8 @@
 // Lines of standard input, of any length, read into lent memory of any size.
 ghost use mathlib.Core.Path.{_≡_};
-ghost use mathlib.Core.Bool.{false};
 ghost use Prim.Native.Nat.{min};
 ghost use lib.ListN.{length, set};
-ghost use Rattle.io.specs.Counts.{Counts};
-ghost use Rattle.input.specs.Lines.{new-line, with-byte, count-on, complete-line, ended, TakesLine, ReadsLine};
+ghost use Rattle.input.specs.Lines.{with-byte, count-on, complete-line, ended, begun, refilled, read-of, Fills, TakesLine, ReadsLine};
 use libc::STDIN_FILENO;
 
 const LONGEST: usize = 18446744073709551615;
@@ -14,12 +12,20 @@ pub struct InputLine {
     pub length: usize,
 }
 
-// The bytes of the buffer from `at` up to `end` are not yet used. `found` says that the line's end was met.
+// The bytes of the buffer from `at` up to `end` are not yet used. `found` says that the line's end was met, `failed` that the last
+// read failed.
 pub struct Input {
     pub at: usize,
     pub end: usize,
     pub line: InputLine,
     pub found: bool,
+    pub failed: bool,
+}
+
+// What a read gave: how many bytes, and whether it failed.
+pub struct Filled {
+    pub count: usize,
+    pub failed: bool,
 }
 
 // One more, but for the largest number.
@@ -64,13 +70,6 @@ impl InputLine {
             &kept[..0]
         }
     }
-
-    // How many bytes of the line were kept.
-    pub fn count(self, kept: &[u8]) -> usize
-        ensures { λ r. ⌜ Counts r (now (kept .entry)) × (r ≡ min (self .length) (length (now (kept .entry)))) ⌝ }
-    {
-        least(self.length, kept.len())
-    }
 }
 
 impl Input {
@@ -79,12 +78,16 @@ impl Input {
         end: 0,
         line: InputLine::NEW,
         found: false,
+        failed: false,
     };
 
-    // Whether the input ended with nothing more on a line.
+    // Whether no line came: a read failed, or the input ended with nothing on its last line.
     pub fn is_end(self) -> bool
         ensures { λ r. ⌜ r ≡ ended self ⌝ }
     {
+        if self.failed {
+            return true;
+        }
         let line = self.line;
         if self.found { false } else { line.length == 0 }
     }
@@ -94,6 +97,7 @@ impl Input {
         ensures { λ r. ⌜ TakesLine self (now (buffer .entry)) (now (kept .entry)) r (now (kept .exit)) ⌝ }
     {
         let end = self.end;
+        let failed = self.failed;
         let stop = least(end, buffer.len());
         let mut line = self.line;
         let mut i = self.at;
@@ -106,6 +110,7 @@ impl Input {
                     end,
                     line,
                     found: true,
+                    failed,
                 };
             }
             line = line.push(b, kept);
@@ -115,35 +120,38 @@ impl Input {
             end,
             line,
             found: false,
+            failed,
         }
     }
 
-    // The same line with the first `n` bytes of the buffer to use.
-    fn refilled(self, n: usize) -> Input
-        ensures { λ r. ⌜ (r .at ≡ 0) × (r .end ≡ n) × (r .line ≡ self .line) × (r .found ≡ false) ⌝ }
+    // The same line, with the bytes of a read to use.
+    fn refilled(self, read: Filled) -> Input
+        ensures { λ r. ⌜ r ≡ refilled self read ⌝ }
     {
         let line = self.line;
         Input {
             at: 0,
-            end: n,
+            end: read.count,
             line,
             found: false,
+            failed: read.failed,
         }
     }
 
     // A new line, with the same bytes to use.
     fn begun(self) -> Input
-        ensures { λ r. ⌜ (r .at ≡ self .at) × (r .end ≡ self .end) × (r .line ≡ new-line) ⌝ }
+        ensures { λ r. ⌜ r ≡ begun self ⌝ }
     {
         Input {
             at: self.at,
             end: self.end,
             line: InputLine::NEW,
             found: false,
+            failed: false,
         }
     }
 
-    // The next line: reads until its end is met or the input ends.
+    // The next line: reads until its end is met, the input ends or a read fails.
     pub fn next_line(self, buffer: &mut [u8], kept: &mut [u8]) -> Input
         ensures { λ r. ⌜ ReadsLine self (now (buffer .entry)) (now (kept .entry)) r (now (buffer .exit)) (now (kept .exit)) ⌝ }
     {
@@ -154,8 +162,9 @@ impl Input {
             if input.found {
                 return input;
             }
-            let n = fill(buffer);
-            input = input.refilled(n);
+            let read = fill(buffer);
+            let n = read.count;
+            input = input.refilled(read);
             if n == 0 {
                 return input;
             }
@@ -165,9 +174,20 @@ impl Input {
     }
 }
 
-fn fill(buffer: &mut [u8]) -> usize
-    ensures { λ r. ⌜ Counts r (now (buffer .exit)) ⌝ }
+// What `read` answered of a buffer.
+fn read_of(got: isize, buffer: &[u8]) -> Filled
+    ensures { λ r. ⌜ r ≡ read-of got (length (now (buffer .entry))) ⌝ }
+{
+    Filled {
+        count: io::count(got, buffer),
+        failed: got < 0,
+    }
+}
+
+// One read.
+fn fill(buffer: &mut [u8]) -> Filled
+    ensures { λ r. ⌜ Fills r (now (buffer .exit)) ⌝ }
 {
     let got = libc::read(STDIN_FILENO, buffer);
-    io::count(got, buffer)
+    read_of(got, buffer)
 }

@@ -1,13 +1,16 @@
--- The two ways of the test.
+-- The ways of the tests.
 use borrow.Author.Needs.{needs}
 use Rattle.input.proofs.Input.is_end.Statement.{statement}
 use Rattle.input.proofs.Input.is_end.Tie as tie
 
 returns : tie.Need-returns
-returns c = search needs
+returns c = rw (c .if1 .taken)
 
 returns-2 : tie.Need-returns-2
-returns-2 c = rw (c .before .if1 .left)
+returns-2 c = rw (c .before .before .if1 .left, c .if2 .taken)
+
+returns-3 : tie.Need-returns-3
+returns-3 c = rw (c .before .before .before .if1 .left, c .before .if2 .left)
 
 pub is-end-spec : {M : Type 1} → statement M
-is-end-spec = tie.close (tie.spec returns returns-2)
+is-end-spec = tie.close (tie.spec returns returns-2 returns-3)

@@ -1,18 +1,21 @@
 -- The bytes that came so far go on as those that are left do.
-use mathlib.Core.Path.{_≡_}
+use mathlib.Core.Path.{_≡_, sym, ap, _∙_}
+use mathlib.Core.Bool.{false, true≢false}
+use Prim.Native.Nat.{_≤_}
+use native.Mathlib.Omega.{arith}
 use lib.ListN.{length}
-use lib.Seq.{drop-nil}
 use denote.Ref.{now}
 use borrow.Author.Needs.{needs}
-use Rattle.input.specs.Lines.{unused}
-use Rattle.input.proofs.Lines.{Went, went-none, went-on, went-from, reads, reads-end}
+use Rattle.input.specs.declared.Input.{Input}
+use Rattle.input.proofs.Lines.{Went, went-none, went-on, reads, reads-end}
+use Rattle.input.proofs.LinesReads.{gave-a-byte}
 use Rattle.input.proofs.Input.next_line.Statement.{statement}
 use Rattle.input.proofs.Input.next_line.Tie as tie
 
 abbrev Inv-loop : tie.InvT-loop
 Inv-loop buffer₀ kept₀ input₀ turns₀ buffer kept input turns =
-    Went (input₀ .line) kept₀ (unused input₀ buffer₀) (input .line) kept (unused input buffer) ×
-    (length buffer ≡ length buffer₀) × (length kept ≡ length kept₀)
+    Went turns input₀ buffer₀ kept₀ input buffer kept × (input .failed ≡ false) × (length buffer ≡ length buffer₀) ×
+    (length kept ≡ length kept₀)
 
 abbrev μ-loop : tie.MeasureT-loop
 μ-loop buffer₀ kept₀ input₀ turns₀ buffer kept input turns = turns
@@ -21,7 +24,7 @@ begun-requires : tie.Need-begun-requires Inv-loop μ-loop
 begun-requires c κs = search needs
 
 loop-holds : tie.Need-loop-holds Inv-loop μ-loop
-loop-holds c = (went-none _ _ _, search needs, search needs)
+loop-holds c = (went-none _ _ _ _ (omega arith), ap (λ (i : Input). i .failed) (c .begun .ensures), search needs, search needs)
 
 take-requires : tie.Need-take-requires Inv-loop μ-loop
 take-requires c κs = search needs
@@ -36,12 +39,11 @@ returns : tie.Need-returns Inv-loop μ-loop
 returns c =
     let at-loop = c .before .before .before .before .before .before .before in
     let at-begun = at-loop .before in
-    let start = at-begun .before .before .before in
-    let a = start .args in
+    let a = at-begun .before .before .before .args in
     let l = at-loop .loop in
-    reads (a .self) (now (a .buffer)) (now (a .kept)) (l .input) (l .buffer) (l .kept) _ _
-    (went-from (a .self) (at-begun .begun .result) _ _ _ _ _ (at-begun .begun .ensures) (l .inv .0))
-    (c .before .before .before .take .ensures)
+    reads (a .self) (now (a .buffer)) (now (a .kept)) (l .input) (l .buffer) (l .kept) _ _ (l .turns)
+    (rw (at-begun .begun .ensures) at (l .inv .0)) (c .before .before .before .take .ensures) (l .inv .1)
+    (λ e. absurd (true≢false (sym (c .if1 .taken) ∙ e)))
 
 fill-requires : tie.Need-fill-requires Inv-loop μ-loop
 fill-requires c κs = search needs
@@ -61,15 +63,13 @@ returns-2 c =
     let at-take = at-if1 .before .before .before in
     let at-loop = at-take .before .before .before .before in
     let at-begun = at-loop .before in
-    let start = at-begun .before .before .before in
-    let a = start .args in
+    let a = at-begun .before .before .before .args in
     let l = at-loop .loop in
-    let r = c .before .refilled in
-    let w = went-on _ _ _ (l .input) (l .buffer) (l .kept) (at-take .take .result) _
-    (unused (r .result) (c .before .before .before .before .fill .last .0)) (l .inv .0) (at-take .take .ensures) (at-if1 .if1 .left) in
-    reads-end (a .self) (now (a .buffer)) (now (a .kept)) (r .result) _ _
-    (went-from (a .self) (at-begun .begun .result) _ _ _ _ _ (at-begun .begun .ensures) (rw (r .ensures .2) w))
-    (rw (r .ensures .1, c .if2 .taken) (drop-nil (r .result .at))) (r .ensures .3)
+    let fill = c .before .before .before .before .fill in
+    let w = went-on _ _ _ (l .turns) (l .input) (l .buffer) (l .kept) (at-take .take .result) _ (fill .result) (fill .last .0) (l .turns)
+    (rw (at-begun .begun .ensures) at (l .inv .0)) (at-take .take .ensures) (at-if1 .if1 .left) (omega arith) in
+    rw (c .before .refilled .ensures)
+    (reads-end (a .self) (now (a .buffer)) (now (a .kept)) (at-take .take .result) (fill .result) (fill .last .0) _ (l .turns) w (c .if2 .taken))
 
 sub-turns : tie.Need-sub-turns Inv-loop μ-loop
 sub-turns c = search needs
@@ -81,11 +81,11 @@ loop-again : tie.Need-loop-again Inv-loop μ-loop
 loop-again c =
     let at-if1 = c .before .before .before .before .before .before in
     let at-take = at-if1 .before .before .before in
-    let at-loop = at-take .before .before .before .before in
-    let l = at-loop .loop in
-    let r = c .before .refilled in (
-      rw (r .ensures .2) (went-on _ _ _ (l .input) (l .buffer) (l .kept) (at-take .take .result) _
-          (unused (r .result) (c .before .before .before .before .fill .last .0)) (l .inv .0) (at-take .take .ensures) (at-if1 .if1 .left)),
+    let l = at-take .before .before .before .before .loop in
+    let fill = c .before .before .before .before .fill in (
+      rw (c .before .refilled .ensures) (went-on _ _ _ (l .turns) (l .input) (l .buffer) (l .kept) (at-take .take .result) _ (fill .result)
+          (fill .last .0) _ (l .inv .0) (at-take .take .ensures) (at-if1 .if1 .left) (omega (arith, fill .ensures .counts .1))),
+      rw (c .before .refilled .ensures) (gave-a-byte (fill .result) _ (fill .ensures) (c .if2 .left)),
       search needs,
       search needs,
     )
@@ -103,11 +103,10 @@ returns-3 : tie.Need-returns-3 Inv-loop μ-loop
 returns-3 c =
     let at-loop = c .before .before .before .before .before .before in
     let at-begun = at-loop .before in
-    let start = at-begun .before .before .before in
-    let a = start .args in
+    let a = at-begun .before .before .before .args in
     let l = at-loop .loop in
-    reads (a .self) (now (a .buffer)) (now (a .kept)) (l .input) (l .buffer) (l .kept) _ _
-    (went-from (a .self) (at-begun .begun .result) _ _ _ _ _ (at-begun .begun .ensures) (l .inv .0)) (c .before .before .take2 .ensures)
+    reads (a .self) (now (a .buffer)) (now (a .kept)) (l .input) (l .buffer) (l .kept) _ _ (l .turns)
+    (rw (at-begun .begun .ensures) at (l .inv .0)) (c .before .before .take2 .ensures) (l .inv .1) (λ _. omega arith)
 
 pub next-line-spec : {M : Type 1} → statement M
 next-line-spec =

@@ -12,12 +12,12 @@ use Rattle.input.proofs.Input.take.Statement.{statement}
 use Rattle.input.proofs.Input.take.Tie as tie
 
 abbrev Inv-loop : tie.InvT-loop
-Inv-loop buffer kept₀ end stop line₀ i₀ kept line i =
+Inv-loop buffer kept₀ end failed stop line₀ i₀ kept line i =
     (line-taken line₀ kept₀ (drop i₀ (take end buffer)) ≡ line-taken line kept (drop i (take end buffer))) ×
     (stop ≡ length (take end buffer)) × (i₀ ≤ i) × (i - i₀ ≤ stop - i₀) × (length kept ≡ length kept₀)
 
 abbrev μ-loop : tie.MeasureT-loop
-μ-loop buffer kept₀ end stop line₀ i₀ kept line i = stop - i
+μ-loop buffer kept₀ end failed stop line₀ i₀ kept line i = stop - i
 
 least-requires : tie.Need-least-requires Inv-loop μ-loop
 least-requires c κs = search needs
@@ -44,7 +44,7 @@ returns c =
     let all = take (a .self .end) (now (a .buffer)) in
     let h : l .i < length all = omega arith in
     takes (a .self) (now (a .buffer)) (now (a .kept)) _ _ (l .inv .0
-    ∙ buffer-feed-found (a .self .end) (now (a .buffer)) (l .line) (l .kept) (l .i) h (c .if1 .taken)) refl refl refl refl
+    ∙ buffer-feed-found (a .self .end) (now (a .buffer)) (l .line) (l .kept) (l .i) h (c .if1 .taken)) refl refl refl refl refl
     (omega (arith, length-drop (a .self .at) all, length-drop (l .i + 1) all))
 
 push-requires : tie.Need-push-requires Inv-loop μ-loop
@@ -79,7 +79,7 @@ returns-2 c =
     let all = take (a .self .end) (now (a .buffer)) in
     let h : length all ≤ l .i = omega arith in
     takes (a .self) (now (a .buffer)) (now (a .kept)) _ _ (l .inv .0
-    ∙ all-taken-at kept-with all (record { counted = l .line; kept = l .kept }) (l .i) h) refl refl refl (drop-of-length-le all h)
+    ∙ all-taken-at kept-with all (record { counted = l .line; kept = l .kept }) (l .i) h) refl refl refl refl (drop-of-length-le all h)
     (omega (arith, length-drop (a .self .at) all))
 
 pub take-spec : {M : Type 1} → statement M
