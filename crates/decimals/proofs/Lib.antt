@@ -1,3 +1,5 @@
 pub mod NumbersDigits
+pub mod NumbersRoundTrip
 pub mod Lists
 pub mod ListsRead
+pub mod ListsRoundTrip

@@ -12,13 +12,14 @@ use lib.Seq.{append-snoc, set-append-seam}
 use borrow.Author.Tests.{lt-ltb, le-ltb, le-leb, lt-leb}
 use Rattle.base.specs.Branch.{if_then_else_}
 use Rattle.base.proofs.Branch.{if-ind}
+use Rattle.text.specs.Bytes.{space}
 use Rattle.decimals.specs.declared.number.Number.{Number}
 use Rattle.decimals.specs.declared.number.Number.the-variants.{Is, Bad}
 use Rattle.decimals.specs.declared.list.Scan.{Scan}
 use Rattle.decimals.specs.declared.list.Count.{Count}
 use Rattle.decimals.specs.declared.list.Count.the-variants.{Of}
 use Rattle.decimals.specs.Numbers.{with-digit, and-then, digits-after, read-number}
-use Rattle.decimals.specs.Lists.{blank, with-first, parts, number-before, numbers-of, at-most, list-of, count-of}
+use Rattle.decimals.specs.Lists.{with-first, parts, number-before, numbers-of, at-most, list-of, count-of}
 use Rattle.decimals.specs.Lists.{new-scan, spoilt, with-number, ends, scanned, words-after, Scanned, scanned-all, counted, ListRead}
 
 -- ---- options of lists
@@ -54,11 +55,11 @@ abbrev numbers-from : Bool → ℕ → List (List ℕ) → Option (List ℕ)
 numbers-from any value [] = none
 numbers-from any value (p ∷ ps) = number-before (part-from any value p) (numbers-of ps)
 
-first-part : (text : List ℕ) → (p : List ℕ) × (ps : List (List ℕ)) × (parts text ≡ p ∷ ps)
+pub first-part : (text : List ℕ) → (p : List ℕ) × (ps : List (List ℕ)) × (parts text ≡ p ∷ ps)
 unfolding parts
 first-part [] = ([], [], refl)
 first-part (b ∷ bs) =
-    if-ind (λ (qs : List (List ℕ)). (p : List ℕ) × (ps : List (List ℕ)) × (qs ≡ p ∷ ps)) (eqb b blank) _ _
+    if-ind (λ (qs : List (List ℕ)). (p : List ℕ) × (ps : List (List ℕ)) × (qs ≡ p ∷ ps)) (eqb b space) _ _
     (λ _. ([], parts bs, refl)) (λ _. let f = first-part bs in (b ∷ f .0, f .1, rw (f .2)))
 
 new-part : (text : List ℕ) → numbers-from false 0 (parts text) ≡ numbers-of (parts text)
@@ -96,7 +97,7 @@ part-ends : (any : Bool) (value : ℕ) (done rest : List ℕ) (said : Option (Li
     ((s : Scan) (words : List ℕ) → s .good ≡ false → next s words .scan .good ≡ false) →
     ((done rest : List ℕ) → Outcome done rest said (next (state false 0 done) (done ++ rest))) →
     Outcome done rest (number-before (part-from any value []) said)
-    (next (scanned (state any value done) blank (length (done ++ rest))) (words-after (state any value done) blank (done ++ rest)))
+    (next (scanned (state any value done) space (length (done ++ rest))) (words-after (state any value done) space (done ++ rest)))
 unfolding scanned words-after if_then_else_ digits-after read-number
 part-ends false value done rest said next bad more =
     refused (λ ns e. absurd (Option·none-ne-some ns e)) (bad _ _ refl)
@@ -110,7 +111,8 @@ part-ends true value done (w ∷ rest) said next bad more =
     (one-before done rest value w said _ (rw (n, append-snoc done value rest) at (more (done ++ (value ∷ [])) rest)))
 
 -- ---- a text
-digit-read : (any : Bool) (value b : ℕ) (bs done rest : List ℕ) → (any ≡ false → value ≡ 0) → (n : Number) → with-digit value b ≡ n →
+digit-read : (any : Bool) (value b : ℕ) (bs done rest : List ℕ) → (any ≡ false → value ≡ 0) → (n : Number) →
+    with-digit value b ≡ n →
     ((more : ℕ) → Outcome done rest (numbers-from true more (parts bs)) (scanned-all (state true more done) (done ++ rest) bs)) →
     Outcome done rest (numbers-from any value (with-first b (parts bs)))
     (scanned-all (with-number (state any value done) n) (done ++ rest) bs)
@@ -121,7 +123,8 @@ digit-read any value b bs done rest z n e more = let f = first-part bs in go n e
         (scanned-all (with-number (state any value done) n) (done ++ rest) bs)
     go (Is m) e f = rw (f .2, longer-part any value b (f .0) z, e) (rw (f .2) at (more m))
     go Bad e f =
-        rw (f .2, longer-part any value b (f .0) z, e) (refused (λ ns h. absurd (Option·none-ne-some ns h)) (all-bad bs _ (done ++ rest) refl))
+        rw (f .2, longer-part any value b (f .0) z, e)
+        (refused (λ ns h. absurd (Option·none-ne-some ns h)) (all-bad bs _ (done ++ rest) refl))
 
 abbrev TextRead : List ℕ → Bool → ℕ → List ℕ → List ℕ → Type 0
 TextRead text any value done rest =
@@ -129,12 +132,12 @@ TextRead text any value done rest =
 
 byte-read : (any : Bool) (value b : ℕ) (bs done rest : List ℕ) → (any ≡ false → value ≡ 0) →
     ((any : Bool) (value : ℕ) (done rest : List ℕ) → (any ≡ false → value ≡ 0) → TextRead bs any value done rest) →
-    (c : Bool) → eqb b blank ≡ c →
+    (c : Bool) → eqb b space ≡ c →
     Outcome done rest (numbers-from any value (if c then (λ _. [] ∷ parts bs) else λ _. with-first b (parts bs)))
     (scanned-all (scanned (state any value done) b (length (done ++ rest))) (words-after (state any value done) b (done ++ rest)) bs)
 unfolding if_then_else_ scanned words-after
 byte-read any value b bs done rest z more true e =
-    let s : b ≡ blank = eqb→eq b blank (rw e tt) in
+    let s : b ≡ space = eqb→eq b space (rw e tt) in
     rw s (part-ends any value done rest (numbers-of (parts bs)) (λ s words. scanned-all s words bs) (all-bad bs)
     (λ done rest. rw (new-part bs) at (more false 0 done rest (λ _. refl))))
 byte-read any value b bs done rest z more false e =
@@ -146,7 +149,7 @@ unfolding scanned-all parts numbers-of
 text-read [] any value done rest z =
     part-ends any value done rest (some []) (λ s words. record { scan = s; words = words }) (λ s words e. e)
     (λ done rest. all-read [] refl (omega arith) refl (omega arith) refl)
-text-read (b ∷ bs) any value done rest z = byte-read any value b bs done rest z (text-read bs) (eqb b blank) refl
+text-read (b ∷ bs) any value done rest z = byte-read any value b bs done rest z (text-read bs) (eqb b space) refl
 
 -- ---- what is answered
 module _ (text words : List ℕ) where

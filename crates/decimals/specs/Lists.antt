@@ -1,21 +1,20 @@
 -- Lists of numbers parted by single blanks: what a text says, and the same read byte by byte into lent words.
 use mathlib.Core.Path.{_≡_}
 use mathlib.Core.Bool.{Bool, true, false, not, _&&_}
-use mathlib.Core.List.{List, [], _∷_, _++_}
+use mathlib.Core.List.{List, [], _∷_, _++_, map}
 use mathlib.Core.Option.{Option, none, some}
 use Prim.Native.Nat.{ℕ, _+_}
 use lib.Dec.{eqb, leb, ltb}
 use lib.ListN.{length, set, drop}
 use Rattle.base.specs.Branch.{if_then_else_}
+use Rattle.text.specs.Bytes.{space}
+use Rattle.text.specs.ProgramLine.{decimal, spaced}
 use Rattle.decimals.specs.declared.number.Number.{Number}
 use Rattle.decimals.specs.declared.number.Number.the-variants.{Is, Bad}
 use Rattle.decimals.specs.declared.list.Scan.{Scan}
 use Rattle.decimals.specs.declared.list.Count.{Count}
 use Rattle.decimals.specs.declared.list.Count.the-variants.{Of, Bad as None}
 use Rattle.decimals.specs.Numbers.{with-digit, read-number}
-
-abbrev pub blank : ℕ
-blank = 0x20
 
 -- ---- what a text says
 abbrev pub with-first : ℕ → List (List ℕ) → List (List ℕ)
@@ -25,7 +24,7 @@ with-first b (p ∷ ps) = (b ∷ p) ∷ ps
 -- a text cut at each blank; one without a blank is its only part
 unfoldable pub parts : List ℕ → List (List ℕ)
 parts [] = [] ∷ []
-parts (b ∷ bs) = if eqb b blank then (λ _. [] ∷ parts bs) else λ _. with-first b (parts bs)
+parts (b ∷ bs) = if eqb b space then (λ _. [] ∷ parts bs) else λ _. with-first b (parts bs)
 
 abbrev pub number-before : Number → Option (List ℕ) → Option (List ℕ)
 number-before Bad ns = none
@@ -44,6 +43,10 @@ at-most room (some ns) = if leb (length ns) room then (λ _. some ns) else λ _.
 -- the numbers of a text, if there is room for them
 abbrev pub list-of : ℕ → List ℕ → Option (List ℕ)
 list-of room text = at-most room (numbers-of (parts text))
+
+-- the text of a list of numbers
+abbrev pub list-text : List ℕ → List ℕ
+list-text ns = spaced (map decimal ns)
 
 abbrev pub count-of : Option (List ℕ) → Count
 count-of none = None
@@ -68,13 +71,13 @@ ends s n = s .any && ltb (s .count) n
 -- after a byte, with room for n numbers
 unfoldable pub scanned : Scan → ℕ → ℕ → Scan
 scanned s b n =
-    if not (eqb b blank) then (λ _. with-number s (with-digit (s .value) b)) else
+    if not (eqb b space) then (λ _. with-number s (with-digit (s .value) b)) else
     λ _. if ends s n then (λ _. record { value = 0; any = false; count = s .count + 1; good = s .good }) else
     λ _. spoilt s
 
 -- the words after a byte
 unfoldable pub words-after : Scan → ℕ → List ℕ → List ℕ
-words-after s b words = if eqb b blank && ends s (length words) then (λ _. set words (s .count) (s .value)) else λ _. words
+words-after s b words = if eqb b space && ends s (length words) then (λ _. set words (s .count) (s .value)) else λ _. words
 
 pub record Scanned : Type 0 where
   pub scan : Scan
@@ -82,7 +85,7 @@ pub record Scanned : Type 0 where
 
 -- after all bytes of a text, whose end ends a number too
 unfoldable pub scanned-all : Scan → List ℕ → List ℕ → Scanned
-scanned-all s words [] = record { scan = scanned s blank (length words); words = words-after s blank words }
+scanned-all s words [] = record { scan = scanned s space (length words); words = words-after s space words }
 scanned-all s words (b ∷ bs) = scanned-all (scanned s b (length words)) (words-after s b words) bs
 
 unfoldable pub counted : Scan → Count
