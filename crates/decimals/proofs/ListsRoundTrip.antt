@@ -32,7 +32,8 @@ parts-make-text [] = refl
 parts-make-text (b ∷ bs) =
     let f = first-part bs in
     let same : spaced (f .0 ∷ f .1) ≡ bs = rw (f .2) at (parts-make-text bs) in
-    if-ind (λ (qs : List (List ℕ)). spaced qs ≡ b ∷ bs) (eqb b space) _ _ (λ t. rw (f .2, eqb→eq b space t) (ap (_∷_ space) same))
+    if-ind (λ (qs : List (List ℕ)). spaced qs ≡ b ∷ bs) (eqb b space) _ _
+    (λ t. rw (f .2, eqb→eq b space t) (ap (_∷_ space) same))
     (λ _. rw (f .2) (spaced-first b (f .0) (f .1) ∙ ap (_∷_ b) same))
 
 abbrev pub Blankless : List ℕ → Type 0
@@ -87,12 +88,17 @@ module _ (room n : ℕ) (ns : List ℕ) (small : EachBelow (2 ^ 64) (n ∷ ns)) 
   pub list-reads-back : length (n ∷ ns) ≤ room → list-of room (list-text (n ∷ ns)) ≡ some (n ∷ ns)
   unfolding if_then_else_
   list-reads-back fits =
-      rw (spaced-parts (decimal n) (map decimal ns) (decimals-blankless (n ∷ ns) small), decimals-read (n ∷ ns) small, le-leb _ room fits)
+      rw (
+        spaced-parts (decimal n) (map decimal ns) (decimals-blankless (n ∷ ns) small),
+        decimals-read (n ∷ ns) small,
+        le-leb _ room fits,
+      )
 
 -- as `numbers` promises
 pub text-is-read : (n : ℕ) (ns words : List ℕ) → EachBelow (2 ^ 64) (n ∷ ns) → length (n ∷ ns) ≤ length words →
     (r : Count) (after : List ℕ) →
-    ListRead (list-text (n ∷ ns)) words r after → (r ≡ Of (length (n ∷ ns))) × (after ≡ (n ∷ ns) ++ drop (length (n ∷ ns)) words)
+    ListRead (list-text (n ∷ ns)) words r after →
+    (r ≡ Of (length (n ∷ ns))) × (after ≡ (n ∷ ns) ++ drop (length (n ∷ ns)) words)
 text-is-read n ns words small fits r after h =
     let e = list-reads-back (length words) n ns small fits in (h .count-is ∙ ap count-of e, h .written (n ∷ ns) e)
 
@@ -108,8 +114,10 @@ unfolding computing
 accepted = (refl, refl, refl)
 
 -- an empty text, one blank, two blanks between numbers, a blank before or after, a letter, a sign, a tab, 2^64, more numbers than room
-pub refused : (list-of 3 [] ≡ none) × (list-of 3 (bytes " ") ≡ none) × (list-of 3 (bytes "1  2") ≡ none) × (list-of 3 (bytes " 1") ≡ none)
+pub refused : (list-of 3 [] ≡ none) × (list-of 3 (bytes " ") ≡ none) × (list-of 3 (bytes "1  2") ≡ none)
+    × (list-of 3 (bytes " 1") ≡ none)
     × (list-of 3 (bytes "1 ") ≡ none) × (list-of 3 (bytes "1x") ≡ none) × (list-of 3 (bytes "-1") ≡ none)
-    × (list-of 3 (0x31 ∷ 0x09 ∷ 0x32 ∷ []) ≡ none) × (list-of 3 (bytes "18446744073709551616") ≡ none) × (list-of 3 (bytes "1 2 3 4") ≡ none)
+    × (list-of 3 (0x31 ∷ 0x09 ∷ 0x32 ∷ []) ≡ none) × (list-of 3 (bytes "18446744073709551616") ≡ none)
+    × (list-of 3 (bytes "1 2 3 4") ≡ none)
 unfolding computing
 refused = (refl, refl, refl, refl, refl, refl, refl, refl, refl, refl)

@@ -25,13 +25,15 @@ unfolding digits-after
 digits-append value [] ys = refl
 digits-append value (b ∷ xs) ys = go (with-digit value b) (λ more. digits-append more xs ys)
   where
-    go : (n : Number) → ((more : ℕ) → digits-after more (xs ++ ys) ≡ and-then (digits-after more xs) (λ more. digits-after more ys)) →
+    go : (n : Number) →
+        ((more : ℕ) → digits-after more (xs ++ ys) ≡ and-then (digits-after more xs) (λ more. digits-after more ys)) →
         and-then n (λ more. digits-after more (xs ++ ys))
         ≡ and-then (and-then n (λ more. digits-after more xs)) (λ more. digits-after more ys)
     go (Is more) h = h more
     go Bad h = refl
 
-one-digit : (value digit : ℕ) → digit < 10 → value * 10 + digit < 2 ^ 64 → with-digit value (first-digit + digit) ≡ Is (value * 10 + digit)
+one-digit : (value digit : ℕ) → digit < 10 → value * 10 + digit < 2 ^ 64 →
+    with-digit value (first-digit + digit) ≡ Is (value * 10 + digit)
 one-digit value digit h small =
     let low : between (first-digit + digit) 48 57 ≡ true =
     rw (le-leb 48 (first-digit + digit) (omega arith), le-leb (first-digit + digit) 57 (omega arith)) in

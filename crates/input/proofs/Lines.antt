@@ -40,7 +40,8 @@ module _ (end : ℕ) (buffer : List ℕ) (line : InputLine) (kept : List ℕ) (i
 -- ---- what was taken, by parts
 pub takes : (i : Input) (buffer kept : List ℕ) (r : Input) (t : UpToFeed KeptLine) →
     line-taken (i .line) kept (unused i buffer) ≡ t →
-    r .end ≡ i .end → r .failed ≡ i .failed → r .line ≡ t .line .counted → r .found ≡ t .found → unused r buffer ≡ t .left →
+    r .end ≡ i .end → r .failed ≡ i .failed → r .line ≡ t .line .counted → r .found ≡ t .found →
+    unused r buffer ≡ t .left →
     r .at + length (t .left) ≡ i .at + length (unused i buffer) → TakesLine i buffer kept r (t .line .kept)
 takes i buffer kept r t e end-is failed-is line-is found-is left-is at-is =
     record {
@@ -65,7 +66,8 @@ module _ (i : Input) (buffer₀ kept₀ : List ℕ) where
   pub went-none : (turns : ℕ) → longest ≤ turns → Went turns i buffer₀ kept₀ i buffer₀ kept₀
   went-none turns h = record { came = []; same = rw append-nil; last-read = inl (refl, refl, refl); long = omega arith }
 
-  pub went-on : (turns : ℕ) (j : Input) (buffer kept : List ℕ) (r : Input) (after : List ℕ) (read : Filled) (more : List ℕ) (turns′ : ℕ) →
+  pub went-on : (turns : ℕ) (j : Input) (buffer kept : List ℕ) (r : Input) (after : List ℕ) (read : Filled)
+      (more : List ℕ) (turns′ : ℕ) →
       Went turns i buffer₀ kept₀ j buffer kept → TakesLine j buffer kept r after → r .found ≡ false →
       turns ≤ turns′ + length (take (read .count) more) → Went turns′ i buffer₀ kept₀ (refilled r read) more after
   went-on turns j buffer kept r after read more turns′ w t e h =
@@ -94,7 +96,8 @@ counted-on n h = go (ltb n longest) refl
     go true e = omega (arith, ltb-true n longest e)
     go false e = omega (arith, ltb-false n longest e)
 
-byte-counted : (c : Bool) (s : KeptLine) (bs : List ℕ) (t : UpToFeed KeptLine) (k : ℕ) → (t .found ≡ false → t .line .counted .length ≡ k) →
+byte-counted : (c : Bool) (s : KeptLine) (bs : List ℕ) (t : UpToFeed KeptLine) (k : ℕ) →
+    (t .found ≡ false → t .line .counted .length ≡ k) →
     (if c then (λ _. record { line = s; left = bs; found = true }) else λ _. t) .found ≡ false →
     (if c then (λ _. record { line = s; left = bs; found = true }) else λ _. t) .line .counted .length ≡ k
 unfolding if_then_else_

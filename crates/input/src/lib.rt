@@ -2,7 +2,8 @@
 ghost use mathlib.Core.Path.{_≡_};
 ghost use Prim.Native.Nat.{min};
 ghost use lib.ListN.{length, set};
-ghost use Rattle.input.specs.Lines.{with-byte, count-on, complete-line, ended, begun, refilled, read-of, Fills, TakesLine, ReadsLine};
+ghost use Rattle.input.specs.Lines.{with-byte, count-on, complete-line, ended, begun, refilled, read-of};
+ghost use Rattle.input.specs.Lines.{Fills, TakesLine, ReadsLine};
 use libc::STDIN_FILENO;
 
 const LONGEST: usize = 18446744073709551615;

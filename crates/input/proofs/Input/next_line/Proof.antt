@@ -69,7 +69,8 @@ returns-2 c =
     let w = went-on _ _ _ (l .turns) (l .input) (l .buffer) (l .kept) (at-take .take .result) _ (fill .result) (fill .last .0) (l .turns)
     (rw (at-begun .begun .ensures) at (l .inv .0)) (at-take .take .ensures) (at-if1 .if1 .left) (omega arith) in
     rw (c .before .refilled .ensures)
-    (reads-end (a .self) (now (a .buffer)) (now (a .kept)) (at-take .take .result) (fill .result) (fill .last .0) _ (l .turns) w (c .if2 .taken))
+    (reads-end (a .self) (now (a .buffer)) (now (a .kept)) (at-take .take .result) (fill .result) (fill .last .0) _
+    (l .turns) w (c .if2 .taken))
 
 sub-turns : tie.Need-sub-turns Inv-loop μ-loop
 sub-turns c = search needs
