@@ -2,23 +2,24 @@
 use mathlib.Core.Path.{_≡_, refl, sym, ap, _∙_}
 use mathlib.Core.Bool.{Bool, true, false}
 use mathlib.Core.List.{List, [], _∷_, _++_, map}
-use mathlib.Core.Option.{Option, none, some}
+use mathlib.Core.Option.{Option, none, some, Option·getD, Option·none-ne-some}
 use Prim.Native.Nat.{ℕ, _^_, _<_, _≤_}
 use native.Mathlib.Omega.{arith}
-use lib.Dec.{T, eqb, eqb→eq}
+use lib.Dec.{eqb, leb, eqb→eq}
 use lib.ListN.{length, drop}
-use borrow.Author.Tests.{le-leb, ne-eqb}
+use borrow.Author.Tests.{le-leb, leb-true, ne-eqb}
 use Rattle.base.specs.Branch.{if_then_else_}
 use Rattle.base.proofs.Branch.{if-ind}
 use Rattle.text.specs.Bytes.{space}
 use Rattle.text.specs.ProgramLine.{decimal, spaced}
 use Rattle.text.proofs.Examples.{bytes}
-use Rattle.decimals.specs.declared.number.Number.the-variants.{Is}
+use Rattle.decimals.specs.declared.number.Number.{Number}
+use Rattle.decimals.specs.declared.number.Number.the-variants.{Is, Bad}
 use Rattle.decimals.specs.declared.list.Count.{Count}
 use Rattle.decimals.specs.declared.list.Count.the-variants.{Of}
 use Rattle.decimals.specs.Numbers.{with-digit, digits-after, read-number}
-use Rattle.decimals.specs.Lists.{with-first, parts, number-before, numbers-of, list-of, list-text, count-of, ListRead}
-use Rattle.decimals.proofs.NumbersRoundTrip.{bad-is-none, digit-read, first-digit-read, number-reads-back}
+use Rattle.decimals.specs.Lists.{with-first, parts, number-before, numbers-of, at-most, list-of, list-text, count-of, ListRead}
+use Rattle.decimals.proofs.NumbersRoundTrip.{digit-read, first-digit-read, number-reads-back, AfterZeros, read-is-decimal}
 use Rattle.decimals.proofs.ListsRead.{first-part}
 
 -- ---- parts
@@ -101,6 +102,41 @@ pub text-is-read : (n : ℕ) (ns words : List ℕ) → EachBelow (2 ^ 64) (n ∷
     (r ≡ Of (length (n ∷ ns))) × (after ≡ (n ∷ ns) ++ drop (length (n ∷ ns)) words)
 text-is-read n ns words small fits r after h =
     let e = list-reads-back (length words) n ns small fits in (h .count-is ∙ ap count-of e, h .written (n ∷ ns) e)
+
+-- ---- what is read is such a text, but for zeros before a number
+abbrev pub EachAfterZeros : List (List ℕ) → List ℕ → Type 0
+EachAfterZeros [] [] = Unit {0}
+EachAfterZeros [] (n ∷ ns) = ⊥
+EachAfterZeros (p ∷ ps) [] = ⊥
+EachAfterZeros (p ∷ ps) (n ∷ ns) = AfterZeros p n × EachAfterZeros ps ns
+
+same-list : (ms ns : List ℕ) → _≡_ {A = Option (List ℕ)} (some ms) (some ns) → ms ≡ ns
+same-list ms ns e = ap (λ (o : Option (List ℕ)). Option·getD o []) e
+
+parts-are-decimals : (ps : List (List ℕ)) (ns : List ℕ) → numbers-of ps ≡ some ns → EachAfterZeros ps ns
+unfolding numbers-of
+parts-are-decimals [] ns e = rw (← same-list [] ns e) tt
+parts-are-decimals (p ∷ ps) ns e = go (read-number p) refl (numbers-of ps) refl (parts-are-decimals ps) e
+  where
+    go : (m : Number) → read-number p ≡ m → (ms : Option (List ℕ)) → numbers-of ps ≡ ms →
+        ((ns : List ℕ) → numbers-of ps ≡ some ns → EachAfterZeros ps ns) → number-before m ms ≡ some ns → EachAfterZeros (p ∷ ps) ns
+    go Bad h ms k more e = absurd (Option·none-ne-some ns e)
+    go (Is n) h none k more e = absurd (Option·none-ne-some ns e)
+    go (Is n) h (some ms) k more e = rw (← same-list (n ∷ ms) ns e) (read-is-decimal p n h, more ms k)
+
+said-by : (room : ℕ) (said : Option (List ℕ)) (ns : List ℕ) → at-most room said ≡ some ns → (said ≡ some ns) × (length ns ≤ room)
+unfolding if_then_else_
+said-by room none ns e = absurd (Option·none-ne-some ns e)
+said-by room (some ms) ns e = go (leb (length ms) room) refl e
+  where
+    go : (c : Bool) → leb (length ms) room ≡ c → (if c then (λ _. some ms) else λ _. none) ≡ some ns →
+        (some ms ≡ some ns) × (length ns ≤ room)
+    go true h e = (e, rw (← same-list ms ns e) (leb-true (length ms) room h))
+    go false h e = absurd (Option·none-ne-some ns e)
+
+pub read-is-text : (room : ℕ) (text ns : List ℕ) → list-of room text ≡ some ns → EachAfterZeros (parts text) ns × (length ns ≤ room)
+read-is-text room text ns e =
+    let s = said-by room (numbers-of (parts text)) ns e in (parts-are-decimals (parts text) ns (s .0), s .1)
 
 -- ---- texts at the edges
 computing : Unit {0}

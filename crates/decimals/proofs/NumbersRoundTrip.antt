@@ -1,15 +1,16 @@
 -- A number is read back from its text.
 use mathlib.Core.Path.{_≡_, refl, sym, ap, _∙_}
 use mathlib.Core.Bool.{Bool, true, false, true≢false}
-use mathlib.Core.List.{List, [], _∷_, _++_}
+use mathlib.Core.List.{List, [], _∷_, _++_, append-assoc, append-nil}
 use Prim.Native.Nat.{ℕ, zero, suc, _+_, _-_, _*_, _/_, _%_, _^_, _<_, _≤_}
 use native.Mathlib.Omega.{arith}
 use lib.Dec.{T, ltb, nltb→le, ltb→lt}
 use lib.IntN.{ℤ, pos, negsuc, natAbs}
 use lib.ListN.{length, length-append}
-use borrow.Author.Tests.{le-leb, lt-ltb, ne-eqb}
+use lib.Seq.{append-snoc}
+use borrow.Author.Tests.{le-leb, lt-ltb, le-ltb, ne-eqb}
 use Rattle.base.specs.Branch.{if_then_else_}
-use Rattle.base.proofs.Branch.{if-ind}
+use Rattle.base.proofs.Branch.{if-ind, if-both}
 use Rattle.text.specs.Bytes.{minus, first-digit}
 use Rattle.text.specs.ProgramLine.{in-places, decimal, signed}
 use Rattle.decimals.specs.declared.number.Number.{Number}
@@ -110,3 +111,81 @@ pub signed-reads-back : (z : ℤ) → natAbs z < 2 ^ 63 → read-signed (signed 
 unfolding signed
 signed-reads-back (pos n) small = positive-reads (decimal n) n (number-reads-back n (omega arith)) small
 signed-reads-back (negsuc n) small = minus-reads n small
+
+-- ---- what is read is the number's text after zeros
+abbrev pub zeros : ℕ → List ℕ
+zeros zero = []
+zeros (suc k) = first-digit ∷ zeros k
+
+abbrev pub AfterZeros : List ℕ → ℕ → Type 0
+AfterZeros text n = (k : ℕ) × (text ≡ zeros k ++ decimal n)
+
+abbrev value-of : Number → ℕ
+value-of (Is n) = n
+value-of Bad = 0
+
+same-number : (m n : ℕ) → Is m ≡ Is n → m ≡ n
+same-number m n e = ap value-of e
+
+digit-value : (value b more : ℕ) → with-digit value b ≡ Is more → more ≡ value * 10 + (b - 48)
+unfolding with-digit
+digit-value value b more e = if-ind (λ (d : Number). d ≡ Is more → more ≡ value * 10 + (b - 48)) _ _ _
+    (λ _ h. sym (same-number _ more h)) (λ _ h. absurd (bad-is-none more h)) e
+
+in-places-same : (f g n : ℕ) → n < f → n < g → in-places f n ≡ in-places g n
+unfolding in-places
+in-places-same zero g n h k = absurd (omega arith)
+in-places-same (suc f) zero n h k = absurd (omega arith)
+in-places-same (suc f) (suc g) n h k = if-both (λ (a b : List ℕ). a ≡ b) (ltb n 10) _ _ _ _ (λ _. refl)
+    (λ t. let ten = nltb→le n 10 t in
+    ap (λ (ds : List ℕ). ds ++ ((first-digit + n % 10) ∷ [])) (in-places-same f g (n / 10) (omega arith) (omega arith)))
+
+short-decimal : (d : ℕ) → d < 10 → decimal d ≡ (first-digit + d) ∷ []
+unfolding decimal in-places if_then_else_
+short-decimal d h = rw (lt-ltb d 10 h)
+
+longer-decimal : (value d : ℕ) → 0 < value → d < 10 → decimal (value * 10 + d) ≡ decimal value ++ ((first-digit + d) ∷ [])
+unfolding decimal in-places if_then_else_
+longer-decimal value d h k =
+    let n = value * 10 + d in
+    let a : n / 10 ≡ value = omega arith in
+    let b : n % 10 ≡ d = omega arith in
+    rw (le-ltb n 10 (omega arith), a, b)
+    (ap (λ (ds : List ℕ). ds ++ ((first-digit + d) ∷ [])) (in-places-same n (suc value) value (omega arith) (omega arith)))
+
+zeros-end : (k : ℕ) (text : List ℕ) → zeros k ++ (first-digit ∷ text) ≡ first-digit ∷ (zeros k ++ text)
+zeros-end zero text = refl
+zeros-end (suc k) text = ap (_∷_ first-digit) (zeros-end k text)
+
+one-more-digit : (text : List ℕ) (value d : ℕ) → d < 10 → AfterZeros text value →
+    AfterZeros (text ++ ((first-digit + d) ∷ [])) (value * 10 + d)
+one-more-digit text zero d h (k, e) =
+    let z : 0 * 10 + d ≡ d = omega arith in (
+      suc k,
+      rw (e, z, short-decimal d h, short-decimal 0 (omega arith), append-assoc (zeros k) (first-digit ∷ []) ((first-digit + d) ∷ []))
+          (zeros-end k ((first-digit + d) ∷ [])),
+    )
+one-more-digit text (suc v) d h (k, e) =
+    (k, rw (e, longer-decimal (suc v) d (omega arith) h) (append-assoc (zeros k) (decimal (suc v)) ((first-digit + d) ∷ [])))
+
+digits-are : (text rest : List ℕ) (value n : ℕ) → AfterZeros text value → digits-after value rest ≡ Is n →
+    AfterZeros (text ++ rest) n
+unfolding digits-after
+digits-are text [] value n z e = rw (append-nil text, ← same-number value n e) z
+digits-are text (b ∷ bs) value n z e =
+    let f = first-digit-read value b bs n e in
+    let d = digit-read value b (f .0) (f .1) in
+    let m : f .0 ≡ value * 10 + (b - 48) = digit-value value b (f .0) (f .1) in
+    let same : first-digit + (b - 48) ≡ b = omega arith in
+    let next : AfterZeros (text ++ (b ∷ [])) (f .0) = rw m (rw same at (one-more-digit text value (b - 48) (omega arith) z)) in
+    rw (← append-snoc text b bs) (digits-are (text ++ (b ∷ [])) bs (f .0) n next (f .2))
+
+pub read-is-decimal : (text : List ℕ) (n : ℕ) → read-number text ≡ Is n → AfterZeros text n
+unfolding read-number
+read-is-decimal [] n e = absurd (bad-is-none n e)
+read-is-decimal (b ∷ bs) n e =
+    let f = first-digit-read 0 b bs n e in
+    let d = digit-read 0 b (f .0) (f .1) in
+    let m : f .0 ≡ b - 48 = digit-value 0 b (f .0) (f .1) ∙ omega arith in
+    let same : first-digit + (b - 48) ≡ b = omega arith in
+    digits-are (b ∷ []) bs (f .0) n (0, rw (m, short-decimal (b - 48) (omega arith), same)) (f .2)
