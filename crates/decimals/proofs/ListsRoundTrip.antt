@@ -119,12 +119,14 @@ parts-are-decimals [] ns e = rw (← same-list [] ns e) tt
 parts-are-decimals (p ∷ ps) ns e = go (read-number p) refl (numbers-of ps) refl (parts-are-decimals ps) e
   where
     go : (m : Number) → read-number p ≡ m → (ms : Option (List ℕ)) → numbers-of ps ≡ ms →
-        ((ns : List ℕ) → numbers-of ps ≡ some ns → EachAfterZeros ps ns) → number-before m ms ≡ some ns → EachAfterZeros (p ∷ ps) ns
+        ((ns : List ℕ) → numbers-of ps ≡ some ns → EachAfterZeros ps ns) → number-before m ms ≡ some ns →
+        EachAfterZeros (p ∷ ps) ns
     go Bad h ms k more e = absurd (Option·none-ne-some ns e)
     go (Is n) h none k more e = absurd (Option·none-ne-some ns e)
     go (Is n) h (some ms) k more e = rw (← same-list (n ∷ ms) ns e) (read-is-decimal p n h, more ms k)
 
-said-by : (room : ℕ) (said : Option (List ℕ)) (ns : List ℕ) → at-most room said ≡ some ns → (said ≡ some ns) × (length ns ≤ room)
+said-by : (room : ℕ) (said : Option (List ℕ)) (ns : List ℕ) → at-most room said ≡ some ns →
+    (said ≡ some ns) × (length ns ≤ room)
 unfolding if_then_else_
 said-by room none ns e = absurd (Option·none-ne-some ns e)
 said-by room (some ms) ns e = go (leb (length ms) room) refl e
@@ -134,7 +136,8 @@ said-by room (some ms) ns e = go (leb (length ms) room) refl e
     go true h e = (e, rw (← same-list ms ns e) (leb-true (length ms) room h))
     go false h e = absurd (Option·none-ne-some ns e)
 
-pub read-is-text : (room : ℕ) (text ns : List ℕ) → list-of room text ≡ some ns → EachAfterZeros (parts text) ns × (length ns ≤ room)
+pub read-is-text : (room : ℕ) (text ns : List ℕ) → list-of room text ≡ some ns →
+    EachAfterZeros (parts text) ns × (length ns ≤ room)
 read-is-text room text ns e =
     let s = said-by room (numbers-of (parts text)) ns e in (parts-are-decimals (parts text) ns (s .0), s .1)
 
