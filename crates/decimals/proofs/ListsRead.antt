@@ -1,13 +1,13 @@
 -- The bytes of a text, read one after the other, give the numbers of its parts.
-use mathlib.Core.Path.{_≡_, refl, sym, ap, _∙_}
+use mathlib.Core.Path.{_≡_, refl, ap, _∙_}
 use mathlib.Core.Bool.{Bool, true, false, true≢false}
 use mathlib.Core.List.{List, [], _∷_, _++_, append-nil}
 use mathlib.Core.Option.{Option, none, some, Option·getD, Option·none-ne-some}
-use Prim.Native.Nat.{ℕ, suc, _+_, _<_, _≤_}
+use Prim.Native.Nat.{ℕ, _+_, _<_, _≤_}
 use native.Mathlib.Nat.{zero-add}
 use native.Mathlib.Omega.{arith}
 use lib.Dec.{eqb, eqb→eq}
-use lib.ListN.{length, set, drop, length-append}
+use lib.ListN.{length, drop, length-append}
 use lib.Seq.{append-snoc, set-append-seam}
 use borrow.Author.Tests.{lt-ltb, le-ltb, le-leb, lt-leb}
 use Rattle.base.specs.Branch.{if_then_else_}
@@ -19,8 +19,8 @@ use Rattle.decimals.specs.declared.list.Scan.{Scan}
 use Rattle.decimals.specs.declared.list.Count.{Count}
 use Rattle.decimals.specs.declared.list.Count.the-variants.{Of}
 use Rattle.decimals.specs.Numbers.{with-digit, and-then, digits-after, read-number}
-use Rattle.decimals.specs.Lists.{with-first, parts, number-before, numbers-of, at-most, list-of, count-of}
-use Rattle.decimals.specs.Lists.{new-scan, spoilt, with-number, ends, scanned, words-after, Scanned, scanned-all, counted, ListRead}
+use Rattle.decimals.specs.Lists.{with-first, parts, number-before, numbers-of, at-most, count-of}
+use Rattle.decimals.specs.Lists.{new-scan, with-number, ends, scanned, words-after, Scanned, scanned-all, counted, ListRead}
 
 -- ---- options of lists
 some-length : (ms ns : List ℕ) → _≡_ {A = Option (List ℕ)} (some ms) (some ns) → length ms ≡ length ns

@@ -1,5 +1,5 @@
 -- The parts of a text make the text; a list of numbers is read back from its text; refused texts, computed.
-use mathlib.Core.Path.{_≡_, refl, sym, ap, _∙_}
+use mathlib.Core.Path.{_≡_, refl, ap, _∙_}
 use mathlib.Core.Bool.{Bool, true, false}
 use mathlib.Core.List.{List, [], _∷_, _++_, map}
 use mathlib.Core.Option.{Option, none, some, Option·getD, Option·none-ne-some}
@@ -18,7 +18,7 @@ use Rattle.decimals.specs.declared.number.Number.the-variants.{Is, Bad}
 use Rattle.decimals.specs.declared.list.Count.{Count}
 use Rattle.decimals.specs.declared.list.Count.the-variants.{Of}
 use Rattle.decimals.specs.Numbers.{with-digit, digits-after, read-number}
-use Rattle.decimals.specs.Lists.{with-first, parts, number-before, numbers-of, at-most, list-of, list-text, count-of, ListRead}
+use Rattle.decimals.specs.Lists.{parts, number-before, numbers-of, at-most, list-of, list-text, count-of, ListRead}
 use Rattle.decimals.proofs.NumbersRoundTrip.{digit-read, first-digit-read, number-reads-back, AfterZeros, read-is-decimal}
 use Rattle.decimals.proofs.ListsRead.{first-part}
 

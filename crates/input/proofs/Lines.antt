@@ -3,7 +3,7 @@ use mathlib.Core.Path.{_≡_, refl, sym, ap, _∙_}
 use mathlib.Core.Bool.{Bool, true, false, true≢false}
 use mathlib.Core.Logic.{inl, inr}
 use mathlib.Core.List.{List, [], _∷_, _++_, append-assoc, append-nil}
-use Prim.Native.Nat.{ℕ, suc, _+_, _-_, _<_, _≤_, min}
+use Prim.Native.Nat.{ℕ, _+_, _<_, _≤_, min}
 use native.Mathlib.Omega.{arith}
 use lib.Dec.{eqb, ltb}
 use lib.ListN.{length, getD, set, take, drop, length-take, length-append}
@@ -16,7 +16,7 @@ use Rattle.input.specs.declared.InputLine.{InputLine}
 use Rattle.input.specs.declared.Input.{Input}
 use Rattle.input.specs.declared.Filled.{Filled}
 use Rattle.input.specs.Lines.{longest, new-line, count-on, with-byte, KeptLine, kept-with, line-taken, unused, begun, refilled}
-use Rattle.input.specs.Lines.{TakesLine, LastRead, Ended, ReadsLine}
+use Rattle.input.specs.Lines.{TakesLine, LastRead, ReadsLine}
 
 -- ---- one byte of a part of a buffer
 module _ (end : ℕ) (buffer : List ℕ) (line : InputLine) (kept : List ℕ) (i : ℕ) (h : i < length (take end buffer)) where

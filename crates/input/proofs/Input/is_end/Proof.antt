@@ -1,5 +1,4 @@
 -- The ways of the tests.
-use borrow.Author.Needs.{needs}
 use Rattle.input.proofs.Input.is_end.Statement.{statement}
 use Rattle.input.proofs.Input.is_end.Tie as tie
 
