@@ -3,3 +3,4 @@ pub mod NumbersRoundTrip
 pub mod Lists
 pub mod ListsRead
 pub mod ListsRoundTrip
+pub mod ListsHeld

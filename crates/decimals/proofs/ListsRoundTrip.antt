@@ -10,9 +10,8 @@ use lib.ListN.{length, drop}
 use borrow.Author.Tests.{le-leb, leb-true, ne-eqb}
 use Rattle.base.specs.Branch.{if_then_else_}
 use Rattle.base.proofs.Branch.{if-ind}
-use Rattle.text.specs.Bytes.{space}
+use Rattle.text.specs.Bytes.{space, quoted}
 use Rattle.text.specs.ProgramLine.{decimal, spaced}
-use Rattle.text.proofs.Examples.{bytes}
 use Rattle.decimals.specs.declared.number.Number.{Number}
 use Rattle.decimals.specs.declared.number.Number.the-variants.{Is, Bad}
 use Rattle.decimals.specs.declared.list.Count.{Count}
@@ -143,20 +142,20 @@ read-is-text room text ns e =
 
 -- ---- texts at the edges
 computing : Unit {0}
-unfolding bytes parts numbers-of read-number digits-after with-digit if_then_else_
+unfolding quoted parts numbers-of read-number digits-after with-digit if_then_else_
 computing = tt
 
 -- leading zeros count for nothing; the largest number; as many as there is room for
-pub accepted : (list-of 3 (bytes "7") ≡ some (7 ∷ [])) × (list-of 3 (bytes "007 0 10") ≡ some (7 ∷ 0 ∷ 10 ∷ []))
-    × (list-of 1 (bytes "18446744073709551615") ≡ some (18446744073709551615 ∷ []))
+pub accepted : (list-of 3 (quoted "7") ≡ some (7 ∷ [])) × (list-of 3 (quoted "007 0 10") ≡ some (7 ∷ 0 ∷ 10 ∷ []))
+    × (list-of 1 (quoted "18446744073709551615") ≡ some (18446744073709551615 ∷ []))
 unfolding computing
 accepted = (refl, refl, refl)
 
 -- an empty text, one blank, two blanks between numbers, a blank before or after, a letter, a sign, a tab, 2^64, more numbers than room
-pub refused : (list-of 3 [] ≡ none) × (list-of 3 (bytes " ") ≡ none) × (list-of 3 (bytes "1  2") ≡ none)
-    × (list-of 3 (bytes " 1") ≡ none)
-    × (list-of 3 (bytes "1 ") ≡ none) × (list-of 3 (bytes "1x") ≡ none) × (list-of 3 (bytes "-1") ≡ none)
-    × (list-of 3 (0x31 ∷ 0x09 ∷ 0x32 ∷ []) ≡ none) × (list-of 3 (bytes "18446744073709551616") ≡ none)
-    × (list-of 3 (bytes "1 2 3 4") ≡ none)
+pub refused : (list-of 3 [] ≡ none) × (list-of 3 (quoted " ") ≡ none) × (list-of 3 (quoted "1  2") ≡ none)
+    × (list-of 3 (quoted " 1") ≡ none)
+    × (list-of 3 (quoted "1 ") ≡ none) × (list-of 3 (quoted "1x") ≡ none) × (list-of 3 (quoted "-1") ≡ none)
+    × (list-of 3 (0x31 ∷ 0x09 ∷ 0x32 ∷ []) ≡ none) × (list-of 3 (quoted "18446744073709551616") ≡ none)
+    × (list-of 3 (quoted "1 2 3 4") ≡ none)
 unfolding computing
 refused = (refl, refl, refl, refl, refl, refl, refl, refl, refl, refl)

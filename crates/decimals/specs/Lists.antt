@@ -13,7 +13,7 @@ use Rattle.decimals.specs.declared.number.Number.{Number}
 use Rattle.decimals.specs.declared.number.Number.the-variants.{Is, Bad}
 use Rattle.decimals.specs.declared.list.Scan.{Scan}
 use Rattle.decimals.specs.declared.list.Count.{Count}
-use Rattle.decimals.specs.declared.list.Count.the-variants.{Of, Bad as None}
+use Rattle.decimals.specs.declared.list.Count.the-variants.{Of, Bad as Bad-count}
 use Rattle.decimals.specs.Numbers.{with-digit, read-number}
 
 -- ---- what a text says
@@ -49,7 +49,7 @@ abbrev pub list-text : List ℕ → List ℕ
 list-text ns = spaced (map decimal ns)
 
 abbrev pub count-of : Option (List ℕ) → Count
-count-of none = None
+count-of none = Bad-count
 count-of (some ns) = Of (length ns)
 
 -- ---- a text read byte by byte
@@ -64,7 +64,7 @@ abbrev pub with-number : Scan → Number → Scan
 with-number s (Is n) = record { value = n; any = true; count = s .count; good = s .good }
 with-number s Bad = spoilt s
 
--- whether a blank ends a number for which there is room, with room for n
+-- whether a blank ends a number, and fewer than n stand before it
 abbrev pub ends : Scan → ℕ → Bool
 ends s n = s .any && ltb (s .count) n
 
@@ -89,7 +89,7 @@ scanned-all s words [] = record { scan = scanned s space (length words); words =
 scanned-all s words (b ∷ bs) = scanned-all (scanned s b (length words)) (words-after s b words) bs
 
 unfoldable pub counted : Scan → Count
-counted s = if s .good then (λ _. Of (s .count)) else λ _. None
+counted s = if s .good then (λ _. Of (s .count)) else λ _. Bad-count
 
 -- what is answered of a text: how many numbers it says; they stand first in the words, the others are as before
 pub record ListRead (text words : List ℕ) (r : Count) (after : List ℕ) : Type 0 where

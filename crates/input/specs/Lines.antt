@@ -88,8 +88,8 @@ LastRead i buffer came r after =
     ((came ≡ []) × (r .end ≡ i .end) × (after ≡ buffer)) ⊎ ((earlier : List ℕ) × (came ≡ earlier ++ take (r .end) after))
 
 -- no line feed came: the last read gave no byte; or the line is as long as can be counted
-abbrev pub Ended : Input → Type 0
-Ended r = (r .end ≡ 0) ⊎ (r .line .length ≡ longest)
+abbrev pub NoFeedCame : Input → Type 0
+NoFeedCame r = (r .end ≡ 0) ⊎ (r .line .length ≡ longest)
 
 -- the next line: the bytes that were not yet used, and then those that were read
 pub record ReadsLine (i : Input) (buffer kept : List ℕ) (r : Input) (buffer-after after : List ℕ) : Type 0 where
@@ -99,6 +99,6 @@ pub record ReadsLine (i : Input) (buffer kept : List ℕ) (r : Input) (buffer-af
   pub found-is : r .found ≡ line-taken new-line kept (unused i buffer ++ came) .found
   pub kept-is : after ≡ line-taken new-line kept (unused i buffer ++ came) .line .kept
   pub left-is : unused r buffer-after ≡ line-taken new-line kept (unused i buffer ++ came) .left
-  pub ends : r .found ≡ false → Ended r
+  pub ends : r .found ≡ false → NoFeedCame r
   -- a failed read is the last one, and no line is found with it
   pub failed-ends : r .failed ≡ true → (r .found ≡ false) × (r .end ≡ 0)

@@ -1,1 +1,5 @@
 pub mod FieldsParted
+pub mod FieldsJoined
+pub mod AgreementCompared
+pub mod TotalsText
+pub mod TotalsCount

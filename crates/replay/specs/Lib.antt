@@ -1,3 +1,4 @@
 pub mod Fields
 pub mod Totals
 pub mod Draws
+pub mod Agreement

@@ -1,10 +1,8 @@
 // Fields of a line, parted by tabs.
 ghost use mathlib.Core.Path.{_≡_};
 ghost use Prim.Native.Nat.{_+_, _≤_};
-ghost use lib.Dec.{eqb};
 ghost use lib.ListN.{length, drop};
-ghost use Rattle.base.specs.Lists.{count};
-ghost use Rattle.replay.specs.Fields.{until-tab, past-tab, field};
+ghost use Rattle.replay.specs.Fields.{until-tab, past-tab, field, tabs};
 
 const TAB: u8 = 9;
 
@@ -41,7 +39,7 @@ pub fn field(line: &[u8], k: usize) -> &[u8]
 
 // How many tabs a line has: one less than its fields.
 pub fn tabs(line: &[u8]) -> usize
-    ensures { λ r. ⌜ r ≡ count (eqb 9) (now (line .entry)) ⌝ }
+    ensures { λ r. ⌜ r ≡ tabs (now (line .entry)) ⌝ }
 {
     let mut n: usize = 0;
     let mut i: usize = 0;

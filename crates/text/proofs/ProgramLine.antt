@@ -15,38 +15,37 @@ use Rattle.base.proofs.Branch.{if-ind, if-both}
 use Rattle.rules.specs.declared.Player.the-variants.{X}
 use Rattle.rules.specs.Status.{Status, unproven, for-player}
 use Rattle.rules.specs.Play.{no-move}
-use Rattle.text.specs.Bytes.{space, first-digit}
+use Rattle.text.specs.Bytes.{space, first-digit, quoted}
 use Rattle.text.specs.ProgramLine.{Parted, no-blank, around, parted-with, parted, depth-of, no-depth, asks, asked, in-places}
 use Rattle.text.specs.ProgramLine.{decimal, signed, shown, status-letters, move-letters, or-minus, moves-text, spaced, answer-text}
 use Rattle.text.specs.ProgramLine.{refusal-text}
-use Rattle.text.proofs.Examples.{bytes}
 
 computing : Unit {0}
-unfolding bytes parted depth-of in-places decimal signed move-letters if_then_else_
+unfolding quoted parted depth-of in-places decimal signed move-letters if_then_else_
 computing = tt
 
 -- ---- document 01's four outputs, from their parts
 pub four-outputs :
-    (answer-text unproven 81 1 (pos 16) 82 (0x44 ∷ []) ≡ bytes "XOD 81 1 16 82 ee")
-    × (answer-text (for-player X) 7 1 (pos (2 ^ 60)) 8 (0x22 ∷ no-move ∷ 0x44 ∷ []) ≡ bytes "X 7 1 1152921504606846976 8 cc")
-    × (answer-text unproven 0 1 (negsuc (2 ^ 60 - 1)) 1 (no-move ∷ []) ≡ bytes "XOD 0 1 -1152921504606846976 1 -")
-    × (refusal-text 2 ≡ bytes "E 2")
+    (answer-text unproven 81 1 (pos 16) 82 (0x44 ∷ []) ≡ quoted "XOD 81 1 16 82 ee")
+    × (answer-text (for-player X) 7 1 (pos (2 ^ 60)) 8 (0x22 ∷ no-move ∷ 0x44 ∷ []) ≡ quoted "X 7 1 1152921504606846976 8 cc")
+    × (answer-text unproven 0 1 (negsuc (2 ^ 60 - 1)) 1 (no-move ∷ []) ≡ quoted "XOD 0 1 -1152921504606846976 1 -")
+    × (refusal-text 2 ≡ quoted "E 2")
 unfolding computing
 four-outputs = (refl, refl, refl, refl)
 
 -- ---- the edges of what a line asks
 -- 19: an empty line, no blank, a blank at the end, three digits, something else than a digit first or second, a tab for the blank
 pub no-depths :
-    (asked [] ≡ no-depth) × (asked (bytes "X3") ≡ no-depth) × (asked (bytes "X 3 ") ≡ no-depth) × (asked (bytes "X 100") ≡ no-depth)
-    × (asked (bytes "X -1") ≡ no-depth) × (asked (bytes "X 1x") ≡ no-depth) × (asked (0x58 ∷ 0x09 ∷ 0x33 ∷ []) ≡ no-depth)
+    (asked [] ≡ no-depth) × (asked (quoted "X3") ≡ no-depth) × (asked (quoted "X 3 ") ≡ no-depth) × (asked (quoted "X 100") ≡ no-depth)
+    × (asked (quoted "X -1") ≡ no-depth) × (asked (quoted "X 1x") ≡ no-depth) × (asked (0x58 ∷ 0x09 ∷ 0x33 ∷ []) ≡ no-depth)
 unfolding computing
 no-depths = (refl, refl, refl, refl, refl, refl, refl)
 
 -- the last of several blanks parts; zeros in front count for nothing; `00` and `82` are numbers
 pub depths :
-    (asked (bytes "X 3") ≡ asks (bytes "X") 3) × (asked (bytes "X 12 3") ≡ asks (bytes "X 12") 3) × (asked (bytes "X  3") ≡ asks (bytes "X ") 3)
-    × (asked (bytes " 3") ≡ asks [] 3) × (asked (bytes "X 04") ≡ asks (bytes "X") 4) × (asked (bytes "X 00") ≡ asks (bytes "X") 0)
-    × (asked (bytes "X 82") ≡ asks (bytes "X") 82)
+    (asked (quoted "X 3") ≡ asks (quoted "X") 3) × (asked (quoted "X 12 3") ≡ asks (quoted "X 12") 3) × (asked (quoted "X  3") ≡ asks (quoted "X ") 3)
+    × (asked (quoted " 3") ≡ asks [] 3) × (asked (quoted "X 04") ≡ asks (quoted "X") 4) × (asked (quoted "X 00") ≡ asks (quoted "X") 0)
+    × (asked (quoted "X 82") ≡ asks (quoted "X") 82)
 unfolding computing
 depths = (refl, refl, refl, refl, refl, refl, refl)
 

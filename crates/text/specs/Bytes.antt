@@ -1,5 +1,8 @@
 -- The bytes that texts are made of.
+use mathlib.Core.List.{List, [], _∷_}
 use Prim.Native.Nat.{ℕ}
+use Prim.Native.Char.{code}
+use Prim.Native.String.{String}
 use Rattle.rules.specs.declared.Player.{Player}
 use Rattle.rules.specs.declared.Player.the-variants.{X, O}
 
@@ -47,3 +50,8 @@ letter-draw = 0x44
 -- `E`, of a refused line
 abbrev pub letter-refused : ℕ
 letter-refused = 0x45
+
+-- the bytes of a quoted text of ASCII
+unfoldable pub quoted : String → List ℕ
+quoted String.[] = []
+quoted (String._∷_ c s) = code c ∷ quoted s

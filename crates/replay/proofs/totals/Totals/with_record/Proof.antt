@@ -24,21 +24,6 @@ one-more-requires-4 c κs = search needs
 enum-told-3 : tie.Need-enum-told-3
 enum-told-3 c = search needs
 
-slice-aggregate-write-all : tie.Need-slice-aggregate-write-all
-slice-aggregate-write-all c = search needs
-
-write-all-requires : tie.Need-write-all-requires
-write-all-requires c κs = search needs
-
-print-decimal-requires : tie.Need-print-decimal-requires
-print-decimal-requires c κs = search needs
-
-slice-aggregate-write-all-2 : tie.Need-slice-aggregate-write-all-2
-slice-aggregate-write-all-2 c = search needs
-
-write-all-requires-2 : tie.Need-write-all-requires-2
-write-all-requires-2 c κs = search needs
-
 returns : tie.Need-returns
 returns c = rw (c .before .enum-told .given .1, c .before .before .before .one-more .ensures, c .one-more2 .ensures)
 
@@ -52,11 +37,7 @@ returns-2 c =
     )
 
 returns-3 : tie.Need-returns-3
-returns-3 c =
-    rw (
-      c .before .before .before .before .before .enum-told3 .given .1,
-      c .before .before .before .before .before .before .before .one-more .ensures,
-    )
+returns-3 c = rw (c .enum-told3 .given .1, c .before .before .one-more .ensures)
 
 pub with-record-spec : {M : Type 1} → statement M
 with-record-spec =
@@ -69,11 +50,6 @@ with-record-spec =
     one-more-requires-3
     one-more-requires-4
     enum-told-3
-    slice-aggregate-write-all
-    write-all-requires
-    print-decimal-requires
-    slice-aggregate-write-all-2
-    write-all-requires-2
     returns
     returns-2
     returns-3)
