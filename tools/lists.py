@@ -1,7 +1,7 @@
 """Records of the lists that the replay programs read, made from requests and the Rust's answers (docs/ORACLE.md).
 
-`RECORDS` says of each list which kinds of requests it holds, in its order. A list has a record to a line. Of game and notation it is
-decimal numbers parted by single blanks:
+`RECORDS` says of each list which kinds of requests it holds, in its order. A list has a record to a line; a stored list ends with
+damaged ones (damaged.py). Of game and notation a record is decimal numbers parted by single blanks:
 
   1 k m.. r..                       k moves tried from the empty board, and what each was answered: 0, or 9 to 13
   2 POSITION k m.. r..              the same from a position
@@ -13,34 +13,37 @@ decimal numbers parted by single blanks:
   7 byte set                        from_byte: 0 for none
   8 byte byte set                   merge
   9 k m.. byte*101                  k moves tried from the empty board, and the text of the game at their end
+  10 POSITION cell*81 state*9 bits  the cells (empty 0, X 1, O 2) and states of boards 0 to 8, and `drawbits`
+  11 board cell bits                `from_coords`
+  12 byte x o draw                  a set: whether X has won, whether O has (1 for yes), and the byte of `Status::draw`
 
 POSITION is: side (X 0, O 1), next board (255 for free choice), x and o of each row, x and o of the states, in play 0,
-drawn 1, won by X 2, won by O 3. apart is 1 where the Rust's list of moves differs from document 01's (a finished game
-has none), which is then the one expected; in 4 a text of over 256 bytes, or one on which the Rust panics, has document
-01's answer (1, or 5 at the mark).
+drawn 1, won by X 2, won by O 3. apart is 1 where the game is finished: there the Rust's list of moves differs from document 01's,
+which is empty and the one expected. In 4 a text of over 256 bytes, or one on which the Rust panics, has document 01's answer
+(1, or 5 at the mark). In 6 the byte is 0 unless the number is 8, and the move 255 unless it is 0.
 
 Of eval it is three fields parted by tabs: a position's text; the draw winner, X, O or - for none; the evaluation, a
 decimal number with a minus before it if it is below 0.
 
 Of endgame it is two fields parted by tabs: a position's text; numbers parted by blanks:
 
-  made status attacker_critical defender_critical both_critical unwinnable prove_attacker prove_defender
+  refusal status attacker_critical defender_critical both_critical unwinnable prove_attacker prove_defender
     then of each listed move: move answer status
 
-made is 0 for an analysis, 14 for a refusal; answer is 0 for a move that is judged, 10 or 14 for a refusal. A refusal has
+refusal is 0 for an analysis, or 14; answer is 0 for a move that is judged, 10 or 14 for a refusal. A refusal has
 the full set, and 14 no counts. Where the Rust lists no move, as where it panics, the first cell of the first
 board is judged.
 
 Of search a record is one memory and the searches that use it, one after the other; fields parted by tabs: the table's entries;
-the draw winner; the allowance; the answers remembered at the start, three numbers each (side that made the previous
-move, X 0 and O 1; previous move; answer), or nothing; then of each search the position's text, the depth, and numbers:
+the draw winner; the allowance; the responses at the start, three numbers each (side that made the previous
+move, X 0 and O 1; previous move; response), or nothing; then of each search the position's text, the depth, and numbers:
 
-  ending count depth SCORE answers remembered table used m*depth, then of each depth
+  ending count depth SCORE responses response_count table entry_count m*depth, then of each depth
     depth SCORE visited terminal cuts tt_hit tt_suffice
 
 ending is 0 for whole, 1 for stopped, 15 to 18 for a refusal. SCORE is 1 if it is below 0, else 0, and the size.
-answers and table are the digests of the memory after the search (FNV-1a, 64 bits: the 256 answers to X's moves and those to
-O's, a byte each; the table's words, the lowest byte first), remembered and used say how many there are. The count of a
+responses and table are the digests of the memory after the search (FNV-1a, 64 bits: the 256 responses to X's moves and those to
+O's, a byte each; the table's words, the lowest byte first), the counts say how many there are. The count of a
 search that the driver does not count is the sum of its depths' visited.
 """
 import re
@@ -146,6 +149,20 @@ def status(request, answer):
     return [8 if request[0] == "merge" else 7, *request[1:], value]
 
 
+def looked_up(request, answer):
+    f = fields(answer)
+    states = [STATES[state] for state in f["states"].split(",")]
+    return [10] + position(request[1]) + [int(cell) for cell in f["cells"]] + states + [int(f["drawbits"])]
+
+
+def move_bits(request, answer):
+    return [11, *request[1:], answer]
+
+
+def won(request, answer):
+    return [12, request[1], *answer.split()]
+
+
 def rendered(request, answer):
     moves = letters(request[1])
     return [9, len(moves)] + moves + list(fields(answer)["render"].encode())
@@ -185,8 +202,8 @@ def score(text):
     return [int(text.startswith("-")), text.lstrip("-")]
 
 
-def remembered(text):
-    """The numbers of the answers that a search begins with."""
+def responses(text):
+    """The numbers of the responses that a search begins with."""
     return [n for a in text.split(",") if a for n in ("XO".index(a[0]), *letters(a[1:]))]
 
 
@@ -198,11 +215,11 @@ def refusal(depth, allowance, entries):
     return 17 if entries > 65536 else 0
 
 
-def refused(number, entries, answers):
+def refused(number, entries, responses):
     """Document 01's answer: nothing entered, the memory as it was."""
     memory = bytearray([255] * 512)
-    for k in range(0, len(answers), 3):
-        memory[256 * answers[k] + answers[k + 1]] = answers[k + 2]
+    for k in range(0, len(responses), 3):
+        memory[256 * responses[k] + responses[k + 1]] = responses[k + 2]
     return [number, 0, 0, 0, 0, digest(memory), 512 - memory.count(255), digest_of_zeros(24 * entries), 0]
 
 
@@ -220,12 +237,12 @@ def found(answer):
     return [ending, count, len(stats), *last, *memory, *moves, *(n for d in stats for n in (d[0], *score(d[1]), *d[2:]))]
 
 
-def searches(entries, draw, allowance, answers, asked):
+def searches(entries, draw, allowance, begun, asked):
     """One memory, and (position, depth, answer) of each search that uses it."""
-    record = [entries, draw, allowance, " ".join(map(str, answers))]
+    record = [entries, draw, allowance, " ".join(map(str, begun))]
     for text, depth, answer in asked:
         number = refusal(int(depth), int(allowance), int(entries))
-        numbers = refused(number, int(entries), answers) if number else found(answer)
+        numbers = refused(number, int(entries), begun) if number else found(answer)
         record += [text, depth, " ".join(map(str, numbers))]
     return record
 
@@ -237,13 +254,14 @@ def searched(request, answer):
         return searches(entries, draw, 10**9, [], zip(asked[::2], asked[1::2], answer.split(" | "), strict=True))
     text, depth, entries, draw, *more = given
     allowance = more.pop(0) if what == "stop" else 10**9
-    return searches(entries, draw, allowance, remembered("".join(more)), [(text, depth, answer)])
+    return searches(entries, draw, allowance, responses("".join(more)), [(text, depth, answer)])
 
 
 # Of each list what parts the fields of a record, and the kinds of requests with what makes a record of one.
 RECORDS = {
-    "game": (" ", {"play": played, "from": played_from, "hash": played_from, "equiv": equivalence}),
-    "notation": (" ", {"parse": read, "move": move_text, "status": status, "play": rendered}),
+    "game": (" ", {"play": played, "from": played_from, "hash": played_from, "equiv": equivalence,
+                   "cells": looked_up, "coords": move_bits}),
+    "notation": (" ", {"parse": read, "move": move_text, "status": status, "play": rendered, "won": won}),
     "eval": ("\t", {"eval": evaluation}),
     "endgame": ("\t", {"endgame": endgame}),
     "search": ("\t", dict.fromkeys(["search", "searches", "stop", "long", "refused"], searched)),
@@ -291,3 +309,33 @@ DOCUMENT = [
     ("X" * 5000, "E 19"),
     (EMPTY + " " * 4898 + "x", "E 19"),
 ]
+
+READ = 65536   # bytes of the program's reads, `io::large_buffer`
+# Lines cut by the ends of reads: the parts that come by one read each, the whole line's answer, and what the last part alone would be
+# answered.
+CUT = [
+    ([WINS[:60], WINS[60:] + " 3"], "X 7 1 1152921504606846976 8 cc", "E 2"),
+    (["X" * 100, "X" * (READ - 1) + " ", "1"], "E 1", "E 19"),      # a read of which no byte ends a line
+]
+
+
+def cut_lines(before):
+    """The lines of `CUT`, each after one that fills a read up to it, to be put after other lines."""
+    at, lines = sum(len(line.encode()) + 1 for line, _ in before), []
+    for parts, answer, alone in CUT:
+        assert answer != alone and all(len(part) == READ for part in parts[1:-1])
+        fill = -(at + 1 + len(parts[0])) % READ
+        fill += READ if fill < 259 else 0
+        lines += [("X" * (fill - 2) + " 1", "E 1"), ("".join(parts), answer)]
+        at += fill + 1 + sum(map(len, parts)) + 1
+    return lines
+
+
+def program_list(lines):
+    """The program's lines and its answers, lines that are cut among them; the last has no line feed."""
+    lines = lines + cut_lines(lines)
+    text = "\n".join(line for line, _ in lines)
+    data = text.encode()
+    ends = range(READ, len(data), READ)
+    assert len(ends) > 2 and all(b"\n" not in data[end - 1:end + 1] for end in ends), "a read ends where no line is cut"
+    return text, "".join(answer + "\n" for _, answer in lines)

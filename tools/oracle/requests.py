@@ -231,6 +231,9 @@ ROWS = [
     ("eval", 150, lambda r, k, t: evaluation(any_text(r), r.choice("-XO"))),
     ("eval", 20, lambda r, k, t: evaluation(playout(r, None, style="draw")[1].text(), r.choice("-XO"))),
     ("status", [f"status\t{n}" for n in range(256) if n < 20 or n % 17 == 0] + MERGES),
+    ("cells", 40, lambda r, k, t: "cells\t" + any_text(r)),
+    ("coords", [f"coords\t{board}\t{cell}" for board in range(9) for cell in range(9)]),
+    ("won", [f"won\t{n}" for n in SETS]),
 ]
 
 # What is drawn besides for a comparison.
@@ -281,7 +284,8 @@ KINDS = {
     "play": (["play"], 12), "from": (["from"], 8), "hash": (["hash"], 8), "equiv": (["equiv"], 5), "parse": (["parse"], 20),
     "move": (["move"], 2), "status": (["status"], 1), "eval": (["eval"], 10), "endgame": (["endgame", "lined"], 10),
     "search": (["search", "off"], 8), "long": (["long"], .5), "searches": (["searches"], 4), "stop": (["stop", "spent"], 6),
-    "refused": (["refused"], .5), "program": (["program", "line", "lined"], 10),
+    "refused": (["refused"], .5), "program": (["program", "line", "lined"], 10), "cells": (["cells"], 5), "coords": (["coords"], .5),
+    "won": (["won"], .1),
 }
 
 

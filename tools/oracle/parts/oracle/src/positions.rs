@@ -3,7 +3,7 @@ use crate::fields::{draw, move_letters, moves, number, or_dash, position};
 use crate::{or_panic, Answer};
 use ultimattt::endgame::{Analysis, Stats};
 use ultimattt::game::notation::{parse_move, render, ParseMoveError};
-use ultimattt::game::{CellState, Game, GameState, Player};
+use ultimattt::game::{CellState, Game, GameState, Move, Player};
 use ultimattt::minimax::{probe, Minimax};
 use ultimattt::prove::Status;
 
@@ -53,6 +53,23 @@ pub fn description(g: &Game) -> String {
     )
 }
 
+// The 81 cells, the boards' states and the bits of the drawn boards, by the look-ups.
+pub fn looked_up(text: &str) -> Answer {
+    let g = position(text)?;
+    let cell = |i: usize| match g.at(i / 9, i % 9) {
+        CellState::Empty => '0',
+        CellState::Played(Player::X) => '1',
+        CellState::Played(Player::O) => '2',
+    };
+    let cells: String = (0..81).map(cell).collect();
+    let states: Vec<&str> = (0..9).map(|b| state_name(g.board_state(b))).collect();
+    Ok(format!("cells={} states={} drawbits={}", cells, states.join(","), g.oracle_drawbits()))
+}
+
+pub fn move_bits(board: &str, cell: &str) -> Answer {
+    Ok(Move::from_coords(number(board)?, number(cell)?).bits().to_string())
+}
+
 // Each move tried, a refused one changing nothing, and the game at the end.
 pub fn played(from: Game, list: &str) -> Answer {
     let mut g = from;
@@ -85,9 +102,18 @@ pub fn status(byte: &str) -> Answer {
     Ok(set(Status::from_byte(number(byte)?)))
 }
 
+fn read_set(byte: &str) -> Result<Status, String> {
+    Status::from_byte(number(byte)?).ok_or("BADREQ set".to_string())
+}
+
+// Whether X has won, whether O has, and the set that is only a draw.
+pub fn won(byte: &str) -> Answer {
+    let s = read_set(byte)?;
+    Ok(format!("{} {} {}", s.is_won(Player::X) as u8, s.is_won(Player::O) as u8, Status::draw().as_byte()))
+}
+
 pub fn merged(a: &str, b: &str) -> Answer {
-    let read = |text| Status::from_byte(number(text)?).ok_or("BADREQ set".to_string());
-    Ok(set(read(a)?.merge(read(b)?)))
+    Ok(set(read_set(a)?.merge(read_set(b)?)))
 }
 
 pub fn equivalent(a: &str, b: &str) -> Answer {
@@ -107,7 +133,7 @@ pub fn endgame(text: &str) -> Answer {
     let analysis = or_panic(|| {
         let mut s = Stats::default();
         let a = Analysis::new(&g, &mut s);
-        let judged = |m: ultimattt::game::Move| format!("{}:{}", move_letters(m.bits()), a.evaluate_move(m).as_byte());
+        let judged = |m: Move| format!("{}:{}", move_letters(m.bits()), a.evaluate_move(m).as_byte());
         let moves = or_panic(|| or_dash(g.all_moves().map(judged).collect::<Vec<_>>().join(",")));
         let counts = [s.attacker_critical, s.defender_critical, s.both_critical, s.unwinnable, s.prove_attacker, s.prove_defender];
         let stats = counts.map(|n| n.to_string()).join(",");
