@@ -1,76 +1,93 @@
-// What a record expects of a position. The numbers are, from 0 on: whether an analysis is made (0, or 14), the status, the six counts, and
-// three of each listed move: the move, how it is answered (0, 10 or 14), its status (tools/lists.py).
-ghost use Prim.Native.Nat.{_<_};
+// The numbers that are expected of a position and the moves that a record lists, compared with the record's (tools/lists.py).
+ghost use mathlib.Core.Path.{_≡_};
+ghost use Prim.Native.Nat.{_≤_};
+ghost use lib.ListN.{length};
+ghost use Rattle.base.specs.Lists.{concat-map};
+ghost use Rattle.rules.specs.Endgame.{analysis};
+ghost use Rattle.game.specs.Meaning.{position-of};
+ghost use Rattle.endgame.specs.Means.{endgame-stats-of};
+ghost use Rattle.replay.specs.Agreement.{compared-all, same-numbers};
+ghost use Rattle.replay_endgame.specs.Records.{stats-numbers, analysis-numbers, move-numbers, listed-moves, record-of, is-apart};
 use boards::Move;
 use endgame::Analysis;
 use endgame::EndgameStats;
 use game::Game;
+use replay::Agreement;
 
 // The numbers before the moves.
 const HEAD: usize = 8;
 
-fn same_counts(numbers: &[u64], stats: EndgameStats) -> bool {
-    if stats.attacker_critical as u64 != decimals::at(numbers, 2) {
-        return false;
-    }
-    if stats.defender_critical as u64 != decimals::at(numbers, 3) {
-        return false;
-    }
-    if stats.both_critical as u64 != decimals::at(numbers, 4) {
-        return false;
-    }
-    if stats.unwinnable as u64 != decimals::at(numbers, 5) {
-        return false;
-    }
-    if stats.prove_attacker as u64 != decimals::at(numbers, 6) {
-        return false;
-    }
-    stats.prove_defender as u64 == decimals::at(numbers, 7)
+fn with_stats(begun: Agreement, words: &[u64], stats: EndgameStats) -> Agreement
+    ensures { λ r. ⌜ r ≡ compared-all (now (words .entry)) begun (stats-numbers (endgame-stats-of stats)) ⌝ }
+{
+    begun
+        .number(words, stats.attacker_critical as u64)
+        .number(words, stats.defender_critical as u64)
+        .number(words, stats.both_critical as u64)
+        .number(words, stats.unwinnable as u64)
+        .number(words, stats.prove_attacker as u64)
+        .number(words, stats.prove_defender as u64)
 }
 
-fn same_analysis(numbers: &[u64], game: Game) -> bool {
+fn with_analysis(begun: Agreement, words: &[u64], game: Game) -> Agreement
+    ensures { λ r. ⌜ r ≡ compared-all (now (words .entry)) begun (analysis-numbers (analysis (position-of game))) ⌝ }
+{
     let analysis = Analysis::new(game);
     let answer = analysis.answer;
-    if answer.number() != decimals::at(numbers, 0) {
-        return false;
-    }
     let status = analysis.status();
-    if status.as_byte() as u64 != decimals::at(numbers, 1) {
-        return false;
-    }
     let stats = analysis.stats;
-    same_counts(numbers, stats)
+    let judged = begun
+        .number(words, answer.number())
+        .number(words, status.as_byte() as u64);
+    with_stats(judged, words, stats)
 }
 
-// Whether the three numbers at a place are a move's.
-fn same_move(numbers: &[u64], at: usize, game: Game) -> bool
-    requires { ⌜ at < 10000 ⌝ }
+fn with_move(begun: Agreement, words: &[u64], game: Game, m: Move) -> Agreement
+    ensures { λ r. ⌜ r ≡ compared-all (now (words .entry)) begun (move-numbers (position-of game) (m .bits)) ⌝ }
 {
-    let m = Move {
-        bits: (decimals::at(numbers, at) % 256) as u8,
-    };
     let judged = endgame::evaluate_move(game, m);
     let answer = judged.answer;
-    if answer.number() != decimals::at(numbers, at + 1) {
-        return false;
-    }
     let status = judged.status;
-    status.as_byte() as u64 == decimals::at(numbers, at + 2)
+    begun
+        .number(words, m.bits as u64)
+        .number(words, answer.number())
+        .number(words, status.as_byte() as u64)
 }
 
-// Whether the analysis, and the judging of each listed move, of which there are `count`, are what the numbers say.
-pub fn is_met(numbers: &[u64], count: usize, game: Game) -> bool
-    requires { ⌜ count < 1000 ⌝ }
+// Each listed move stands three numbers after the one before.
+fn with_moves(begun: Agreement, words: &[u64], game: Game) -> Agreement
+    requires { ⌜ length (now words) ≤ 256 ⌝ }
+    ensures { λ r. ⌜ r ≡ compared-all (now (words .entry)) begun
+        (concat-map (move-numbers (position-of game)) (listed-moves (now (words .entry)))) ⌝ }
 {
-    if !same_analysis(numbers, game) {
-        return false;
+    let mut so_far = begun;
+    let mut at = HEAD;
+    while at < words.len() {
+        let m = Move {
+            bits: (words[at] % 256) as u8,
+        };
+        so_far = with_move(so_far, words, game, m);
+        at += 3;
     }
-    let mut k: usize = 0;
-    while k < count {
-        if !same_move(numbers, HEAD + 3 * k, game) {
-            return false;
-        }
-        k += 1;
+    so_far
+}
+
+// Whether a record is that of the position and of the moves that it lists.
+pub(crate) fn is_met(words: &[u64], game: Game) -> bool
+    requires { ⌜ length (now words) ≤ 256 ⌝ }
+    ensures { λ r. ⌜ r ≡ same-numbers (now (words .entry))
+        (record-of (position-of game) (listed-moves (now (words .entry)))) ⌝ }
+{
+    let analysed = with_analysis(Agreement::NEW, words, game);
+    with_moves(analysed, words, game).is_whole(words)
+}
+
+// Whether the position is refused with 14, or the first listed move with 10.
+pub(crate) fn is_apart(words: &[u64]) -> bool
+    ensures { λ r. ⌜ r ≡ is-apart (now (words .entry)) ⌝ }
+{
+    if decimals::at(words, 0) == 14 {
+        return true;
     }
-    true
+    decimals::at(words, 9) == 10
 }

@@ -1,5 +1,9 @@
 // Replays the Rust's answers on the evaluation, and prints how many agree and each record that does not.
 // A record is a position's text, the draw winner (X, O or - for none) and the evaluation, parted by tabs (tools/lists.py).
+ghost use mathlib.Core.Path.{_≡_};
+ghost use Rattle.decimals.specs.Numbers.{read-signed};
+ghost use Rattle.replay.specs.Totals.{Counted};
+ghost use Rattle.replay_eval.specs.Records.{is-score, agrees, outcome-of};
 use decimals::Signed;
 use input::Input;
 use notation::ParseAnswer;
@@ -7,14 +11,19 @@ use replay::Comparison;
 use replay::Draw;
 use replay::Totals;
 
-fn is_score(text: &[u8], score: i64) -> bool {
+fn is_score(text: &[u8], score: i64) -> bool
+    ensures { λ r. ⌜ r ≡ is-score (read-signed (now (text .entry))) score ⌝ }
+{
     match decimals::read_signed(text) {
         Signed::Is(expected) => expected == score,
         Signed::Bad => false,
     }
 }
 
-fn agrees(position: &[u8], draw: &[u8], score: &[u8]) -> bool {
+// Whether the score is the evaluation of the position, with this draw winner.
+fn agrees(position: &[u8], draw: &[u8], score: &[u8]) -> bool
+    ensures { λ r. ⌜ r ≡ agrees (now (position .entry)) (now (draw .entry)) (now (score .entry)) ⌝ }
+{
     let parsed = notation::parse(position);
     let answer = parsed.answer;
     let ParseAnswer::Accepted = answer else {
@@ -27,7 +36,9 @@ fn agrees(position: &[u8], draw: &[u8], score: &[u8]) -> bool {
 }
 
 // What is found of a line. One that can't be read differs.
-fn outcome(line: &[u8]) -> Comparison {
+fn outcome(line: &[u8]) -> Comparison
+    ensures { λ r. ⌜ r ≡ outcome-of (now (line .entry)) ⌝ }
+{
     if replay::tabs(line) != 2 {
         return Comparison::Differs;
     }
@@ -42,21 +53,26 @@ fn outcome(line: &[u8]) -> Comparison {
     }
 }
 
-// A proved loop has to end, and nothing says that the input does: the turns are counted down from a number that no run uses up.
+// The totals with a line's record.
+fn step(totals: Totals, line: &[u8]) -> Totals
+    ensures { λ r. ⌜ Counted totals (outcome-of (now (line .entry))) r ⌝ }
+{
+    totals.count(outcome(line))
+}
+
+// Ends where the input ends, where something can't be written, or with as many records as a word can count.
 fn main() {
     let mut buffer = io::large_buffer();
     let mut kept = io::buffer();
     let mut input = Input::NEW;
     let mut totals = Totals::NEW;
-    let mut turns = u64::MAX;
-    while turns > 0 {
+    while totals.may_go_on() {
         input = input.next_line(&mut buffer, &mut kept);
         if input.is_end() {
             break;
         }
         let line = input.line;
-        totals = totals.with_record(outcome(line.whole(&kept)));
-        turns -= 1;
+        totals = step(totals, line.whole(&kept));
     }
-    totals.verdict(b"");
+    totals.conclude(b"", input.failed);
 }

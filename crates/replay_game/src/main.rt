@@ -1,6 +1,23 @@
-// Replays the Rust's answers on play, hash, list of moves and `equivalent`, and prints how many agree and each record that does not.
+// Replays the Rust's answers on play, hash, list of moves, `equivalent`, cells, states and coordinates, and prints how many records agree
+// and each that does not. A record is taken for the question that its numbers hold, and compared with the record of that question.
 // The records are made by tools/lists.py, which says what the numbers of a record are.
-ghost use Prim.Native.Nat.{_<_};
+ghost use mathlib.Core.Path.{_≡_};
+ghost use mathlib.Core.List.{[], _∷_};
+ghost use mathlib.Core.Bool.{not, cond};
+ghost use Prim.Native.Nat.{_+_, _%_, _<_};
+ghost use lib.ListN.{getD};
+ghost use Rattle.rules.specs.Hash.{hash};
+ghost use Rattle.rules.specs.Position.{unfinished};
+ghost use Rattle.boards.specs.Cursor.{moves-left};
+ghost use Rattle.game.specs.Meaning.{position-of};
+ghost use Rattle.game.specs.After.{games-after};
+ghost use Rattle.game.specs.Built.{new-game};
+ghost use Rattle.replay.specs.Agreement.{compared-all, wholly-agrees};
+ghost use Rattle.replay.specs.Totals.{comparison, Counted};
+ghost use Rattle.replay_game.specs.Records.{player-of, state-of, next-of, row-in, game-in, moves-from, moves-in};
+ghost use Rattle.replay_game.specs.Records.{next-number, boards-numbers, position-numbers, reached-numbers, moves-numbers};
+ghost use Rattle.replay_game.specs.Records.{play-numbers, cell-number, cells-numbers, states-numbers, looked-numbers};
+ghost use Rattle.replay_game.specs.Records.{equivalence-record, move-record, Runs, of-play, of-record, comparison-of, outcome-of};
 use boards::GlobalStates;
 use boards::Listed;
 use boards::LocalBoards;
@@ -10,8 +27,10 @@ use boards::Row;
 use decimals::Count;
 use game::Game;
 use input::Input;
+use replay::Agreement;
 use replay::Comparison;
 use replay::Totals;
+use rules::CellState;
 use rules::GameState;
 use rules::NextBoard;
 use rules::Player;
@@ -19,11 +38,15 @@ use rules::Player;
 // The most numbers of a record.
 const MOST: usize = 1024;
 
-fn player_of(n: u64) -> Player {
+fn player_of(n: u64) -> Player
+    ensures { λ r. ⌜ r ≡ player-of n ⌝ }
+{
     if n == 0 { Player::X } else { Player::O }
 }
 
-fn state_of(n: u64) -> GameState {
+fn state_of(n: u64) -> GameState
+    ensures { λ r. ⌜ r ≡ state-of n ⌝ }
+{
     match n {
         0 => GameState::InPlay,
         1 => GameState::Drawn,
@@ -32,14 +55,9 @@ fn state_of(n: u64) -> GameState {
     }
 }
 
-fn next_number(n: NextBoard) -> u64 {
-    match n {
-        NextBoard::Any => 255,
-        NextBoard::Only(b) => b as u64,
-    }
-}
-
-fn next_of(n: u64) -> NextBoard {
+fn next_of(n: u64) -> NextBoard
+    ensures { λ r. ⌜ r ≡ next-of n ⌝ }
+{
     if n == 255 {
         NextBoard::Any
     } else {
@@ -47,33 +65,25 @@ fn next_of(n: u64) -> NextBoard {
     }
 }
 
-fn move_of(n: u64) -> Move {
-    Move {
-        bits: (n % 256) as u8,
-    }
-}
-
-fn low(n: u64) -> u32 {
-    (n % 4294967296) as u32
-}
-
-fn row_at(words: &[u64], i: usize) -> Row
-    requires { ⌜ i < 200000 ⌝ }
+fn row_in(words: &[u64], i: usize) -> Row
+    requires { ⌜ i < 1000 ⌝ }
+    ensures { λ r. ⌜ r ≡ row-in (now (words .entry)) i ⌝ }
 {
     Row {
-        x: low(decimals::at(words, i)),
-        o: low(decimals::at(words, i + 1)),
+        x: (decimals::at(words, i) % 4294967296) as u32,
+        o: (decimals::at(words, i + 1) % 4294967296) as u32,
     }
 }
 
 // The game of the eleven numbers of a position.
-fn position_at(words: &[u64], i: usize) -> Game
-    requires { ⌜ i < 100000 ⌝ }
+fn game_in(words: &[u64], i: usize) -> Game
+    requires { ⌜ i < 100 ⌝ }
+    ensures { λ r. ⌜ r ≡ game-in (now (words .entry)) i ⌝ }
 {
     let rows = [
-        row_at(words, i + 2),
-        row_at(words, i + 4),
-        row_at(words, i + 6),
+        row_in(words, i + 2),
+        row_in(words, i + 4),
+        row_in(words, i + 6),
     ];
     let states = GlobalStates {
         x: (decimals::at(words, i + 8) % 65536) as u16,
@@ -88,80 +98,126 @@ fn position_at(words: &[u64], i: usize) -> Game
     )
 }
 
-// The game after some tried moves, and whether each was answered as it should be.
-pub struct Run {
-    pub game: Game,
-    pub good: bool,
-}
-
-fn run_moves(words: &[u64], from: usize, count: usize, start: Game) -> Run
-    requires { ⌜ (from < 100000) × (count < 512) ⌝ }
+fn next_number(n: NextBoard) -> u64
+    ensures { λ r. ⌜ r ≡ next-number n ⌝ }
 {
-    let mut game = start;
-    let mut good = true;
-    let mut k: usize = 0;
-    while k < count {
-        let made = game.make_move(move_of(decimals::at(words, from + k)));
-        let answer = made.answer;
-        if answer.number() != decimals::at(words, from + count + k) {
-            good = false;
-        }
-        game = made.game;
-        k += 1;
+    match n {
+        NextBoard::Any => 255,
+        NextBoard::Only(b) => b as u64,
     }
-    Run { game, good }
 }
 
-fn same_row(words: &[u64], i: usize, row: Row) -> bool
-    requires { ⌜ i < 200000 ⌝ }
+fn cell_number(cell: CellState) -> u64
+    ensures { λ r. ⌜ r ≡ cell-number cell ⌝ }
 {
-    if row.x as u64 != decimals::at(words, i) {
-        return false;
+    match cell {
+        CellState::Empty => 0,
+        CellState::Played(who) => match who {
+            Player::X => 1,
+            Player::O => 2,
+        },
     }
-    row.o as u64 == decimals::at(words, i + 1)
 }
 
-fn same_rows(words: &[u64], i: usize, boards: LocalBoards) -> bool
-    requires { ⌜ i < 100000 ⌝ }
+fn number_of(yes: bool) -> u64
+    ensures { λ r. ⌜ r ≡ cond yes 1 0 ⌝ }
 {
-    let rows = boards.rows;
-    if !same_row(words, i, rows[0]) {
-        return false;
-    }
-    if !same_row(words, i + 2, rows[1]) {
-        return false;
-    }
-    same_row(words, i + 4, rows[2])
+    if yes { 1 } else { 0 }
 }
 
-// Whether the cursor gives exactly the moves of a record.
-fn same_moves(words: &[u64], i: usize, list: MoveIterator) -> bool
-    requires { ⌜ i < 100000 ⌝ }
+fn boards_numbers(boards: LocalBoards) -> [u64; 6]
+    ensures { λ r. ⌜ r ≡ boards-numbers boards ⌝ }
 {
-    let n = decimals::at(words, i);
-    if list.count() as u64 != n {
-        return false;
-    }
-    let mut left = list;
-    let mut k: usize = 0;
-    while k < 81 {
-        match left.next() {
-            Listed::End => {
-                return k as u64 == n;
-            }
-            Listed::Next(m, rest) => {
-                if m.bits as u64 != decimals::at(words, i + 1 + k) {
-                    return false;
-                }
-                left = rest;
-            }
-        }
-        k += 1;
-    }
-    n == 81
+    let top = boards.rows[0];
+    let middle = boards.rows[1];
+    let bottom = boards.rows[2];
+    [
+        top.x as u64,
+        top.o as u64,
+        middle.x as u64,
+        middle.o as u64,
+        bottom.x as u64,
+        bottom.o as u64,
+    ]
 }
 
-fn fresh_hash(g: Game) -> u64 {
+// The numbers of a position.
+fn position(words: &[u64], begun: Agreement, g: Game) -> Agreement
+    ensures { λ r. ⌜ r ≡ compared-all (now (words .entry)) begun (position-numbers g) ⌝ }
+{
+    let player = g.next_player;
+    let next = g.next_board;
+    let states = g.global_states;
+    let state = g.game_state;
+    let turn = [player.as_bit() as u64, next_number(next)];
+    let boards = boards_numbers(g.local_boards);
+    let overall = [states.x as u64, states.o as u64, state.number()];
+    begun
+        .numbers(words, &turn)
+        .numbers(words, &boards)
+        .numbers(words, &overall)
+}
+
+// The moves that a record asks.
+fn asked(words: &[u64], begun: Agreement, from: usize, count: usize) -> Agreement
+    requires { ⌜ from + count < 1000 ⌝ }
+    ensures { λ r. ⌜ r ≡ compared-all (now (words .entry)) begun (moves-from (now (words .entry)) from count) ⌝ }
+{
+    let mut compared = begun;
+    let mut at = from;
+    let mut left = count;
+    while left > 0 {
+        compared = compared.number(words, decimals::at(words, at) % 256);
+        at += 1;
+        left -= 1;
+    }
+    compared
+}
+
+// A game after some moves, with their answers compared.
+struct Run {
+    game: Game,
+    compared: Agreement,
+}
+
+// A move tried, and its answer.
+fn tried(words: &[u64], run: Run, n: u64) -> Run
+    ensures { λ r. ⌜ Runs (now (words .entry)) (run .compared) (run .game) (n % 256 ∷ []) r ⌝ }
+{
+    let before = run.game;
+    let compared = run.compared;
+    let made = before.make_move(Move {
+        bits: (n % 256) as u8,
+    });
+    let answer = made.answer;
+    let game = made.game;
+    Run {
+        game,
+        compared: compared.number(words, answer.number()),
+    }
+}
+
+fn run_moves(words: &[u64], begun: Agreement, from: usize, count: usize, start: Game) -> Run
+    requires { ⌜ from + count < 1000 ⌝ }
+    ensures { λ r. ⌜ Runs (now (words .entry)) begun start (moves-from (now (words .entry)) from count) r ⌝ }
+{
+    let mut run = Run {
+        game: start,
+        compared: begun,
+    };
+    let mut at = from;
+    let mut left = count;
+    while left > 0 {
+        run = tried(words, run, decimals::at(words, at));
+        at += 1;
+        left -= 1;
+    }
+    run
+}
+
+fn fresh_hash(g: Game) -> u64
+    ensures { λ r. ⌜ r ≡ hash (position-of g) ⌝ }
+{
     let player = g.next_player;
     let next = g.next_board;
     let boards = g.local_boards;
@@ -171,148 +227,200 @@ fn fresh_hash(g: Game) -> u64 {
     h.hash
 }
 
-fn same_numbers(words: &[u64], i: usize, g: Game) -> bool
-    requires { ⌜ i < 100000 ⌝ }
+// The numbers of the game after a play.
+fn reached(words: &[u64], begun: Agreement, g: Game) -> Agreement
+    ensures { λ r. ⌜ r ≡ compared-all (now (words .entry)) begun (reached-numbers g) ⌝ }
 {
-    if g.hash != decimals::at(words, i) {
-        return false;
-    }
-    if fresh_hash(g) != decimals::at(words, i + 1) {
-        return false;
-    }
-    if g.zobrist() != decimals::at(words, i + 2) {
-        return false;
-    }
-    if g.game_state().number() != decimals::at(words, i + 3) {
-        return false;
-    }
-    if g.player().as_bit() as u64 != decimals::at(words, i + 4) {
-        return false;
-    }
-    if next_number(g.board_to_play()) != decimals::at(words, i + 5) {
-        return false;
-    }
-    if g.bound_depth() as u64 != decimals::at(words, i + 6) {
-        return false;
-    }
-    g.open_boards() as u64 == decimals::at(words, i + 7)
+    let boards = boards_numbers(g.local_boards);
+    let hashes = [g.hash, fresh_hash(g), g.zobrist()];
+    let turn = [
+        g.game_state().number(),
+        g.player().as_bit() as u64,
+        next_number(g.board_to_play()),
+    ];
+    let counts = [
+        g.bound_depth() as u64,
+        g.open_boards() as u64,
+        number_of(g.game_over()),
+    ];
+    begun
+        .numbers(words, &boards)
+        .numbers(words, &hashes)
+        .numbers(words, &turn)
+        .numbers(words, &counts)
 }
 
-// Moves tried from a game: the numbers at `i` are k, the moves, their answers, and what is expected at the end.
-fn same_play(words: &[u64], i: usize, start: Game) -> bool
-    requires { ⌜ i < 1000 ⌝ }
+// The moves that a cursor has left.
+fn listed(words: &[u64], begun: Agreement, list: MoveIterator) -> Agreement
+    ensures { λ r. ⌜ r ≡ compared-all (now (words .entry)) begun (moves-left list) ⌝ }
 {
-    let count = (decimals::at(words, i) % 512) as usize;
-    let run = run_moves(words, i + 1, count, start);
-    let end = i + 1 + 2 * count;
-    let g = run.game;
-    if !run.good {
-        return false;
+    let mut compared = begun;
+    let mut left = list;
+    loop {
+        match left.next() {
+            Listed::End => {
+                return compared;
+            }
+            Listed::Next(m, rest) => {
+                compared = compared.number(words, m.bits as u64);
+                left = rest;
+            }
+        }
     }
-    if !same_rows(words, end, g.local_boards) {
-        return false;
-    }
-    if !same_numbers(words, end + 6, g) {
-        return false;
-    }
-    same_moves(words, end + 15, g.all_moves())
 }
 
-fn same_equivalence(words: &[u64]) -> bool {
-    let a = position_at(words, 1);
-    let b = position_at(words, 12);
-    let forth = if a.equivalent(b) { 1 } else { 0 };
-    let back = if b.equivalent(a) { 1 } else { 0 };
-    if forth != decimals::at(words, 23) {
-        return false;
-    }
-    back == decimals::at(words, 24)
+fn moves(words: &[u64], begun: Agreement, g: Game) -> Agreement
+    ensures { λ r. ⌜ r ≡ compared-all (now (words .entry)) begun (moves-numbers (position-of g)) ⌝ }
+{
+    let counted = begun.number(words, g.legal_moves() as u64);
+    listed(words, counted, g.all_moves())
 }
 
-// How many numbers a record of a play has, from what it says of its moves.
-fn play_length(words: &[u64], i: usize) -> usize
-    requires { ⌜ i < 1000 ⌝ }
+// Moves tried from a game: the numbers at `i` are k, the moves, their answers, and those of the game at the end.
+fn play(words: &[u64], begun: Agreement, i: usize, start: Game) -> Comparison
+    requires { ⌜ i < 100 ⌝ }
+    ensures { λ r. ⌜ r ≡ comparison
+        (wholly-agrees (now (words .entry)) (compared-all (now (words .entry)) begun (play-numbers start (moves-in (now (words .entry)) i))))
+        (not (unfinished (position-of (games-after start (moves-in (now (words .entry)) i))))) ⌝ }
 {
     let count = (decimals::at(words, i) % 512) as usize;
-    let list = i + 16 + 2 * count;
-    list + 1 + (decimals::at(words, list) % 128) as usize
+    let counted = begun.number(words, count as u64);
+    let asked = asked(words, counted, i + 1, count);
+    let run = run_moves(words, asked, i + 1, count, start);
+    let end = run.game;
+    let all = moves(words, reached(words, run.compared, end), end);
+    Comparison::of(all.is_whole(words), end.game_over())
 }
 
-fn record_length(words: &[u64]) -> usize {
-    match decimals::at(words, 0) {
-        1 => play_length(words, 1),
-        2 => play_length(words, 12),
-        _ => 25,
-    }
-}
-
-fn agrees(words: &[u64]) -> bool {
-    if words.len() != record_length(words) {
-        return false;
-    }
-    match decimals::at(words, 0) {
-        1 => same_play(words, 1, Game::new()),
-        2 => same_play(words, 12, position_at(words, 1)),
-        3 => same_equivalence(words),
-        _ => false,
-    }
-}
-
-// Whether the number before the list of moves of a play says that the list is not the Rust's.
-fn marks_list(words: &[u64], i: usize) -> bool
-    requires { ⌜ i < 1000 ⌝ }
+// Kind 1: a play from the empty board.
+fn play_from_start(words: &[u64]) -> Comparison
+    ensures { λ r. ⌜ r ≡ of-play (now (words .entry)) (1 ∷ []) new-game 1 ⌝ }
 {
-    let count = (decimals::at(words, i) % 512) as usize;
-    decimals::at(words, i + 15 + 2 * count) == 1
+    play(words, Agreement::NEW.number(words, 1), 1, Game::new())
 }
 
-// Whether the record's list of moves is document 01's and not the Rust's.
-fn is_apart(words: &[u64]) -> bool {
+// Kind 2: a play from a position.
+fn play_from_position(words: &[u64]) -> Comparison
+    ensures { λ r. ⌜ r ≡ of-play (now (words .entry)) (2 ∷ position-numbers (game-in (now (words .entry)) 1))
+        (game-in (now (words .entry)) 1) 12 ⌝ }
+{
+    let start = game_in(words, 1);
+    let kind = Agreement::NEW.number(words, 2);
+    play(words, position(words, kind, start), 12, start)
+}
+
+// Kind 3: whether each of two positions is equivalent to the other.
+fn equivalence(words: &[u64]) -> Comparison
+    ensures { λ r. ⌜ r ≡ of-record (now (words .entry))
+        (equivalence-record (game-in (now (words .entry)) 1) (game-in (now (words .entry)) 12)) ⌝ }
+{
+    let a = game_in(words, 1);
+    let b = game_in(words, 12);
+    let kind = Agreement::NEW.number(words, 3);
+    let positions = position(words, position(words, kind, a), b);
+    let both = [number_of(a.equivalent(b)), number_of(b.equivalent(a))];
+    let all = positions.numbers(words, &both);
+    Comparison::of(all.is_whole(words), false)
+}
+
+// Each cell of each board.
+fn cells(words: &[u64], begun: Agreement, g: Game) -> Agreement
+    ensures { λ r. ⌜ r ≡ compared-all (now (words .entry)) begun (cells-numbers (position-of g)) ⌝ }
+{
+    let mut compared = begun;
+    for k in 0..81 {
+        let looked = g.at(k / 9, k % 9);
+        let cell = looked.cell;
+        compared = compared.number(words, cell_number(cell));
+    }
+    compared
+}
+
+// The state of each board.
+fn states(words: &[u64], begun: Agreement, g: Game) -> Agreement
+    ensures { λ r. ⌜ r ≡ compared-all (now (words .entry)) begun (states-numbers (position-of g)) ⌝ }
+{
+    let mut compared = begun;
+    for b in 0..9 {
+        let looked = g.board_state(b);
+        let state = looked.state;
+        compared = compared.number(words, state.number());
+    }
+    compared
+}
+
+// Kind 10: a position looked at.
+fn look(words: &[u64]) -> Comparison
+    ensures { λ r. ⌜ r ≡ of-record (now (words .entry)) (10 ∷ looked-numbers (game-in (now (words .entry)) 1)) ⌝ }
+{
+    let g = game_in(words, 1);
+    let kind = Agreement::NEW.number(words, 10);
+    let looked = states(words, cells(words, position(words, kind, g), g), g);
+    let overall = g.global_states;
+    let all = looked.number(words, overall.drawbits() as u64);
+    Comparison::of(all.is_whole(words), false)
+}
+
+// Kind 11: the move of a board and a cell.
+fn coordinates(words: &[u64]) -> Comparison
+    ensures { λ r. ⌜ r ≡ of-record (now (words .entry))
+        (move-record (getD (now (words .entry)) 1 0 % 9) (getD (now (words .entry)) 2 0 % 9)) ⌝ }
+{
+    let board = decimals::at(words, 1) % 9;
+    let cell = decimals::at(words, 2) % 9;
+    let built = Move::from_coords(board as usize, cell as usize);
+    let m = built.m;
+    let all = Agreement::NEW.numbers(words, &[11, board, cell, m.bits() as u64]);
+    Comparison::of(all.is_whole(words), false)
+}
+
+// What is found of a record, by its kind.
+fn comparison(words: &[u64]) -> Comparison
+    ensures { λ r. ⌜ r ≡ comparison-of (now (words .entry)) ⌝ }
+{
     match decimals::at(words, 0) {
-        1 => marks_list(words, 1),
-        2 => marks_list(words, 12),
-        _ => false,
-    }
-}
-
-fn judged(words: &[u64]) -> Comparison {
-    if !agrees(words) {
-        return Comparison::Differs;
-    }
-    if is_apart(words) {
-        Comparison::Apart
-    } else {
-        Comparison::Agrees
+        1 => play_from_start(words),
+        2 => play_from_position(words),
+        3 => equivalence(words),
+        10 => look(words),
+        11 => coordinates(words),
+        _ => Comparison::Differs,
     }
 }
 
 // What is found of a line. One that is no list of numbers differs.
-fn outcome(line: &[u8], words: &mut [u64]) -> Comparison {
-    let Count::Of(n) = decimals::numbers(line, words) else {
+fn outcome(line: &[u8]) -> Comparison
+    ensures { λ r. ⌜ r ≡ outcome-of (now (line .entry)) ⌝ }
+{
+    let mut words = [0u64; MOST];
+    let Count::Of(n) = decimals::numbers(line, &mut words) else {
         return Comparison::Differs;
     };
-    if n > words.len() {
-        return Comparison::Differs;
-    }
-    judged(&words[0..n])
+    comparison(&words[..n])
 }
 
-// A proved loop has to end, and nothing says that the input does: the turns are counted down from a number that no run uses up.
+// The totals with a line's record more.
+fn step(totals: Totals, line: &[u8]) -> Totals
+    ensures { λ r. ⌜ Counted totals (outcome-of (now (line .entry))) r ⌝ }
+{
+    totals.count(outcome(line))
+}
+
 fn main() {
     let mut buffer = io::large_buffer();
     let mut kept = io::buffer();
-    let mut words = [0u64; MOST];
     let mut input = Input::NEW;
     let mut totals = Totals::NEW;
-    let mut turns = u64::MAX;
-    while turns > 0 {
+    while totals.may_go_on() {
         input = input.next_line(&mut buffer, &mut kept);
         if input.is_end() {
             break;
         }
         let line = input.line;
-        totals = totals.with_record(outcome(line.whole(&kept), &mut words));
-        turns -= 1;
+        totals = step(totals, line.whole(&kept));
     }
-    totals.verdict(b"with document 01's list of moves for the Rust's");
+    totals.conclude(
+        b"with document 01's list of moves for the Rust's",
+        input.failed,
+    );
 }

@@ -1,71 +1,238 @@
 // Replays the Rust's answers on texts and on `Status`, and prints how many agree and each record that does not.
 // The records are made by tools/lists.py, which says what the numbers of a record are.
 ghost use mathlib.Core.Path.{_≡_};
+ghost use mathlib.Core.List.{_∷_};
 ghost use Prim.Native.Nat.{_<_};
-ghost use lib.ListN.{length};
+ghost use lib.Dec.{ltb};
+ghost use lib.ListN.{length, getD};
+ghost use Rattle.text.specs.Reading.{read};
+ghost use Rattle.notation.specs.Parsed.{move-reading-of};
+ghost use Rattle.replay.specs.Agreement.{new-agreement, compared-all, same-numbers};
+ghost use Rattle.replay.specs.Totals.{Counted};
+ghost use Rattle.replay_notation.specs.Records.{byte-in, count-in, bytes-from-2, game-numbers, reading-record, named-byte};
+ghost use Rattle.replay_notation.specs.Records.{move-record, set-number, byte-record, merge-record, play-record, won-record};
+ghost use Rattle.replay_notation.specs.Records.{reads-back, record-of, apart, is-apart, comparison-of, outcome-of};
 use decimals::Count;
 use game::Game;
 use input::Input;
 use notation::MoveTextAnswer;
 use notation::ParseAnswer;
+use notation::ParsedMove;
+use replay::Agreement;
 use replay::Comparison;
 use replay::Totals;
+use rules::Player;
 use status::Read;
 use status::Status;
 
 // The most numbers of a record.
 const MOST: usize = 1024;
 
-// How many bytes of text, or moves, a record has: the number at place 1.
-fn text_length(words: &[u64]) -> usize
-    ensures { λ r. ⌜ r < 512 ⌝ }
+// ---- the question
+
+// The lowest byte of the number at a place, 0 past the end.
+fn byte_in(words: &[u64], i: usize) -> u8
+    ensures { λ r. ⌜ r ≡ byte-in (now (words .entry)) i ⌝ }
 {
-    let n = decimals::at(words, 1);
-    if n < 512 { n as usize } else { 511 }
+    (decimals::at(words, i) % 256) as u8
 }
 
-// The bytes of a record, from place 2 on.
-fn text_bytes(words: &[u64]) -> [u8; 512]
-    ensures { λ r. ⌜ 512 ≡ length r ⌝ }
+// How many bytes of text, or moves, a record has.
+fn count_in(words: &[u64]) -> usize
+    ensures { λ r. ⌜ (r ≡ count-in (now (words .entry))) × (r < 512) ⌝ }
 {
-    let mut text = [0u8; 512];
+    (decimals::at(words, 1) % 512) as usize
+}
+
+// The bytes from place 2 on.
+fn bytes_from_2(words: &[u64]) -> [u8; 512]
+    ensures { λ r. ⌜ r ≡ bytes-from-2 (now (words .entry)) ⌝ }
+{
+    let mut bytes = [0u8; 512];
     let mut k: usize = 0;
     while k < 512 {
-        text[k] = (decimals::at(words, k + 2) % 256) as u8;
+        bytes[k] = byte_in(words, k + 2);
         k += 1;
     }
-    text
+    bytes
 }
 
-// Whether a game is rendered as the 101 bytes from place `i` on.
-fn same_render(words: &[u64], i: usize, g: Game) -> bool
-    requires { ⌜ i < 100000 ⌝ }
+// ---- the answers, compared
+
+// The kind, and the bytes with their number.
+fn question(words: &[u64], kind: u64, bytes: &[u8]) -> Agreement
+    ensures { λ r. ⌜ r ≡ compared-all (now (words .entry)) new-agreement
+        (kind ∷ length (now (bytes .entry)) ∷ now (bytes .entry)) ⌝ }
+{
+    let begun = Agreement::NEW.number(words, kind);
+    begun.number(words, bytes.len() as u64).bytes(words, bytes)
+}
+
+// A game's text, hash, key, state and bound.
+fn add_game(words: &[u64], begun: Agreement, g: Game) -> Agreement
+    ensures { λ r. ⌜ r ≡ compared-all (now (words .entry)) begun (game-numbers g) ⌝ }
 {
     let text = notation::render(g);
-    let mut good = true;
-    let mut k: usize = 0;
-    while k < 101 {
-        if text[k] as u64 != decimals::at(words, i + k) {
-            good = false;
-        }
-        k += 1;
-    }
-    good
+    begun
+        .bytes(words, &text)
+        .number(words, g.hash)
+        .number(words, g.zobrist())
+        .number(words, g.game_state().number())
+        .number(words, g.bound_depth() as u64)
 }
 
-// Whether a game's text is read as that very game: its hash, and its text again.
-fn reads_back(g: Game) -> bool {
+fn same_reading(words: &[u64], text: &[u8]) -> bool
+    ensures { λ r. ⌜ r ≡ same-numbers (now (words .entry)) (reading-record (now (text .entry)) (read (now (text .entry)))) ⌝ }
+{
+    let parsed = notation::parse(text);
+    let answer = parsed.answer;
+    match answer {
+        ParseAnswer::Refused(e) => {
+            let why = e.why;
+            let begun = question(words, 4, text);
+            begun
+                .number(words, why.number())
+                .number(words, e.offset as u64)
+                .number(words, e.length as u64)
+                .is_whole(words)
+        }
+        ParseAnswer::Accepted => {
+            let begun = question(words, 5, text);
+            add_game(words, begun, parsed.game).is_whole(words)
+        }
+    }
+}
+
+// The byte that a refusal names, 0 where it names none.
+fn named_byte(parsed: ParsedMove) -> u8
+    ensures { λ r. ⌜ r ≡ named-byte (move-reading-of (parsed .answer) (parsed .m .bits)) ⌝ }
+{
+    let answer = parsed.answer;
+    match answer {
+        MoveTextAnswer::Read => 0,
+        MoveTextAnswer::BadLength => 0,
+        MoveTextAnswer::BadCharacter(c) => c,
+    }
+}
+
+fn same_move(words: &[u64], text: &[u8]) -> bool
+    ensures { λ r. ⌜ r ≡ same-numbers (now (words .entry)) (move-record (now (text .entry))) ⌝ }
+{
+    let parsed = notation::parse_move(text);
+    let answer = parsed.answer;
+    let m = parsed.m;
+    let begun = question(words, 6, text);
+    begun
+        .number(words, answer.number())
+        .number(words, named_byte(parsed) as u64)
+        .number(words, m.bits as u64)
+        .is_whole(words)
+}
+
+// The byte of a set, 0 for none.
+fn set_byte(set: Read) -> u8
+    ensures { λ r. ⌜ r ≡ set-number set ⌝ }
+{
+    match set {
+        Read::Nothing => 0,
+        Read::Set(s) => s.as_byte(),
+    }
+}
+
+fn same_byte(words: &[u64], byte: u8) -> bool
+    ensures { λ r. ⌜ r ≡ same-numbers (now (words .entry)) (byte-record byte) ⌝ }
+{
+    let set = set_byte(Status::from_byte(byte));
+    Agreement::NEW
+        .number(words, 7)
+        .number(words, byte as u64)
+        .number(words, set as u64)
+        .is_whole(words)
+}
+
+fn same_merge(words: &[u64], a: u8, b: u8) -> bool
+    ensures { λ r. ⌜ r ≡ same-numbers (now (words .entry)) (merge-record a b) ⌝ }
+{
+    let s = Status { bits: a };
+    let t = Status { bits: b };
+    let set = set_byte(s.merge(t));
+    Agreement::NEW
+        .number(words, 8)
+        .number(words, a as u64)
+        .number(words, b as u64)
+        .number(words, set as u64)
+        .is_whole(words)
+}
+
+fn same_won(words: &[u64], byte: u8) -> bool
+    ensures { λ r. ⌜ r ≡ same-numbers (now (words .entry)) (won-record byte) ⌝ }
+{
+    let s = Status { bits: byte };
+    let draw = Status::draw();
+    Agreement::NEW
+        .number(words, 12)
+        .number(words, byte as u64)
+        .number(words, s.is_won(Player::X) as u64)
+        .number(words, s.is_won(Player::O) as u64)
+        .number(words, draw.as_byte() as u64)
+        .is_whole(words)
+}
+
+// Whether a game's text is read as a game with the same hash that is equivalent to it.
+fn reads_back(g: Game) -> bool
+    ensures { λ r. ⌜ r ≡ reads-back g ⌝ }
+{
     let text = notation::render(g);
     let parsed = notation::parse(&text);
     let h = parsed.game;
-    if h.hash != g.hash {
-        return false;
+    if h.hash == g.hash {
+        h.equivalent(g)
+    } else {
+        false
     }
-    h.equivalent(g)
 }
 
-fn same_refusal(words: &[u64], n: usize, text: &[u8]) -> bool
-    requires { ⌜ n < 512 ⌝ }
+// The text of a game that is played from the empty board; it reads back.
+fn same_play(words: &[u64], moves: &[u8]) -> bool
+    ensures { λ r. ⌜ r ≡ same-numbers (now (words .entry)) (play-record (now (moves .entry))) ⌝ }
+{
+    let g = Game::new().play_all(moves);
+    if reads_back(g) {
+        let text = notation::render(g);
+        let begun = question(words, 9, moves);
+        begun.bytes(words, &text).is_whole(words)
+    } else {
+        false
+    }
+}
+
+// ---- a record, a line, all lines
+
+fn agrees(words: &[u64]) -> bool
+    ensures { λ r. ⌜ r ≡ same-numbers (now (words .entry)) (record-of (now (words .entry))) ⌝ }
+{
+    let n = count_in(words);
+    let bytes = bytes_from_2(words);
+    match decimals::at(words, 0) {
+        6 => same_move(words, &bytes[..n]),
+        7 => same_byte(words, byte_in(words, 1)),
+        8 => same_merge(words, byte_in(words, 1), byte_in(words, 2)),
+        9 => same_play(words, &bytes[..n]),
+        12 => same_won(words, byte_in(words, 1)),
+        _ => same_reading(words, &bytes[..n]),
+    }
+}
+
+// Whether a byte of a text is not ASCII.
+fn is_wide(text: &[u8], i: usize) -> bool
+    ensures { λ r. ⌜ r ≡ ltb 127 (getD (now (text .entry)) i 0) ⌝ }
+{
+    if i < text.len() { text[i] > 127 } else { false }
+}
+
+// Whether document 01's answer for a text is not the Rust's.
+fn is_text_apart(text: &[u8]) -> bool
+    ensures { λ r. ⌜ r ≡ apart (now (text .entry)) (read (now (text .entry))) ⌝ }
 {
     let parsed = notation::parse(text);
     let answer = parsed.answer;
@@ -73,197 +240,63 @@ fn same_refusal(words: &[u64], n: usize, text: &[u8]) -> bool
         ParseAnswer::Accepted => false,
         ParseAnswer::Refused(e) => {
             let why = e.why;
-            if why.number() != decimals::at(words, n + 2) {
-                return false;
+            match why.number() {
+                1 => true,
+                5 => is_wide(text, e.offset),
+                _ => false,
             }
-            if e.offset as u64 != decimals::at(words, n + 3) {
-                return false;
-            }
-            e.length as u64 == decimals::at(words, n + 4)
         }
     }
 }
 
-fn same_game(words: &[u64], n: usize, g: Game) -> bool
-    requires { ⌜ n < 512 ⌝ }
+fn is_apart(words: &[u64]) -> bool
+    ensures { λ r. ⌜ r ≡ is-apart (now (words .entry)) ⌝ }
 {
-    if !same_render(words, n + 2, g) {
-        return false;
-    }
-    if g.hash != decimals::at(words, n + 103) {
-        return false;
-    }
-    if g.zobrist() != decimals::at(words, n + 104) {
-        return false;
-    }
-    if g.game_state().number() != decimals::at(words, n + 105) {
-        return false;
-    }
-    g.bound_depth() as u64 == decimals::at(words, n + 106)
-}
-
-fn same_reading(words: &[u64], n: usize, text: &[u8]) -> bool
-    requires { ⌜ n < 512 ⌝ }
-{
-    let parsed = notation::parse(text);
-    let answer = parsed.answer;
-    match answer {
-        ParseAnswer::Refused(_) => false,
-        ParseAnswer::Accepted => same_game(words, n, parsed.game),
-    }
-}
-
-fn same_move(words: &[u64], n: usize, text: &[u8]) -> bool
-    requires { ⌜ n < 512 ⌝ }
-{
-    let parsed = notation::parse_move(text);
-    let answer = parsed.answer;
-    let m = parsed.m;
-    if m.bits as u64 != decimals::at(words, n + 4) {
-        return false;
-    }
-    if answer.number() != decimals::at(words, n + 2) {
-        return false;
-    }
-    match answer {
-        MoveTextAnswer::BadCharacter(c) => c as u64 == decimals::at(words, n + 3),
-        _ => true,
-    }
-}
-
-// Whether a set, or 0 for none, is the expected byte.
-fn same_set(set: Read, byte: u64) -> bool {
-    match set {
-        Read::Nothing => byte == 0,
-        Read::Set(s) => s.as_byte() as u64 == byte,
-    }
-}
-
-fn status_at(words: &[u64], i: usize) -> Status {
-    Status {
-        bits: (decimals::at(words, i) % 256) as u8,
-    }
-}
-
-fn same_merge(words: &[u64]) -> bool {
-    let a = status_at(words, 1);
-    let b = status_at(words, 2);
-    same_set(a.merge(b), decimals::at(words, 3))
-}
-
-fn same_byte(words: &[u64]) -> bool {
-    let s = status_at(words, 1);
-    same_set(Status::from_byte(s.bits), decimals::at(words, 2))
-}
-
-fn same_text(words: &[u64]) -> bool {
-    let n = text_length(words);
-    let moves = text_bytes(words);
-    let g = Game::new().play_all(&moves[0..n]);
-    if !reads_back(g) {
-        return false;
-    }
-    same_render(words, n + 2, g)
-}
-
-fn same_parse(words: &[u64], kind: u64) -> bool {
-    let n = text_length(words);
-    let bytes = text_bytes(words);
-    match kind {
-        4 => same_refusal(words, n, &bytes[0..n]),
-        5 => same_reading(words, n, &bytes[0..n]),
-        _ => same_move(words, n, &bytes[0..n]),
-    }
-}
-
-// How many numbers a record has, from its kind and what it says of its text.
-fn record_length(words: &[u64], kind: u64) -> usize {
-    let n = text_length(words);
-    match kind {
-        5 => n + 107,
-        7 => 3,
-        8 => 4,
-        9 => n + 103,
-        _ => n + 5,
-    }
-}
-
-fn agrees(words: &[u64]) -> bool {
-    let kind = decimals::at(words, 0);
-    if words.len() != record_length(words, kind) {
-        return false;
-    }
-    match kind {
-        4 => same_parse(words, kind),
-        5 => same_parse(words, kind),
-        6 => same_parse(words, kind),
-        7 => same_byte(words),
-        8 => same_merge(words),
-        9 => same_text(words),
-        _ => false,
-    }
-}
-
-// Whether a byte of a record's text is not ASCII.
-fn is_wide(words: &[u64], offset: u64) -> bool {
-    if offset < 512 {
-        decimals::at(words, (offset as usize) + 2) > 127
-    } else {
-        false
-    }
-}
-
-// Whether the record holds document 01's answer and not the Rust's: a text of over 256 bytes, or a mark on which the Rust panics.
-fn is_apart(words: &[u64]) -> bool {
     if decimals::at(words, 0) != 4 {
         return false;
     }
-    let n = text_length(words);
-    match decimals::at(words, n + 2) {
-        1 => true,
-        5 => is_wide(words, decimals::at(words, n + 3)),
-        _ => false,
-    }
+    let n = count_in(words);
+    let bytes = bytes_from_2(words);
+    is_text_apart(&bytes[..n])
 }
 
-fn judged(words: &[u64]) -> Comparison {
-    if !agrees(words) {
-        return Comparison::Differs;
-    }
-    if is_apart(words) {
-        Comparison::Apart
-    } else {
-        Comparison::Agrees
-    }
+// What is found of a record.
+fn comparison(words: &[u64]) -> Comparison
+    ensures { λ r. ⌜ r ≡ comparison-of (now (words .entry)) ⌝ }
+{
+    Comparison::of(agrees(words), is_apart(words))
 }
 
 // What is found of a line. One that is no list of numbers differs.
-fn outcome(line: &[u8], words: &mut [u64]) -> Comparison {
-    let Count::Of(n) = decimals::numbers(line, words) else {
+fn outcome(line: &[u8]) -> Comparison
+    ensures { λ r. ⌜ r ≡ outcome-of (now (line .entry)) ⌝ }
+{
+    let mut words = [0u64; MOST];
+    let Count::Of(n) = decimals::numbers(line, &mut words) else {
         return Comparison::Differs;
     };
-    if n > words.len() {
-        return Comparison::Differs;
-    }
-    judged(&words[0..n])
+    comparison(&words[..n])
 }
 
-// A proved loop has to end, and nothing says that the input does: the turns are counted down from a number that no run uses up.
+// The totals with a line's record more.
+fn step(totals: Totals, line: &[u8]) -> Totals
+    ensures { λ r. ⌜ Counted totals (outcome-of (now (line .entry))) r ⌝ }
+{
+    totals.count(outcome(line))
+}
+
 fn main() {
     let mut buffer = io::large_buffer();
     let mut kept = io::buffer();
-    let mut words = [0u64; MOST];
     let mut input = Input::NEW;
     let mut totals = Totals::NEW;
-    let mut turns = u64::MAX;
-    while turns > 0 {
+    while totals.may_go_on() {
         input = input.next_line(&mut buffer, &mut kept);
         if input.is_end() {
             break;
         }
         let line = input.line;
-        totals = totals.with_record(outcome(line.whole(&kept), &mut words));
-        turns -= 1;
+        totals = step(totals, line.whole(&kept));
     }
-    totals.verdict(b"with document 01's answer for the Rust's");
+    totals.conclude(b"with document 01's answer for the Rust's", input.failed);
 }

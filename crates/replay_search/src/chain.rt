@@ -1,5 +1,12 @@
 // A record's searches, run one after the other.
-ghost use Prim.Native.Nat.{_<_};
+ghost use mathlib.Core.Path.{_≡_};
+ghost use mathlib.Core.Bool.{false, _||_};
+ghost use Prim.Native.Nat.{_≤_, _%_};
+ghost use lib.ListN.{length, replicate};
+ghost use Rattle.theory.specs.Memory.{no-responses, with-response};
+ghost use Rattle.minimax.specs.Report.{responses-of};
+ghost use Rattle.replay_search.specs.Chains.{side-of, with-responses, start-of, begun-of, search-of, chain-of, Searched};
+ghost use Rattle.replay_search.specs.Chains.{run-of, outcome-of};
 use crate::expected;
 use boards::Move;
 use decimals::Count;
@@ -15,61 +22,59 @@ use rules::DrawWinner;
 // The most numbers of a field.
 const MOST: usize = 1024;
 
-// What is found of a search, and the response tables after it.
+// Whether a record says what is reported of a search, whether that is a refusal, and the response tables after it.
 pub struct ChainStep {
-    pub outcome: Comparison,
+    pub agrees: bool,
+    pub refused: bool,
     pub state: Minimax,
 }
 
-// The response tables that the first search begins with.
+// The response tables that the first search begins with, if they could be read.
 pub struct Begun {
     pub good: bool,
     pub state: Minimax,
 }
 
-fn differs(state: Minimax) -> ChainStep {
-    ChainStep {
-        outcome: Comparison::Differs,
-        state,
-    }
-}
-
-fn with_answer(state: Minimax, side: u64, prev: u64, answer: u64) -> Minimax {
+// With one response more.
+fn with_response(state: Minimax, side: u64, prev: u64, response: u64) -> Minimax
+    ensures { λ r. ⌜ responses-of (r .responses)
+        ≡ with-response (responses-of (state .responses)) (side-of side) (prev % 256) (response % 256) ⌝ }
+{
     let responses = state.responses;
     let mut x = responses.x;
     let mut o = responses.o;
     let at = (prev % 256) as usize;
     let m = Move {
-        bits: (answer % 256) as u8,
+        bits: (response % 256) as u8,
     };
     if side == 0 {
         x[at] = m;
-    } else {
-        o[at] = m;
+        return Minimax {
+            responses: ResponseTables { x, o },
+        };
     }
+    o[at] = m;
     Minimax {
         responses: ResponseTables { x, o },
     }
 }
 
-fn answered(numbers: &[u64], count: usize) -> Minimax
-    requires { ⌜ count < 1000 ⌝ }
+// The responses that the numbers give, three for each.
+fn from_triples(numbers: &[u64]) -> Minimax
+    ensures { λ r. ⌜ responses-of (r .responses) ≡ with-responses no-responses (now (numbers .entry)) ⌝ }
 {
     let mut state = Minimax::new();
-    let mut k: usize = 0;
-    while k < count {
-        state = with_answer(
-            state,
-            decimals::at(numbers, k * 3),
-            decimals::at(numbers, k * 3 + 1),
-            decimals::at(numbers, k * 3 + 2),
-        );
-        k += 1;
+    let mut i: usize = 0;
+    while numbers.len() - i > 2 {
+        state = with_response(state, numbers[i], numbers[i + 1], numbers[i + 2]);
+        i += 3;
     }
     state
 }
 
-fn begin(text: &[u8]) -> Begun {
+fn begin(text: &[u8]) -> Begun
+    ensures { λ r. ⌜ begun-of r ≡ start-of (now (text .entry)) ⌝ }
+{
     if text.len() == 0 {
         return Begun {
             good: true,
@@ -80,7 +85,7 @@ fn begin(text: &[u8]) -> Begun {
     match decimals::numbers(text, &mut numbers) {
         Count::Of(n) => Begun {
             good: n % 3 == 0,
-            state: answered(&numbers, (n % 1024) / 3),
+            state: from_triples(&numbers[..n]),
         },
         Count::Bad => Begun {
             good: false,
@@ -89,93 +94,98 @@ fn begin(text: &[u8]) -> Begun {
     }
 }
 
-// One search, held against what is expected of it.
+fn differs(state: Minimax) -> ChainStep
+    ensures { λ r. ⌜ r ≡ record { agrees = false; refused = false; state = state } ⌝ }
+{
+    ChainStep {
+        agrees: false,
+        refused: false,
+        state,
+    }
+}
+
+// Search k of a line, held against what is expected of it.
 fn searched(
-    position: &[u8],
-    config: Config,
-    expected: &[u8],
+    line: &[u8],
+    draw_winner: DrawWinner,
+    allowance: u64,
+    k: usize,
     state: Minimax,
     table: &mut [u64],
-) -> ChainStep {
-    let parsed = notation::parse(position);
+) -> ChainStep
+    requires { ⌜ k ≤ 1000 ⌝ }
+    ensures { λ r. ⌜ Searched
+        (search-of (now (line .entry)) «draw_winner» allowance k (responses-of (state .responses)) (now (table .entry)))
+        r (now (table .exit)) ⌝ }
+{
+    let parsed = notation::parse(replay::field(line, 3 * k + 4));
     let answer = parsed.answer;
     let ParseAnswer::Accepted = answer else {
         return differs(state);
     };
-    let mut numbers = [0u64; MOST];
-    let Count::Of(n) = decimals::numbers(expected, &mut numbers) else {
+    let Number::Is(max_depth) = decimals::read_number(replay::field(line, 3 * k + 5)) else {
         return differs(state);
     };
-    if n > MOST {
+    let mut numbers = [0u64; MOST];
+    let Count::Of(n) = decimals::numbers(replay::field(line, 3 * k + 6), &mut numbers) else {
         return differs(state);
-    }
-    let report = state.analyze(parsed.game, config, table);
-    if !expected::is_met(&numbers[..n], report, table) {
-        return differs(state);
-    }
-    let after = report.state;
-    if expected::is_refusal(&numbers) {
-        return ChainStep {
-            outcome: Comparison::Apart,
-            state: after,
-        };
-    }
+    };
+    let config = Config {
+        max_depth,
+        allowance,
+        draw_winner,
+    };
+    let found = state.analyze(parsed.game, config, table);
+    let ending = found.ending;
+    let after = found.state;
     ChainStep {
-        outcome: Comparison::Agrees,
+        agrees: expected::agrees(&numbers[..n], found, table),
+        refused: ending.number() != 0,
         state: after,
     }
+}
+
+fn either(a: bool, b: bool) -> bool
+    ensures { λ r. ⌜ r ≡ (a || b) ⌝ }
+{
+    if a { true } else { b }
 }
 
 // The searches of a line, of which there are `count`, each with the memory that the one before left.
 fn replayed(
     line: &[u8],
+    draw_winner: DrawWinner,
+    allowance: u64,
     count: usize,
-    config: Config,
     begun: Minimax,
     table: &mut [u64],
 ) -> Comparison
-    requires { ⌜ count < 100000 ⌝ }
+    requires { ⌜ count ≤ 1000 ⌝ }
+    ensures { λ r. ⌜ r ≡ chain-of (now (line .entry)) «draw_winner» allowance count 0 false (responses-of (begun .responses))
+        (now (table .entry)) ⌝ }
 {
-    let draw_winner = config.draw_winner;
     let mut state = begun;
-    let mut apart = false;
+    let mut refused = false;
     let mut k: usize = 0;
     while k < count {
-        let Number::Is(max_depth) = decimals::read_number(replay::field(line, 3 * k + 5)) else {
+        let step = searched(line, draw_winner, allowance, k, state, table);
+        if !step.agrees {
             return Comparison::Differs;
-        };
-        let step = searched(
-            replay::field(line, 3 * k + 4),
-            Config {
-                max_depth,
-                allowance: config.allowance,
-                draw_winner,
-            },
-            replay::field(line, 3 * k + 6),
-            state,
-            table,
-        );
-        let outcome = step.outcome;
-        match outcome {
-            Comparison::Agrees => {}
-            Comparison::Apart => {
-                apart = true;
-            }
-            Comparison::Differs => {
-                return Comparison::Differs;
-            }
         }
+        refused = either(refused, step.refused);
         state = step.state;
         k += 1;
     }
-    if apart {
+    if refused {
         Comparison::Apart
     } else {
         Comparison::Agrees
     }
 }
 
-fn clear(words: &mut [u64]) {
+fn clear(words: &mut [u64])
+    ensures { λ _. ⌜ now (words .exit) ≡ replicate (length (now (words .entry))) 0 ⌝ }
+{
     let mut i: usize = 0;
     while i < words.len() {
         words[i] = 0;
@@ -183,9 +193,14 @@ fn clear(words: &mut [u64]) {
     }
 }
 
-fn run(line: &[u8], count: usize, draw_winner: DrawWinner, table: &mut [u64]) -> Comparison
-    requires { ⌜ count < 100000 ⌝ }
+// The searches of a line, with a table that is cleared first.
+fn run(line: &[u8], count: usize, table: &mut [u64]) -> Comparison
+    requires { ⌜ count ≤ 1000 ⌝ }
+    ensures { λ r. ⌜ r ≡ run-of (now (line .entry)) count (length (now (table .entry))) ⌝ }
 {
+    let Draw::To(draw_winner) = replay::draw_of(replay::field(line, 1)) else {
+        return Comparison::Differs;
+    };
     let Number::Is(allowance) = decimals::read_number(replay::field(line, 2)) else {
         return Comparison::Differs;
     };
@@ -194,16 +209,13 @@ fn run(line: &[u8], count: usize, draw_winner: DrawWinner, table: &mut [u64]) ->
         return Comparison::Differs;
     }
     clear(table);
-    let config = Config {
-        max_depth: 0,
-        allowance,
-        draw_winner,
-    };
-    replayed(line, count, config, begun.state, table)
+    replayed(line, draw_winner, allowance, count, begun.state, table)
 }
 
-// What is found of a line. One that can't be read differs.
-pub fn outcome(line: &[u8], words: &mut [u64]) -> Comparison {
+// What is found of a line. One that can't be read differs, as does one whose table has no room.
+pub fn outcome(line: &[u8], words: &mut [u64]) -> Comparison
+    ensures { λ r. ⌜ r ≡ outcome-of (length (now (words .entry))) (now (line .entry)) ⌝ }
+{
     let tabs = replay::tabs(line);
     if tabs % 3 != 0 {
         return Comparison::Differs;
@@ -218,15 +230,10 @@ pub fn outcome(line: &[u8], words: &mut [u64]) -> Comparison {
     let Number::Is(entries) = decimals::read_number(replay::field(line, 0)) else {
         return Comparison::Differs;
     };
-    if entries > 65537 {
+    let room = words.len() / 3;
+    if entries > room as u64 {
         return Comparison::Differs;
     }
-    let Draw::To(draw_winner) = replay::draw_of(replay::field(line, 1)) else {
-        return Comparison::Differs;
-    };
     let n = (entries as usize) * 3;
-    if n > words.len() {
-        return Comparison::Differs;
-    }
-    run(line, thirds - 1, draw_winner, &mut words[..n])
+    run(line, thirds - 1, &mut words[..n])
 }

@@ -1,20 +1,24 @@
-// What a record expects of a search. The numbers are, from 0 on: ending, count, depth, the score's sign and size, the digest and the number
-// of the response tables and of the table's entries, the line, and eight numbers of each depth (tools/lists.py).
-ghost use Prim.Native.Nat.{_<_, _≤_};
-ghost use Rattle.theory.specs.Limits.{console};
+// What a record says of a search, compared with the report of it. The numbers are: ending, count, depth, the score's sign and size, the
+// digest and the number of the responses and of the table's entries, the line, and eight numbers of each depth (tools/lists.py).
+ghost use mathlib.Core.Path.{_≡_};
+ghost use mathlib.Core.List.{map};
+ghost use lib.IntN.{natAbs};
+ghost use lib.ListN.{take};
+ghost use Rattle.minimax.specs.Report.{ending-number, ending-stopped, bytes-of, stats-of, report-of};
+ghost use Rattle.replay.specs.Agreement.{same-numbers, compared-all};
+ghost use Rattle.replay_search.specs.Records.{sign, ending, head-numbers, depth-numbers, stats-numbers, search-numbers};
 use crate::digest;
 use boards::Move;
 use boards::PLACES;
-use decimals::Signed;
 use minimax::Ending;
 use minimax::Report;
 use minimax::Stats;
-
-// The numbers before the line.
-const HEAD: usize = 9;
+use replay::Agreement;
 
 // 1 where the allowance stopped the search.
-fn ending_number(e: Ending) -> u64 {
+fn ending_number(e: Ending) -> u64
+    ensures { λ r. ⌜ r ≡ ending (ending-number e) (ending-stopped e) ⌝ }
+{
     match e {
         Ending::Whole => 0,
         Ending::Stopped => 1,
@@ -22,128 +26,105 @@ fn ending_number(e: Ending) -> u64 {
     }
 }
 
-// Whether the numbers expect a refusal.
-pub fn is_refusal(numbers: &[u64]) -> bool {
-    decimals::at(numbers, 0) > 1
+// 1 below 0.
+fn sign(score: i64) -> u64
+    ensures { λ r. ⌜ r ≡ sign score ⌝ }
+{
+    if score < 0 { 1 } else { 0 }
 }
 
-// Whether the sign and the size at a place are a score's.
-fn same_score(numbers: &[u64], at: usize, score: i64) -> bool
-    requires { ⌜ at < 100000 ⌝ }
+fn size(score: i64) -> u64
+    ensures { λ r. ⌜ r ≡ natAbs score ⌝ }
 {
-    let sign = decimals::at(numbers, at);
-    if sign > 1 {
-        return false;
-    }
-    match decimals::with_sign(sign == 1, decimals::at(numbers, at + 1)) {
-        Signed::Is(expected) => expected == score,
-        Signed::Bad => false,
+    if score < 0 {
+        (-(score + 1)) as u64 + 1
+    } else {
+        score as u64
     }
 }
 
-// Whether the eight numbers at a place are a depth's.
-fn same_depth(numbers: &[u64], at: usize, stats: Stats) -> bool
-    requires { ⌜ at < 10000 ⌝ }
+fn depth_numbers(s: Stats) -> [u64; 8]
+    ensures { λ r. ⌜ r ≡ depth-numbers (stats-of s) ⌝ }
 {
-    if stats.depth != decimals::at(numbers, at) {
-        return false;
-    }
-    if !same_score(numbers, at + 1, stats.score) {
-        return false;
-    }
-    if stats.visited != decimals::at(numbers, at + 3) {
-        return false;
-    }
-    if stats.terminal != decimals::at(numbers, at + 4) {
-        return false;
-    }
-    if stats.cuts != decimals::at(numbers, at + 5) {
-        return false;
-    }
-    if stats.tt_hit != decimals::at(numbers, at + 6) {
-        return false;
-    }
-    stats.tt_suffice == decimals::at(numbers, at + 7)
+    [
+        s.depth,
+        sign(s.score),
+        size(s.score),
+        s.visited,
+        s.terminal,
+        s.cuts,
+        s.tt_hit,
+        s.tt_suffice,
+    ]
 }
 
-fn same_depths(numbers: &[u64], depth: usize, stats: [Stats; PLACES]) -> bool
-    requires { ⌜ depth ≤ console .deepest ⌝ }
+// The numbers before the line.
+fn head_numbers(found: Report, table: &[u64]) -> [u64; 9]
+    ensures { λ r. ⌜ r ≡ head-numbers (report-of found (now (table .entry))) ⌝ }
 {
+    let ending = found.ending;
+    let state = found.state;
+    [
+        ending_number(ending),
+        found.count,
+        found.depth,
+        sign(found.score),
+        size(found.score),
+        digest::of_responses(state),
+        digest::response_count(state),
+        digest::of_table(table),
+        digest::entry_count(table),
+    ]
+}
+
+// The line's first moves, as many as the depth.
+fn with_line(begun: Agreement, numbers: &[u64], depth: u64, line: [Move; PLACES]) -> Agreement
+    ensures { λ r. ⌜ r ≡ compared-all (now (numbers .entry)) begun (take depth (bytes-of line)) ⌝ }
+{
+    let mut so_far = begun;
     let mut i: usize = 0;
-    while i < depth {
-        if !same_depth(numbers, HEAD + depth + 8 * i, stats[i]) {
-            return false;
+    while i < PLACES {
+        if depth <= i as u64 {
+            return so_far;
         }
-        i += 1;
-    }
-    true
-}
-
-fn same_line(numbers: &[u64], depth: usize, line: [Move; PLACES]) -> bool
-    requires { ⌜ depth ≤ console .deepest ⌝ }
-{
-    let mut i: usize = 0;
-    while i < depth {
         let m = line[i];
-        if m.bits as u64 != decimals::at(numbers, HEAD + i) {
-            return false;
-        }
+        so_far = so_far.number(numbers, m.bits as u64);
         i += 1;
     }
-    true
+    so_far
 }
 
-fn same_result(numbers: &[u64], r: Report) -> bool {
-    let ending = r.ending;
-    if ending_number(ending) != decimals::at(numbers, 0) {
-        return false;
+// The stats of the first depths, as many as the depth.
+fn with_stats(begun: Agreement, numbers: &[u64], depth: u64, stats: [Stats; PLACES]) -> Agreement
+    ensures { λ r. ⌜ r ≡ compared-all (now (numbers .entry)) begun (stats-numbers (take depth (map stats-of stats))) ⌝ }
+{
+    let mut so_far = begun;
+    let mut i: usize = 0;
+    while i < PLACES {
+        if depth <= i as u64 {
+            return so_far;
+        }
+        let of_depth = depth_numbers(stats[i]);
+        so_far = so_far.numbers(numbers, &of_depth);
+        i += 1;
     }
-    if r.count != decimals::at(numbers, 1) {
-        return false;
-    }
-    if r.depth != decimals::at(numbers, 2) {
-        return false;
-    }
-    same_score(numbers, 3, r.score)
-}
-
-fn same_memory(numbers: &[u64], r: Report, table: &[u64]) -> bool {
-    let state = r.state;
-    if digest::of_answers(state) != decimals::at(numbers, 5) {
-        return false;
-    }
-    if digest::remembered(state) != decimals::at(numbers, 6) {
-        return false;
-    }
-    if digest::of_table(table) != decimals::at(numbers, 7) {
-        return false;
-    }
-    digest::used(table) == decimals::at(numbers, 8)
-}
-
-fn same_search(numbers: &[u64], r: Report) -> bool {
-    let depth = decimals::at(numbers, 2) as usize;
-    if depth > PLACES {
-        return false;
-    }
-    if numbers.len() != HEAD + 9 * depth {
-        return false;
-    }
-    let line = r.pv;
-    if !same_line(numbers, depth, line) {
-        return false;
-    }
-    let stats = r.stats;
-    same_depths(numbers, depth, stats)
+    so_far
 }
 
 // Whether a report and the table after the search are what the numbers say.
-pub fn is_met(numbers: &[u64], r: Report, table: &[u64]) -> bool {
-    if !same_result(numbers, r) {
-        return false;
-    }
-    if !same_search(numbers, r) {
-        return false;
-    }
-    same_memory(numbers, r, table)
+pub fn agrees(numbers: &[u64], found: Report, table: &[u64]) -> bool
+    ensures { λ r. ⌜ r ≡ same-numbers (now (numbers .entry)) (search-numbers (report-of found (now (table .entry)))) ⌝ }
+{
+    let head = head_numbers(found, table);
+    let depth = found.depth;
+    let line = found.pv;
+    let stats = found.stats;
+    let begun = Agreement::NEW.numbers(numbers, &head);
+    let so_far = with_stats(
+        with_line(begun, numbers, depth, line),
+        numbers,
+        depth,
+        stats,
+    );
+    so_far.is_whole(numbers)
 }

@@ -4,28 +4,35 @@ mod chain;
 mod digest;
 mod expected;
 
+ghost use lib.ListN.{length};
+ghost use Rattle.replay.specs.Totals.{Counted};
+ghost use Rattle.replay_search.specs.Chains.{outcome-of};
 use input::Input;
 use replay::Totals;
 
 // A table's words, enough for one entry more than a search takes.
 const ROOM: usize = 196611;
 
-// A proved loop has to end, and nothing says that the input does: the turns are counted down from a number that no run uses up.
+// The totals with a line's record more; a record's table stands in the words.
+fn step(totals: Totals, line: &[u8], words: &mut [u64]) -> Totals
+    ensures { λ r. ⌜ Counted totals (outcome-of (length (now (words .entry))) (now (line .entry))) r ⌝ }
+{
+    totals.count(chain::outcome(line, words))
+}
+
 fn main() {
     let mut buffer = io::large_buffer();
     let mut kept = io::buffer();
     let mut words = [0u64; ROOM];
     let mut input = Input::NEW;
     let mut totals = Totals::NEW;
-    let mut turns = u64::MAX;
-    while turns > 0 {
+    while totals.may_go_on() {
         input = input.next_line(&mut buffer, &mut kept);
         if input.is_end() {
             break;
         }
         let line = input.line;
-        totals = totals.with_record(chain::outcome(line.whole(&kept), &mut words));
-        turns -= 1;
+        totals = step(totals, line.whole(&kept), &mut words);
     }
-    totals.verdict(b"refused as document 01 says (15 to 18)");
+    totals.conclude(b"refused as document 01 says (15 to 18)", input.failed);
 }

@@ -1,16 +1,18 @@
--- The turns that are left go down, and what is lent keeps its length.
-use mathlib.Core.Path.{_≡_}
+-- Each record brings the end nearer, and what is lent keeps its length.
+use mathlib.Core.Path.{_≡_, sym, _∙_}
+use Prim.Native.Nat.{_-_}
 use lib.ListN.{length}
 use borrow.Author.Needs.{needs}
+use Rattle.input.specs.Lines.{longest}
+use Rattle.replay.proofs.TotalsCount.{fewer-left}
 use Rattle.replay_notation.proofs.main.Statement.{statement}
 use Rattle.replay_notation.proofs.main.Tie as tie
 
 abbrev Inv-loop : tie.InvT-loop
-Inv-loop buffer₀ kept₀ words₀ input₀ totals₀ turns₀ t8 buffer kept words input totals turns =
-    (length buffer ≡ 65536) × (length kept ≡ 4096) × (length words ≡ 1024)
+Inv-loop buffer₀ kept₀ input₀ totals₀ t6 buffer kept input totals = (length buffer ≡ 65536) × (length kept ≡ 4096)
 
 abbrev μ-loop : tie.MeasureT-loop
-μ-loop buffer₀ kept₀ words₀ input₀ totals₀ turns₀ t8 buffer kept words input totals turns = turns
+μ-loop buffer₀ kept₀ input₀ totals₀ t6 buffer kept input totals = longest - totals .records
 
 large-buffer-requires : tie.Need-large-buffer-requires Inv-loop μ-loop
 large-buffer-requires c κs = search needs
@@ -20,6 +22,9 @@ buffer-requires c κs = search needs
 
 loop-holds : tie.Need-loop-holds Inv-loop μ-loop
 loop-holds c = search needs
+
+may-go-on-requires : tie.Need-may-go-on-requires Inv-loop μ-loop
+may-go-on-requires c κs = search needs
 
 slice-aggregate-next-line : tie.Need-slice-aggregate-next-line Inv-loop μ-loop
 slice-aggregate-next-line c = search needs
@@ -39,29 +44,22 @@ slice-aggregate-whole c = search needs
 whole-requires : tie.Need-whole-requires Inv-loop μ-loop
 whole-requires c κs = search needs
 
-slice-aggregate-outcome : tie.Need-slice-aggregate-outcome Inv-loop μ-loop
-slice-aggregate-outcome c = search needs
-
-outcome-requires : tie.Need-outcome-requires Inv-loop μ-loop
-outcome-requires c κs = search needs
-
-with-record-requires : tie.Need-with-record-requires Inv-loop μ-loop
-with-record-requires c κs = search needs
-
-sub-turns : tie.Need-sub-turns Inv-loop μ-loop
-sub-turns c = search needs
+step-requires : tie.Need-step-requires Inv-loop μ-loop
+step-requires c κs = search needs
 
 loop-less : tie.Need-loop-less Inv-loop μ-loop
-loop-less c = search needs
+loop-less c =
+    let at-if = c .before .before .before .before .before .before .before .before .before .before .before in
+    fewer-left _ _ _ (c .step .ensures) (sym (at-if .before .may-go-on .ensures) ∙ at-if .if1 .taken)
 
 loop-again : tie.Need-loop-again Inv-loop μ-loop
 loop-again c = search needs
 
-slice-aggregate-verdict : tie.Need-slice-aggregate-verdict Inv-loop μ-loop
-slice-aggregate-verdict c = search needs
+slice-aggregate-conclude : tie.Need-slice-aggregate-conclude Inv-loop μ-loop
+slice-aggregate-conclude c = search needs
 
-verdict-requires : tie.Need-verdict-requires Inv-loop μ-loop
-verdict-requires c κs = search needs
+conclude-requires : tie.Need-conclude-requires Inv-loop μ-loop
+conclude-requires c κs = search needs
 
 returns : tie.Need-returns Inv-loop μ-loop
 returns c = search needs
@@ -75,18 +73,16 @@ main-spec =
     large-buffer-requires
     buffer-requires
     loop-holds
+    may-go-on-requires
     slice-aggregate-next-line
     slice-aggregate-next-line-2
     next-line-requires
     is-end-requires
     slice-aggregate-whole
     whole-requires
-    slice-aggregate-outcome
-    outcome-requires
-    with-record-requires
-    sub-turns
+    step-requires
     loop-less
     loop-again
-    slice-aggregate-verdict
-    verdict-requires
+    slice-aggregate-conclude
+    conclude-requires
     returns)

@@ -1,0 +1,2 @@
+pub mod RecordsCompared
+pub mod Records

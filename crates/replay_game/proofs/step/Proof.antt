@@ -1,0 +1,21 @@
+-- The line's outcome is counted.
+use mathlib.Core.Path.{subst}
+use Rattle.replay.specs.declared.totals.Comparison.{Comparison}
+use Rattle.replay.specs.Totals.{Counted}
+use borrow.Author.Needs.{needs}
+use Rattle.replay_game.proofs.step.Statement.{statement}
+use Rattle.replay_game.proofs.step.Tie as tie
+
+outcome-requires : tie.Need-outcome-requires
+outcome-requires c κs = search needs
+
+count-requires : tie.Need-count-requires
+count-requires c κs = search needs
+
+returns : tie.Need-returns
+returns c =
+    subst (λ (o : Comparison). Counted (c .before .before .before .args .totals) o (c .count .result)) (c .before .outcome .ensures)
+    (c .count .ensures)
+
+pub step-spec : {M : Type 1} → statement M
+step-spec = tie.close (tie.spec outcome-requires count-requires returns)

@@ -1,0 +1,5 @@
+pub mod RecordsBytes
+pub mod RecordsCompared
+pub mod RecordsReading
+pub mod RecordsPlay
+pub mod RecordsKinds

@@ -1,0 +1,5 @@
+pub mod Digests
+pub mod Records
+pub mod Chains
+pub mod ChainsSearched
+pub mod ChainsLines
