@@ -3,13 +3,13 @@ use mathlib.Core.Path.{_≡_, refl, sym, ap, _∙_, subst}
 use mathlib.Core.Bool.{Bool, true, false, cond}
 use mathlib.Core.List.{List, [], _∷_, _++_, append-nil, append-assoc}
 use mathlib.Core.Option.{Option, none, some}
-use Prim.Native.Nat.{ℕ, _+_, min, _≤_, _<_}
+use Prim.Native.Nat.{ℕ, _+_, min, _≤_}
 use native.Mathlib.Decide.{decLe}
 use native.Mathlib.Omega.{arith}
 use lib.Dec.{eqb}
 use lib.ListN.{length, take, set, length-append, length-take}
-use lib.Seq.{take-all, take-append-le, set-out}
-use borrow.Author.Tests.{eqb-true, eq-eqb, ne-eqb}
+use lib.Seq.{take-all, take-append-le}
+use borrow.Author.Tests.{eqb-true}
 use Rattle.text.specs.Bytes.{space}
 use Rattle.text.specs.Reading.{read}
 use Rattle.text.specs.ProgramLine.{Parted, no-blank, around, parted, depth-of, asks-with, asked-by, asked}
@@ -18,8 +18,8 @@ use Rattle.line_buffer.specs.declared.AfterBlank.{AfterBlank}
 use Rattle.line_buffer.specs.declared.AfterBlank.the-variants.{Nothing}
 use Rattle.line_buffer.specs.declared.LineBuffer.{LineBuffer}
 use Rattle.text.specs.Padded.{padded}
-use Rattle.line_buffer.specs.Buffer.{after-with, depth-after, new-buffer, pushed, pushed-all, buffer-asks, Same-question, tail-of}
-use Rattle.line_buffer.specs.Buffer.{before-blank, behind-blank, buffer-of}
+use Rattle.line_buffer.specs.Buffer.{after-with, after-byte, depth-after, new-buffer, pushed, pushed-all, buffer-asks}
+use Rattle.line_buffer.specs.Buffer.{Same-question, tail-of, before-blank, behind-blank, buffer-of}
 use Rattle.text.proofs.Padded.{set-padded, take-padded}
 use Rattle.text.proofs.Reading.{too-long-is-1}
 
@@ -62,30 +62,13 @@ pushed-held line b = go (eqb b space) refl
     go false e =
         made false (followed b (parted line)) (parted-other line b e) e (same-before (parted line) b) (longer-behind (parted line) b)
 
--- what the code keeps: the byte where there is room
-pub record Kept (h : LineBuffer) (b : ℕ) (bytes : List ℕ) (len : ℕ) : Type 0 where
-  pub bytes-are : bytes ≡ set (h .bytes) (h .len) b
-  pub len-is : len ≡ min (h .len + 1) 257
-
-pub kept-with-room : (h : LineBuffer) (b : ℕ) (bytes : List ℕ) (len : ℕ) → h .len < 257 → bytes ≡ set (h .bytes) (h .len) b →
-    len ≡ h .len + 1 → Kept h b bytes len
-kept-with-room h b bytes len l e f = record { bytes-are = e; len-is = omega arith }
-
-pub kept-when-full : (h : LineBuffer) (b : ℕ) (bytes : List ℕ) (len : ℕ) → length (h .bytes) ≡ 257 → 257 ≤ h .len →
-    bytes ≡ h .bytes → len ≡ 257 → Kept h b bytes len
-kept-when-full h b bytes len n l e f = record { bytes-are = e ∙ sym (set-out (h .bytes) (h .len) b (omega arith)); len-is = omega arith }
-
-module _ (h : LineBuffer) (b : ℕ) (bytes : List ℕ) (len : ℕ) (k : Kept h b bytes len) where
-  -- a blank is the last one so far
-  pub pushed-blank : b ≡ 32 → record { bytes = bytes; len = len; text = h .len; after = Nothing } ≡ pushed h b
-  unfolding pushed
-  pushed-blank e = rw (eq-eqb b 32 e, k .bytes-are, k .len-is)
-
-  -- any other byte follows it
-  pub pushed-other : (b ≡ 32 → ⊥) → (a : AfterBlank) → a ≡ after-with (h .after) b →
-      record { bytes = bytes; len = len; text = h .text; after = a } ≡ pushed h b
-  unfolding pushed
-  pushed-other n a e = rw (ne-eqb b 32 n, k .bytes-are, k .len-is, e)
+-- part by part
+pub pushed-parts : (h : LineBuffer) (b : ℕ) (bytes : List ℕ) (len text : ℕ) (after : AfterBlank) →
+    bytes ≡ set (h .bytes) (h .len) b →
+    len ≡ min (h .len + 1) 257 → text ≡ cond (eqb b space) (h .len) (h .text) → after ≡ after-byte (h .after) b →
+    record { bytes = bytes; len = len; text = text; after = after } ≡ pushed h b
+unfolding pushed
+pushed-parts h b bytes len text after d e f g = rw (d, e, f, g)
 
 pub pushed-all-held : (line bs : List ℕ) → pushed-all (buffer-of line) bs ≡ buffer-of (line ++ bs)
 pushed-all-held line [] = ap buffer-of (sym (append-nil line))

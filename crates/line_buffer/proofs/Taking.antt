@@ -2,14 +2,14 @@
 use mathlib.Core.Path.{_≡_, refl, _∙_}
 use mathlib.Core.Bool.{true, not}
 use mathlib.Core.List.{List, [], _∷_, _++_}
-use Prim.Native.Nat.{ℕ, _≤_, _<_}
+use Prim.Native.Nat.{ℕ, _+_, _-_, _≤_, _<_}
 use lib.Dec.{T, eqb}
-use lib.ListN.{length, drop}
+use lib.ListN.{length, getD, drop}
 use borrow.Author.Tests.{eq-eqb}
 use Rattle.base.specs.Lists.{all}
 use Rattle.base.specs.LineFeed.{line-feed, UpToFeed}
 use Rattle.base.proofs.Bool.{and→}
-use Rattle.base.proofs.LineFeed.{byte-taken, feed-found}
+use Rattle.base.proofs.LineFeed.{byte-taken, feed-found, byte-taken-at}
 use Rattle.line_buffer.specs.declared.LineBuffer.{LineBuffer}
 use Rattle.line_buffer.specs.declared.TakenLine.{TakenLine}
 use Rattle.line_buffer.specs.Buffer.{pushed, pushed-all}
@@ -18,13 +18,20 @@ use Rattle.line_buffer.specs.Taking.{buffered, BuffersLine}
 -- what was taken, by parts
 pub takes : (h : LineBuffer) (bytes : List ℕ) (from : ℕ) (r : TakenLine) (t : UpToFeed LineBuffer) →
     buffered h (drop from bytes) ≡ t →
-    r .line ≡ t .line → r .found ≡ t .found → drop (r .at) bytes ≡ t .left →
+    r .line ≡ t .line → r .found ≡ t .found → r .at ≡ from + (length (drop from bytes) - length (t .left)) →
+    drop (r .at) bytes ≡ t .left →
     (r .found ≡ true → (from < r .at) × (r .at ≤ length bytes)) → BuffersLine h bytes from r
-takes h bytes from r t e line-is found-is left-is on =
-    record { line-is = rw e line-is; found-is = rw e found-is; left-is = rw e left-is; goes-on = on }
+takes h bytes from r t e line-is found-is at-is left-is on =
+    record { line-is = rw e line-is; found-is = rw e found-is; at-is = rw e at-is; left-is = rw e left-is; goes-on = on }
+
+-- one byte more
+pub byte-pushed : (t : UpToFeed LineBuffer) (h g : LineBuffer) (bytes : List ℕ) (i : ℕ) → i < length bytes →
+    (getD bytes i 0 ≡ line-feed → ⊥) → t ≡ buffered h (drop i bytes) → g ≡ pushed h (getD bytes i 0) →
+    t ≡ buffered g (drop (i + 1) bytes)
+byte-pushed t h g bytes i l n e f = rw f (e ∙ byte-taken-at pushed bytes h i l n)
 
 -- ---- lines
-abbrev Plain : List ℕ → Type 0
+abbrev pub Plain : List ℕ → Type 0
 Plain line = T (all (λ b. not (eqb b line-feed)) line)
 
 -- bytes with no line feed are pushed one by one, and what follows goes on with the line that they make: where a read ends makes no

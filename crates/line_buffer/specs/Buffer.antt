@@ -23,6 +23,10 @@ after-with (One a) b = Two a b
 after-with (Two a c) b = Other
 after-with Other b = Other
 
+-- a blank is the last one so far
+abbrev pub after-byte : AfterBlank → ℕ → AfterBlank
+after-byte a b = cond (eqb b space) Nothing (after-with a b)
+
 abbrev pub depth-after : AfterBlank → Option ℕ
 depth-after Nothing = depth-of []
 depth-after (One a) = depth-of (a ∷ [])
@@ -50,13 +54,13 @@ pub record DepthIs (d : Option ℕ) (r : Depth) : Type 0 where
 abbrev pub new-buffer : LineBuffer
 new-buffer = record { bytes = padded 257 []; len = 0; text = 0; after = Other }
 
--- with one byte more: past the 257 kept ones nothing is set, and a blank is the last one so far
+-- with one byte more: past the 257 kept ones nothing is set
 unfoldable pub pushed : LineBuffer → ℕ → LineBuffer
 pushed h b = record {
   bytes = set (h .bytes) (h .len) b;
   len = min (h .len + 1) 257;
   text = cond (eqb b space) (h .len) (h .text);
-  after = cond (eqb b space) Nothing (after-with (h .after) b);
+  after = after-byte (h .after) b;
 }
 
 -- with the bytes of a list, one by one

@@ -2,7 +2,7 @@
 use mathlib.Core.Path.{_≡_}
 use mathlib.Core.Bool.{true}
 use mathlib.Core.List.{List}
-use Prim.Native.Nat.{ℕ, _≤_, _<_}
+use Prim.Native.Nat.{ℕ, _+_, _-_, _≤_, _<_}
 use lib.ListN.{length, drop}
 use Rattle.base.specs.LineFeed.{UpToFeed, up-to-feed}
 use Rattle.line_buffer.specs.declared.LineBuffer.{LineBuffer}
@@ -17,5 +17,7 @@ buffered h bs = up-to-feed pushed h bs
 pub record BuffersLine (h : LineBuffer) (bytes : List ℕ) (from : ℕ) (r : TakenLine) : Type 0 where
   pub line-is : r .line ≡ buffered h (drop from bytes) .line
   pub found-is : r .found ≡ buffered h (drop from bytes) .found
+  -- past the bytes that were taken, the line feed among them
+  pub at-is : r .at ≡ from + (length (drop from bytes) - length (buffered h (drop from bytes) .left))
   pub left-is : drop (r .at) bytes ≡ buffered h (drop from bytes) .left
   pub goes-on : r .found ≡ true → (from < r .at) × (r .at ≤ length bytes)

@@ -1,9 +1,12 @@
 // A line of any length, held in bounded memory: its first 257 bytes, where its last blank stands, and what follows that blank.
 ghost use mathlib.Core.Path.{_≡_};
-ghost use Prim.Native.Nat.{min};
+ghost use mathlib.Core.Bool.{cond};
+ghost use Prim.Native.Nat.{_+_, min};
 ghost use lib.Dec.{eqb};
+ghost use lib.ListN.{set};
+ghost use Rattle.text.specs.Bytes.{space};
 ghost use Rattle.text.specs.ProgramLine.{is-digit};
-ghost use Rattle.line_buffer.specs.Buffer.{after-with, depth-after, DepthIs, new-buffer, pushed};
+ghost use Rattle.line_buffer.specs.Buffer.{after-with, after-byte, depth-after, DepthIs, new-buffer, pushed};
 ghost use Rattle.line_buffer.specs.Taking.{BuffersLine};
 
 // One more than the longest text that is read: a longer one is refused by its first 257 bytes.
@@ -29,8 +32,31 @@ fn is_digit(b: u8) -> bool
     if b < b'0' { false } else { b <= b'9' }
 }
 
+// One byte more is kept, where there is room.
+fn keep(bytes: &mut [u8], at: usize, b: u8)
+    ensures { λ _. ⌜ now (bytes .exit) ≡ set (now (bytes .entry)) at b ⌝ }
+{
+    if at < bytes.len() {
+        bytes[at] = b;
+    }
+}
+
+fn one_more_kept(len: usize) -> usize
+    ensures { λ r. ⌜ r ≡ min (len + 1) 257 ⌝ }
+{
+    if len < KEPT { len + 1 } else { KEPT }
+}
+
+// How many bytes stand before the last blank, after a byte at a place.
+fn before_blank(text: usize, at: usize, b: u8) -> usize
+    ensures { λ r. ⌜ r ≡ cond (eqb b space) at text ⌝ }
+{
+    if b == b' ' { at } else { text }
+}
+
 impl AfterBlank {
-    fn push(self, b: u8) -> AfterBlank
+    // With a byte that is no blank.
+    fn longer(self, b: u8) -> AfterBlank
         ensures { λ r. ⌜ r ≡ after-with self b ⌝ }
     {
         match self {
@@ -38,6 +64,17 @@ impl AfterBlank {
             AfterBlank::One(a) => AfterBlank::Two(a, b),
             AfterBlank::Two(_, _) => AfterBlank::Other,
             AfterBlank::Other => AfterBlank::Other,
+        }
+    }
+
+    // With one byte more: a blank is the last one so far.
+    fn push(self, b: u8) -> AfterBlank
+        ensures { λ r. ⌜ r ≡ after-byte self b ⌝ }
+    {
+        if b == b' ' {
+            AfterBlank::Nothing
+        } else {
+            self.longer(b)
         }
     }
 
@@ -100,27 +137,15 @@ impl LineBuffer {
     pub fn push(self, b: u8) -> LineBuffer
         ensures { λ r. ⌜ r ≡ pushed self b ⌝ }
     {
-        let at = self.len;
+        let len = self.len;
         let text = self.text;
         let after = self.after;
         let mut bytes = self.bytes;
-        let mut len = KEPT;
-        if at < KEPT {
-            bytes[at] = b;
-            len = at + 1;
-        }
-        if b == b' ' {
-            return LineBuffer {
-                bytes,
-                len,
-                text: at,
-                after: AfterBlank::Nothing,
-            };
-        }
+        keep(&mut bytes, len, b);
         LineBuffer {
             bytes,
-            len,
-            text,
+            len: one_more_kept(len),
+            text: before_blank(text, len, b),
             after: after.push(b),
         }
     }
@@ -135,20 +160,38 @@ impl LineBuffer {
     pub fn take(self, bytes: &[u8], from: usize) -> TakenLine
         ensures { λ r. ⌜ BuffersLine self (now (bytes .entry)) from r ⌝ }
     {
-        let mut line = self;
+        let mut kept = self.bytes;
+        let mut len = self.len;
+        let mut text = self.text;
+        let mut after = self.after;
         let mut i = from;
         while i < bytes.len() {
             let b = bytes[i];
             i += 1;
             if b == b'\n' {
+                let line = LineBuffer {
+                    bytes: kept,
+                    len,
+                    text,
+                    after,
+                };
                 return TakenLine {
                     line,
                     at: i,
                     found: true,
                 };
             }
-            line = line.push(b);
+            keep(&mut kept, len, b);
+            text = before_blank(text, len, b);
+            after = after.push(b);
+            len = one_more_kept(len);
         }
+        let line = LineBuffer {
+            bytes: kept,
+            len,
+            text,
+            after,
+        };
         TakenLine {
             line,
             at: i,

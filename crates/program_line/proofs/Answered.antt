@@ -140,13 +140,13 @@ same-text no-depth (asks u m) h = absurd h
 same-text (asks t n) no-depth h = absurd h
 same-text (asks t n) (asks u m) h = rw (h .0, h .1)
 
--- ---- an answer has room: 201 bytes are the most
-refusal-room : (n : ℕ) → n ≤ 19 → length (refusal-text n) ≤ 224
+-- ---- 201 bytes are the most
+refusal-room : (n : ℕ) → n ≤ 19 → length (refusal-text n) ≤ 201
 refusal-room n h = omega (arith, decimal-short 1 n (omega arith))
 
-report-room : (s : Set) (legal : ℕ) (r : Reported) → legal ≤ 81 → Small r → length (report-text s legal r) ≤ 224
+report-room : (s : Set) (legal : ℕ) (r : Reported) → legal ≤ 81 → Small r → length (report-text s legal r) ≤ 201
 unfolding report-text
-report-room s legal r l h = if-ind (λ (t : List ℕ). length t ≤ 224) (eqb (r .number) 0) _ _
+report-room s legal r l h = if-ind (λ (t : List ℕ). length t ≤ 201) (eqb (r .number) 0) _ _
     (λ _. omega (
       arith,
       answer-short s legal (r .depth) (r .score) (r .count) (r .pv) (omega arith) (omega arith) (omega arith)
@@ -154,23 +154,23 @@ report-room s legal r l h = if-ind (λ (t : List ℕ). length t ≤ 224) (eqb (r
     ))
     (λ _. refusal-room (r .number) (omega arith))
 
-position-room : (p : Position) (depth : ℕ) → length (position-text p depth) ≤ 224
+position-room : (p : Position) (depth : ℕ) → length (position-text p depth) ≤ 201
 unfolding position-text
-position-room p depth = if-ind (λ (t : List ℕ). length t ≤ 224) (eqb (analysis p .refusal) 0) _ _
+position-room p depth = if-ind (λ (t : List ℕ). length t ≤ 201) (eqb (analysis p .refusal) 0) _ _
     (λ _. report-room (analysis p .status) (length (moves p)) (program-search depth p) (moves-short p) (searched-small depth p))
     (λ _. refusal-room (analysis p .refusal) (analysis-cases p (λ (a : Analysed). a .refusal ≤ 19) (λ _. omega arith)
     (λ _ _. omega arith) (λ _ _. omega arith)))
 
-reading-room : (text : List ℕ) (r : Reading) → read text ≡ r → (depth : ℕ) → length (reading-text r depth) ≤ 224
+reading-room : (text : List ℕ) (r : Reading) → read text ≡ r → (depth : ℕ) → length (reading-text r depth) ≤ 201
 reading-room text (reads p) e depth = position-room p depth
 reading-room text (refuses n o l) e depth = refusal-room n (omega (arith, refusal-is-1-to-6 text n o l e))
 
-asked-room : (a : Question) → length (asked-text a) ≤ 224
+asked-room : (a : Question) → length (asked-text a) ≤ 201
 asked-room no-depth = refusal-room 19 (omega arith)
 asked-room (asks text depth) = reading-room text (read text) refl depth
 
 -- no answer is longer
-pub answer-fits : (line : List ℕ) → length (answer-line line) ≤ 224
+pub answer-fits : (line : List ℕ) → length (answer-line line) ≤ 201
 answer-fits line = asked-room (asked line)
 
 -- ---- for every list of bytes: what `answer` promises of the line held, pushed byte by byte, is the answer to the line, and all of it is
@@ -183,4 +183,4 @@ pub line-is-answered : (line : List ℕ) (r : AnswerText) → r ≡ text-of-byte
     → Answers line r
 line-is-answered line r e =
     let f = e ∙ ap text-of-bytes (same-text (buffer-asks (pushed-all new-buffer line)) (asked line) (held-asks-the-same line)) in
-    record { out-is = f; written-is = ap written-bytes f ∙ written-whole (answer-line line) (asked-room (asked line)) }
+    record { out-is = f; written-is = ap written-bytes f ∙ written-whole (answer-line line) (omega (arith, asked-room (asked line))) }

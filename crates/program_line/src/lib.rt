@@ -65,9 +65,9 @@ fn position(game: Game, depth: u8) -> AnswerText
 {
     let analysis = Analysis::new(game);
     let answer = analysis.answer;
-    let number = answer.number();
-    if number != 0 {
-        return AnswerText::refused(number);
+    let refusal = answer.number();
+    if refusal != 0 {
+        return AnswerText::refused(refusal);
     }
     reported(game, analysis.status(), search(game, depth))
 }

@@ -1,53 +1,61 @@
--- Each line that is found ends further on in the bytes.
-use mathlib.Core.Path.{_≡_, refl}
-use mathlib.Core.Bool.{Bool, true, false, cond}
-use Prim.Native.Nat.{ℕ, suc, _-_, _≤_, _<_}
+-- Each line that is found ends further on in the bytes, and what is left to come is what the whole read comes to.
+use mathlib.Core.Path.{_≡_, refl, sym, _∙_}
 use native.Mathlib.Omega.{arith}
 use lib.ListN.{length}
+use lib.Seq.{length-take-le}
 use borrow.Author.Needs.{needs}
+use Rattle.program_reads.proofs.Feeding.{left, left-falls, answer-room, outcome, outcome-is-fed, outcome-stays, outcome-reached}
 use Rattle.ultimattt.proofs.feed.Statement.{statement}
 use Rattle.ultimattt.proofs.feed.Tie as tie
 
--- what is left to take, where a line was found
-abbrev left : ℕ → ℕ → Bool → ℕ
-left n at found = cond found (suc (n - at)) 0
-
-falls : (n a b : ℕ) (f g : Bool) → f ≡ true → (g ≡ true → (a < b) × (b ≤ n)) → left n b g < left n a f
-falls n a b f false e h = rw e (omega arith)
-falls n a b f true e h = rw e (let k = h refl in omega arith)
-
 abbrev Inv-loop : tie.InvT-loop
-Inv-loop bytes taken₀ taken = Unit {0}
+Inv-loop begun bytes next₀ next = (outcome bytes next ≡ outcome bytes next₀) × (length (next .text .bytes) ≡ 224)
 
 abbrev μ-loop : tie.MeasureT-loop
-μ-loop bytes taken₀ taken = left (length bytes) (taken .at) (taken .found)
+μ-loop begun bytes next₀ next = left (length bytes) (next .at) (next .found)
 
-take-requires : tie.Need-take-requires Inv-loop μ-loop
-take-requires c κs = search needs
+next-requires : tie.Need-next-requires Inv-loop μ-loop
+next-requires c κs = search needs
 
 loop-holds : tie.Need-loop-holds Inv-loop μ-loop
-loop-holds c = tt
+loop-holds c = (refl, answer-room _ _ _ _ (c .next .ensures))
 
-answer-requires : tie.Need-answer-requires Inv-loop μ-loop
-answer-requires c κs = search needs
+written-requires : tie.Need-written-requires Inv-loop μ-loop
+written-requires c κs = search needs
 
-write-requires : tie.Need-write-requires Inv-loop μ-loop
-write-requires c κs = search needs
+array-share-prefix-answer : tie.Need-array-share-prefix-answer Inv-loop μ-loop
+array-share-prefix-answer c = omega (arith, c .written .ensures, c .before .before .before .before .loop .inv .1)
 
-new-requires : tie.Need-new-requires Inv-loop μ-loop
-new-requires c κs = search needs
+slice-aggregate-write-all : tie.Need-slice-aggregate-write-all Inv-loop μ-loop
+slice-aggregate-write-all c = sym (length-take-le _ _ (array-share-prefix-answer (c .before)))
 
-take-requires-2 : tie.Need-take-requires-2 Inv-loop μ-loop
-take-requires-2 c κs = search needs
-
-loop-less : tie.Need-loop-less Inv-loop μ-loop
-loop-less c = falls _ _ _ _ _ (c .before .before .before .before .loop-test .taken) (c .take2 .ensures .goes-on)
-
-loop-again : tie.Need-loop-again Inv-loop μ-loop
-loop-again c = tt
+write-all-requires : tie.Need-write-all-requires Inv-loop μ-loop
+write-all-requires c κs = search needs
 
 returns : tie.Need-returns Inv-loop μ-loop
-returns c = search needs
+returns c = refl
+
+next-requires-2 : tie.Need-next-requires-2 Inv-loop μ-loop
+next-requires-2 c κs = search needs
+
+loop-less : tie.Need-loop-less Inv-loop μ-loop
+loop-less c =
+    let t = c .before .before .before .before .before .before .before .before in
+    left-falls _ _ _ _ _ (t .loop-test .taken) (c .next2 .ensures .goes-on)
+
+loop-again : tie.Need-loop-again Inv-loop μ-loop
+loop-again c =
+    let t = c .before .before .before .before .before .before .before .before in
+    let l = t .before .loop in (
+      outcome-stays _ (l .next) _ (t .loop-test .taken) (c .next2 .ensures) ∙ l .inv .0,
+      answer-room _ _ _ _ (c .next2 .ensures),
+    )
+
+returns-2 : tie.Need-returns-2 Inv-loop μ-loop
+returns-2 c =
+    let l = c .before .before .loop in
+    outcome-reached _ (l .next) (c .before .loop-test .left) ∙ l .inv .0
+    ∙ outcome-is-fed _ _ 0 _ (c .before .before .before .next .ensures)
 
 pub feed-spec : {M : Type 1} → statement M
 feed-spec =
@@ -55,12 +63,14 @@ feed-spec =
     (tie.spec
     Inv-loop
     μ-loop
-    take-requires
+    next-requires
     loop-holds
-    answer-requires
-    write-requires
-    new-requires
-    take-requires-2
+    written-requires
+    array-share-prefix-answer
+    slice-aggregate-write-all
+    write-all-requires
+    returns
+    next-requires-2
     loop-less
     loop-again
-    returns)
+    returns-2)

@@ -1,44 +1,17 @@
--- Each case has its longer one.
-use mathlib.Core.Path.{sym, ap}
-use Rattle.line_buffer.specs.declared.AfterBlank.{AfterBlank}
-use Rattle.line_buffer.specs.Buffer.{after-with}
+-- A blank begins anew; any other byte follows.
+use borrow.Author.Tests.{eq-eqb, ne-eqb}
 use borrow.Author.Needs.{needs}
 use Rattle.line_buffer.proofs.AfterBlank.push.Statement.{statement}
 use Rattle.line_buffer.proofs.AfterBlank.push.Tie as tie
 
-enum-told : tie.Need-enum-told
-enum-told c = search needs
-
-enum-known-self : tie.Need-enum-known-self
-enum-known-self c = search needs
-
-enum-told-2 : tie.Need-enum-told-2
-enum-told-2 c = search needs
-
-enum-told-3 : tie.Need-enum-told-3
-enum-told-3 c = search needs
+longer-requires : tie.Need-longer-requires
+longer-requires c κs = search needs
 
 returns : tie.Need-returns
-returns c = sym (ap (λ (a : AfterBlank). after-with a (c .before .before .args .b)) (c .enum-told .given .1))
+returns c = rw (eq-eqb _ 32 (c .if1 .taken))
 
 returns-2 : tie.Need-returns-2
-returns-2 c = sym (ap (λ (a : AfterBlank). after-with a (c .before .before .before .args .b)) (c .before .self .given .1))
-
-returns-3 : tie.Need-returns-3
-returns-3 c = search needs
-
-returns-4 : tie.Need-returns-4
-returns-4 c = search needs
+returns-2 c = rw (ne-eqb _ 32 (c .before .if1 .left)) (c .longer .ensures)
 
 pub push-spec : {M : Type 1} → statement M
-push-spec =
-    tie.close
-    (tie.spec
-    enum-told
-    enum-known-self
-    enum-told-2
-    enum-told-3
-    returns
-    returns-2
-    returns-3
-    returns-4)
+push-spec = tie.close (tie.spec longer-requires returns returns-2)

@@ -1,0 +1,22 @@
+-- Past the end nothing is set.
+use mathlib.Core.Path.{sym}
+use lib.Seq.{set-out}
+use denote.Ref.{now}
+use borrow.Author.Needs.{needs}
+use Rattle.line_buffer.proofs.keep.Statement.{statement}
+use Rattle.line_buffer.proofs.keep.Tie as tie
+
+slice-write-bytes : tie.Need-slice-write-bytes
+slice-write-bytes c = search needs
+
+same-length : tie.Need-same-length
+same-length c = search needs
+
+returns : tie.Need-returns
+returns c = search needs
+
+returns-2 : tie.Need-returns-2
+returns-2 c = sym (set-out (now (c .before .args .bytes)) (c .before .args .at) (c .before .args .b) (c .if1 .left))
+
+pub keep-spec : {M : Type 1} → statement M
+keep-spec = tie.close (tie.spec slice-write-bytes same-length returns returns-2)

@@ -1,0 +1,4 @@
+pub mod Lines
+pub mod Promises
+pub mod Feeding
+pub mod Examples
