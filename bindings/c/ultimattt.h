@@ -1,14 +1,15 @@
 /* The engine's C interface. Link target/staticlib/libinterface.a (rt staticlib interface).
  *
- * Every slice is a pointer and a length in elements. A slice that is longer than needed keeps its other places. The slices of a call must not
- * overlap, and each pointer is good for its length and aligned; it may be null only if its length is 0.
+ * Every slice is a pointer and a length in elements. A slice that is longer than needed keeps its other places. The slices of a call
+ * must not overlap, and each pointer is good for its length and aligned; it may be null only if its length is 0.
  *
  * Asked wrongly (a slice too short, words that are no position, a draw winner over 2) a call returns ULTIMATTT_BAD_ARGUMENT and changes
- * nothing; ultimattt_answer alone returns a length in any case. The other numbers are those of the refusals: 1 to 6 a text, 9 to 13 a move, 14
- * the endgame analysis, 15 to 18 the search.
+ * nothing; ultimattt_answer alone returns a length in any case. The other numbers are those of the refusals: 1 to 6 of a text, 9 to 13
+ * of a move, 14 of the endgame analysis, 15 to 18 of the search. 15: the depth is 0 or over 81. 16: the allowance is 0 or over
+ * 1,000,000,000. 17: the words are no table. 18: the allowance was spent before depth 1 was whole.
  *
- * Nothing is kept between calls, so threads may call at once, each with slices of its own. ultimattt_answer and ultimattt_analyze use up to
- * 400 KB of the caller's stack; with less the process may end.
+ * Nothing is kept between calls, so threads may call at once, each with slices of its own. ultimattt_answer and ultimattt_analyze use
+ * up to 400 KB of the caller's stack; with less the process may end.
  */
 #ifndef ULTIMATTT_H
 #define ULTIMATTT_H
@@ -34,26 +35,38 @@ extern "C" {
 #define ULTIMATTT_NO_MOVE 0xff
 
 #define ULTIMATTT_TEXT 101
-#define ULTIMATTT_ANSWERS 512
+#define ULTIMATTT_RESPONSES 512
 
 /* A report: seven words, then 81 moves, then seven words for each of 81 depths. Places after the last whole depth are empty: no move,
  * zeros. Moves of the line after one that ends the game say nothing, and with the table on it may hold moves left over from other lines.
  * Scores are in two's complement, for the side to move. */
 #define ULTIMATTT_REPORT 655
 enum {
-    ULTIMATTT_NUMBER,         /* 0, or the search's refusal */
-    ULTIMATTT_STOPPED,        /* 1 if the allowance stopped the search */
-    ULTIMATTT_DEPTH,          /* the last whole depth */
-    ULTIMATTT_SCORE,
-    ULTIMATTT_COUNT,          /* positions entered, over all depths */
-    ULTIMATTT_ENDGAME_NUMBER, /* 0, or 14 */
-    ULTIMATTT_STATUS,         /* the results left: 1 X wins, 2 O wins, 4 draw, added */
-    ULTIMATTT_LINE,           /* 81 moves */
-    ULTIMATTT_STATS = ULTIMATTT_LINE + 81 /* depth, score, visited, terminal, cuts, tt_hit, tt_suffice */
+    ULTIMATTT_NUMBER = 0,         /* 0, or the search's refusal */
+    ULTIMATTT_STOPPED = 1,        /* 1 if the allowance stopped the search */
+    ULTIMATTT_DEPTH = 2,          /* the last whole depth */
+    ULTIMATTT_SCORE = 3,
+    ULTIMATTT_COUNT = 4,          /* positions entered, over all depths */
+    ULTIMATTT_ENDGAME_NUMBER = 5, /* 0, or 14 */
+    ULTIMATTT_STATUS = 6,         /* the results left: 1 X wins, 2 O wins, 4 draw, added */
+    ULTIMATTT_LINE = 7,           /* 81 moves */
+    ULTIMATTT_STATS = 88          /* of depth d, from 1 on, at ULTIMATTT_STATS + ULTIMATTT_STATS_WORDS * (d - 1) */
+};
+
+/* The places among the words of a depth. */
+enum {
+    ULTIMATTT_STATS_DEPTH = 0,
+    ULTIMATTT_STATS_SCORE = 1,
+    ULTIMATTT_STATS_VISITED = 2,    /* positions entered */
+    ULTIMATTT_STATS_TERMINAL = 3,   /* of these evaluated, not searched further */
+    ULTIMATTT_STATS_CUTS = 4,
+    ULTIMATTT_STATS_TT_HIT = 5,     /* positions that the table had an entry for */
+    ULTIMATTT_STATS_TT_SUFFICE = 6, /* of these answered by it */
+    ULTIMATTT_STATS_WORDS = 7
 };
 
 /* The program's answer to a line `position depth` without its line feed. Returns its length; its bytes are written only if out has room for
- * all of them. No answer is longer than 224 bytes. */
+ * all of them. No answer is longer than 201 bytes. */
 size_t ultimattt_answer(const uint8_t *line, size_t line_len, uint8_t *out, size_t out_len);
 
 /* The empty board, into 12 words. Returns 0. */
@@ -66,18 +79,19 @@ uint64_t ultimattt_read(const uint8_t *text, size_t text_len, uint64_t *position
 /* Writes the 101 bytes of a position's text. Returns 0. */
 uint64_t ultimattt_render(const uint64_t *position, size_t position_len, uint8_t *out, size_t out_len);
 
-/* Tries moves one after the other; a refused one changes nothing. answers[i]: 0, or 9 to 13. answers has at least as many places as moves.
- * Returns 0. */
-uint64_t ultimattt_play(uint64_t *position, size_t position_len, const uint8_t *moves, size_t moves_len, uint8_t *answers, size_t answers_len);
+/* Tries moves one after the other; a refused one changes nothing. answers[i]: 0, or 9 to 13. answers has at least as many places as
+ * moves. Returns 0. */
+uint64_t ultimattt_play(uint64_t *position, size_t position_len, const uint8_t *moves, size_t moves_len, uint8_t *answers,
+                        size_t answers_len);
 
-/* Tries moves from a position, then searches and analyses the position reached. depth: 1 to 81; allowance: positions that may be entered, 1 to
- * 1,000,000,000; draw_winner: for whom a drawn game counts as won, 0 nobody, 1 X, 2 O. responses: 512 of them, to X's moves and
- * then to O's, each at the move that it responds to; 0xff for none. words: the table, three words an entry, at first zeros; empty, the table is off.
- * A number of words that is no multiple of 3, or over 196,608, is 17. responses and words are as the search left them. 14, which the endgame
- * analysis alone gives, is in the report. Returns the report's number: 0, or 15 to 18. */
-uint64_t ultimattt_analyze(const uint64_t *position, size_t position_len, const uint8_t *moves, size_t moves_len, uint64_t depth, uint64_t allowance,
-                           uint64_t draw_winner, uint8_t *responses, size_t responses_len, uint64_t *words, size_t words_len, uint64_t *report,
-                           size_t report_len);
+/* Tries moves from a position, then searches and analyses the position reached. depth: 1 to 81; allowance: positions that may be
+ * entered, 1 to 1,000,000,000; draw_winner: for whom a drawn game counts as won, 0 nobody, 1 X, 2 O. responses: 512 of them, to X's
+ * moves and then to O's, each at the move that it responds to; 0xff for none. words: the table, three words an entry, at first zeros;
+ * empty, the table is off. A number of words that is no multiple of 3, or over 196,608, is 17. responses and words are as the search
+ * left them. 14, which the endgame analysis alone gives, is in the report. Returns the report's number: 0, or 15 to 18. */
+uint64_t ultimattt_analyze(const uint64_t *position, size_t position_len, const uint8_t *moves, size_t moves_len, uint64_t depth,
+                           uint64_t allowance, uint64_t draw_winner, uint8_t *responses, size_t responses_len, uint64_t *words,
+                           size_t words_len, uint64_t *report, size_t report_len);
 
 #ifdef __cplusplus
 }

@@ -5,3 +5,4 @@ pub mod CallsReport
 pub mod Calls
 pub mod CallsDemand3
 pub mod CallsAfterPlay
+pub mod Header

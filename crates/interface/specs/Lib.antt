@@ -1,3 +1,4 @@
 pub mod Lent
 pub mod Position
 pub mod Calls
+pub mod Header

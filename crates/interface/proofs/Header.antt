@@ -1,0 +1,85 @@
+-- A report's words stand where the header says: of every report, and of one whose words are all written out.
+use mathlib.Core.Path.{_≡_, refl, sym, ap, _∙_, subst}
+use mathlib.Core.Bool.{true}
+use mathlib.Core.List.{List, [], _∷_, _++_}
+use Prim.Native.Nat.{ℕ, zero, suc, _+_, _*_, _<_}
+use native.Mathlib.Omega.{arith}
+use lib.IntN.{pos, negsuc}
+use lib.ListN.{length, getD, drop, replicate, List·getD-append}
+use lib.Seq.{drop-append-add, getD-append-add}
+use Rattle.rules.specs.Play.{no-move}
+use Rattle.theory.specs.Memory.{counts, no-responses}
+use Rattle.theory.specs.Deepening.{Stats}
+use Rattle.theory.specs.Reported.{Reported, no-stats}
+use Rattle.interface.specs.Calls.{stats-words, all-stats, head-words, report-words}
+use Rattle.interface.specs.Header.{STATS, STATS-WORDS, StatsLayout, ReportLayout}
+
+-- ---- of every report
+-- the words of depth i begin after those of the depths before it
+depth-words : (ss : List Stats) (i : ℕ) → i < length ss → StatsLayout (drop (7 * i) (all-stats ss)) (getD ss i no-stats)
+unfolding all-stats
+depth-words [] i h = absurd (omega arith)
+depth-words (s ∷ ss) zero h = record {
+  depth-is = refl;
+  score-is = refl;
+  visited-is = refl;
+  terminal-is = refl;
+  cuts-is = refl;
+  hits-is = refl;
+  suffice-is = refl;
+}
+depth-words (s ∷ ss) (suc i) h =
+    let e : 7 * suc i ≡ length (stats-words s) + 7 * i = omega arith in
+    subst (λ (l : List ℕ). StatsLayout l (getD ss i no-stats))
+    (sym (ap (λ (n : ℕ). drop n (all-stats (s ∷ ss))) e ∙ drop-append-add (stats-words s) (all-stats ss) (7 * i)))
+    (depth-words ss i (omega arith))
+
+module _ (x : Reported) (refusal status : ℕ) (moves : length (x .pv) ≡ 81) (depths : length (x .stats) ≡ 81) where
+  after-moves : (i : ℕ) → drop (STATS + STATS-WORDS * i) (report-words x refusal status) ≡ drop (7 * i) (all-stats (x .stats))
+  after-moves i =
+      let e : STATS + STATS-WORDS * i ≡ length (head-words x refusal status) + (length (x .pv) + 7 * i) = omega arith in
+      ap (λ (n : ℕ). drop n (report-words x refusal status)) e
+      ∙ drop-append-add (head-words x refusal status) (x .pv ++ all-stats (x .stats)) (length (x .pv) + 7 * i)
+      ∙ drop-append-add (x .pv) (all-stats (x .stats)) (7 * i)
+
+  pub laid-out : ReportLayout (report-words x refusal status) x refusal status
+  laid-out = record {
+    number-is = refl;
+    stopped-is = refl;
+    depth-is = refl;
+    score-is = refl;
+    count-is = refl;
+    endgame-number-is = refl;
+    status-is = refl;
+    line-is = λ i h.
+        getD-append-add (head-words x refusal status) (x .pv ++ all-stats (x .stats)) i 0
+        ∙ List·getD-append (x .pv) (all-stats (x .stats)) 0 i (omega arith);
+    stats-are = λ i h. subst (λ (l : List ℕ). StatsLayout l (getD (x .stats) i no-stats)) (sym (after-moves i))
+        (depth-words (x .stats) i (omega arith));
+  }
+
+-- ---- of one, in which no two fields are alike
+abbrev sample : Reported
+sample = record {
+  number = 18;
+  is-stopped = true;
+  depth = 2;
+  score = negsuc 2;
+  pv = 0x40 ∷ 0x08 ∷ replicate 79 no-move;
+  stats =
+      record { depth = 3; score = pos 6; tally = counts 7 8 9 10 11 } ∷
+      record { depth = 12; score = negsuc 12; tally = counts 15 16 17 19 20 } ∷ replicate 79 no-stats;
+  count = 4;
+  responses = no-responses;
+  table = [];
+}
+
+-- number, stopped, depth, score, count, endgame number, status; 81 moves; of each depth depth, score, visited, terminal, cuts, tt_hit
+-- and tt_suffice
+pub sample-words : report-words sample 14 5
+    ≡ 18 ∷ 1 ∷ 2 ∷ 18446744073709551613 ∷ 4 ∷ 14 ∷ 5 ∷
+    0x40 ∷ 0x08 ∷ (replicate 79 255 ++
+    (3 ∷ 6 ∷ 7 ∷ 8 ∷ 9 ∷ 10 ∷ 11 ∷
+    12 ∷ 18446744073709551603 ∷ 15 ∷ 16 ∷ 17 ∷ 19 ∷ 20 ∷ replicate 553 0))
+unfolding all-stats
+sample-words = refl
