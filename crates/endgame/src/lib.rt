@@ -282,7 +282,7 @@ fn proven_of(who: Player, wins: bool, loses: bool) -> Status
     Status::unproven()
 }
 
-// What is left of a set if a side can no longer win.
+// What is left of a set if a side can no longer win. Nothing is said of a byte that is no set's: `combined`, the only caller, has none.
 fn limited(can: bool, left: Status, proven: Read) -> Read
     ensures { λ r. ⌜ Narrows can left proven r ⌝ }
 {

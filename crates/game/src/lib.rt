@@ -3,7 +3,7 @@
 // value, refusals are numbered, a finished game lists no moves, and every value of the structs means a position.
 ghost use mathlib.Core.Path.{_≡_};
 ghost use mathlib.Core.Bool.{not, _&&_};
-ghost use Prim.Native.Nat.{ℕ, _<_};
+ghost use Prim.Native.Nat.{_<_};
 ghost use lib.Dec.{T};
 ghost use lib.ListN.{length};
 ghost use Rattle.base.specs.Bits.{digits};
@@ -138,11 +138,13 @@ impl Game {
             return Answer::Refused(MoveError::GameOver);
         }
         let states = self.global_states;
-        if !states.in_play(global) {
+        let open = states.in_play(global);
+        let next = self.next_board;
+        let due = next.allows(global);
+        if !open {
             return Answer::Refused(MoveError::WonBoard);
         }
-        let next = self.next_board;
-        if !next.allows(global) {
+        if !due {
             return Answer::Refused(MoveError::WrongBoard);
         }
         let boards = self.local_boards;
@@ -241,8 +243,7 @@ impl Game {
         ensures { λ r. ⌜ r ≡ digits (λ b. unfinished (position-of self) &&
             (open-board (position-of self) b && may (position-of self .next-board) b)) 9 ⌝ }
     {
-        let state = self.game_state;
-        if state.terminal() {
+        if self.game_over() {
             return 0;
         }
         let states = self.global_states;

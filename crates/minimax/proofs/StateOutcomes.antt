@@ -15,8 +15,8 @@ use Rattle.theory.specs.OrderedSearch.{stopped, found, unless-stopped, with-sto
 use Rattle.boards.specs.declared.moves.Move.{Move}
 use Rattle.game.specs.Meaning.{position-of}
 use Rattle.order.specs.declared.MoveOrder.{MoveOrder}
-use Rattle.order.specs.Order.{marked, candidates-left, order-left}
-use Rattle.order.proofs.OrderSteps.{order-new}
+use Rattle.order.specs.Order.{new-order, order-left}
+use Rattle.order.proofs.OrderSteps.{new-order-means, order-new}
 use Rattle.table.specs.declared.Entry.{Entry}
 use Rattle.table.specs.Entries.{bound-number, entry-means}
 use Rattle.minimax.specs.declared.search.SearchState.{SearchState}
@@ -82,9 +82,7 @@ module _ (a : Node) (s : SearchState) (words : List ℕ) (l : Pv) (answer pv sec
       ∙ ap₂ (λ (x y : ℕ). if eqb x no-move then (λ _. some-move y) else λ _. x ∷ []) f g
 
   -- what a move order has left at first are the candidates
-  pub order-candidates : (first : Move) (w : MoveOrder)
-      → (candidates-left (w .left) ≡ some-move (first .bits) ++ (some-move (second .bits) ++ moves (position-of (a .game)))) ×
-      ((k : ℕ) → marked (w .seen) k ≡ false)
+  pub order-candidates : (first : Move) (w : MoveOrder) → w ≡ new-order (a .game) first second
       → second ≡ (if eqb (answer .bits) no-move then (λ _. pv) else λ _. answer)
       → answer .bits ≡ getD (responses-to (memory-of s words) (other (a .game .«next_player»))) (a .prev .bits) no-move
       → pv .bits ≡ getD (pv-of l (a .depth)) 0 no-move
@@ -92,6 +90,7 @@ module _ (a : Node) (s : SearchState) (words : List ℕ) (l : Pv) (answer pv sec
       (pv-of l (a .depth))
   unfolding candidates
   order-candidates first w n e f g =
-      order-new (a .game) w _ n
+      ap (order-left (a .game)) n
+      ∙ order-new (a .game) (new-order (a .game) first second) _ (new-order-means (a .game) first second)
       ∙ ap (λ (hs : List ℕ). fresh (accepts (position-of (a .game))) []
       (some-move (first .bits) ++ (hs ++ moves (position-of (a .game))))) (hinted e f g)

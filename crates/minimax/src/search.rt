@@ -64,7 +64,8 @@ pub(crate) struct Node {
     pub values: Values,
 }
 
-// What a search found; the variation and score of a stopped one say nothing.
+// What a search found. Of a stopped one only state and `stopped` are promised: no caller reads its variation or its score, and the
+// state is what `deepen` reports of it.
 pub(crate) struct NodeResult {
     pub state: SearchState,
     pub pv: Pv,

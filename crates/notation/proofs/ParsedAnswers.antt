@@ -65,7 +65,7 @@ module _ (os : List ℕ) (r : OverallRead) (h : Reads-overall os r) where
 
 module _ (cs : List ℕ) (r : CellsRead) (h : Reads-cells cs r) where
   pub fault-read : (why : ErrorKind) → r .answer ≡ Wrong why → kind-number why ≡ first-fault cs (from 0 89)
-  fault-read why e = subst (Answers-cells cs (r .boards)) e h
+  fault-read why e = subst (Answers-cells cs (r .boards)) e h .0
 
   pub cells-read : r .answer ≡ Right → Cells-say cs (r .boards)
   cells-read e = subst (Answers-cells cs (r .boards)) e h

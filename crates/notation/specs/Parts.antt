@@ -19,7 +19,7 @@ use Rattle.boards.specs.declared.local.LocalBoards.{LocalBoards}
 use Rattle.boards.specs.declared.states.GlobalStates.{GlobalStates}
 use Rattle.boards.specs.Packed.{cell-at, state-at}
 use Rattle.boards.specs.With.{with-cell}
-use Rattle.game.specs.Built.{new-game}
+use Rattle.game.specs.Built.{no-boards, new-game}
 use Rattle.game.specs.Neat.{neat-row}
 use Rattle.notation.specs.declared.ErrorKind.{ErrorKind}
 use Rattle.notation.specs.declared.ParseAnswer.the-variants.{Refused}
@@ -110,7 +110,7 @@ pub record Cells-say (cs : List ℕ) (l : LocalBoards) : Type 0 where
 
 abbrev pub Answers-cells : List ℕ → LocalBoards → CellsAnswer → Type 0
 Answers-cells cs l Right = Cells-say cs l
-Answers-cells cs l (Wrong why) = kind-number why ≡ first-fault cs (from 0 89)
+Answers-cells cs l (Wrong why) = (kind-number why ≡ first-fault cs (from 0 89)) × (l ≡ no-boards)
 
 abbrev pub Reads-cells : List ℕ → CellsRead → Type 0
 Reads-cells cs r = Answers-cells cs (r .boards) (r .answer)

@@ -299,7 +299,7 @@ fn check_cell(cells: &[u8], i: usize) -> CellsAnswer
     }
 }
 
-// What the cells' section says, unless it has a fault: the first one.
+// What the cells' section says, unless it has a fault: then the first one, and empty boards.
 pub struct CellsRead {
     pub boards: LocalBoards,
     pub answer: CellsAnswer,
@@ -313,7 +313,7 @@ fn parse_cells(cells: &[u8]) -> CellsRead
     for i in 0..89 {
         if let CellsAnswer::Wrong(why) = check_cell(cells, i) {
             return CellsRead {
-                boards,
+                boards: LocalBoards::EMPTY,
                 answer: CellsAnswer::Wrong(why),
             };
         }

@@ -18,12 +18,10 @@ use Rattle.rules.specs.Moves.{moves}
 use Rattle.theory.specs.Memory.{some-move}
 use Rattle.theory.specs.OrderedSearch.{fresh}
 use Rattle.boards.specs.declared.moves.Move.{Move}
-use Rattle.boards.specs.declared.moves.MoveIterator.{MoveIterator}
 use Rattle.boards.specs.declared.moves.MoveError.{MoveError}
 use Rattle.boards.specs.declared.moves.MoveError.the-variants.{WrongBoard, WonBoard, OutOfBounds, NotEmpty, GameOver}
 use Rattle.boards.specs.declared.moves.Answer.the-variants.{Accepted, Refused}
 use Rattle.boards.specs.Answers.{answer-number, move-error-number}
-use Rattle.boards.specs.Cursor.{cursor-over}
 use Rattle.game.specs.declared.Game.{Game}
 use Rattle.game.specs.declared.MoveResult.{MoveResult}
 use Rattle.game.specs.Meaning.{position-of}
@@ -35,14 +33,15 @@ use Rattle.order.specs.declared.Seen.{Seen}
 use Rattle.order.specs.declared.Candidates.{Candidates}
 use Rattle.order.specs.declared.MoveOrder.{MoveOrder}
 use Rattle.order.specs.declared.NextMove.{NextMove}
-use Rattle.order.specs.Order.{marked, candidates-left, Step, with-mark, step, step-of, NextOf, unmarked, order-left}
+use Rattle.order.specs.Order.{marked, candidates-left, new-order, Step, with-mark, step, step-of, NextOf, unmarked, order-left}
+use Rattle.order.proofs.OrderMarks.{none-marked}
 
 -- ---- a new order
-pub new-order : (g : Game) (first second : Move) (list : MoveIterator) → list ≡ cursor-over (moves (position-of g))
-    → candidates-left (record { first = first; second = second; list = list }) ≡ some-move (first .bits) ++
-    (some-move (second .bits) ++ moves (position-of g))
+pub new-order-means : (g : Game) (first second : Move) → (candidates-left (new-order g first second .left)
+    ≡ some-move (first .bits) ++ (some-move (second .bits) ++ moves (position-of g)))
+    × ((k : ℕ) → marked (new-order g first second .seen) k ≡ false)
 unfolding candidates-left
-new-order g first second list e = rw (e, all-moves-listed g)
+new-order-means g first second = (rw (all-moves-listed g), none-marked)
 
 -- ---- one move met
 module _ (ok : ℕ → Bool) (seen : ℕ → Bool) (m : ℕ) (ms : List ℕ) where

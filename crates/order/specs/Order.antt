@@ -4,12 +4,14 @@ use mathlib.Core.Bool.{Bool, _||_}
 use mathlib.Core.List.{List, [], _∷_, _++_}
 use Prim.Native.Nat.{ℕ, _/_, _%_}
 use lib.Dec.{eqb}
-use lib.ListN.{getD}
+use lib.ListN.{getD, replicate}
 use Rattle.base.specs.Branch.{if_then_else_}
 use Rattle.base.specs.Bits.{bit}
 use Rattle.rules.specs.Play.{accepts, no-move}
+use Rattle.rules.specs.Moves.{moves}
 use Rattle.theory.specs.Memory.{some-move}
-use Rattle.boards.specs.Cursor.{moves-left}
+use Rattle.boards.specs.declared.moves.Move.{Move}
+use Rattle.boards.specs.Cursor.{moves-left, cursor-over}
 use Rattle.game.specs.declared.Game.{Game}
 use Rattle.game.specs.Meaning.{position-of}
 use Rattle.game.specs.After.{game-after}
@@ -26,6 +28,14 @@ marked s m = bit (getD (s .marks) (m / 64) 0) (m % 64)
 
 unfoldable pub candidates-left : Candidates → List ℕ
 candidates-left o = some-move (o .first .bits) ++ (some-move (o .second .bits) ++ moves-left (o .list))
+
+-- ---- before the first move is met
+abbrev pub no-marks : Seen
+no-marks = record { marks = replicate 4 0 }
+
+abbrev pub new-order : Game → Move → Move → MoveOrder
+new-order g first second =
+    record { left = record { first = first; second = second; list = cursor-over (moves (position-of g)) }; seen = no-marks }
 
 -- the next move in that order
 abbrev pub NextCandidateIs : List ℕ → NextCandidate → Type 0
@@ -55,7 +65,8 @@ step ok seen (m ∷ ms) =
 abbrev pub step-of : Game → MoveOrder → Step
 step-of g w = step (accepts (position-of g)) (marked (w .seen)) (candidates-left (w .left))
 
--- the move found and the game after it, with the rest; where none is found the empty move and the game itself, as no game accepts that move
+-- the move found and the game after it, with the rest, by what that means: nothing reads its fields but the next step. Where none is found
+-- the empty move and the game itself, as no game accepts that move
 pub record NextOf (g : Game) (w : MoveOrder) (r : NextMove) : Type 0 where
   pub move-is : r .m .bits ≡ step-of g w .found
   pub game-is : r .game ≡ game-after g (step-of g w .found)

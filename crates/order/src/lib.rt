@@ -2,15 +2,11 @@
 // Ported from src/lib/minimax.rs of nelhage/ultimattt at commit 87ef0d9c7c (Apache-2.0, see NOTICE), changed: `move_iterator` and
 // `DedupIterator` are a cursor by value and a set of 256 marks.
 ghost use mathlib.Core.Path.{_≡_};
-ghost use mathlib.Core.Bool.{false, _||_};
+ghost use mathlib.Core.Bool.{_||_};
 ghost use Prim.Native.Nat.{ℕ, _<_};
 ghost use lib.Dec.{eqb};
 ghost use lib.ListN.{getD, set};
-ghost use mathlib.Core.List.{_++_};
-ghost use Rattle.rules.specs.Moves.{moves};
-ghost use Rattle.theory.specs.Memory.{some-move};
-ghost use Rattle.game.specs.Meaning.{position-of};
-ghost use Rattle.order.specs.Order.{marked, candidates-left, NextCandidateIs, NextOf};
+ghost use Rattle.order.specs.Order.{marked, candidates-left, no-marks, new-order, NextCandidateIs, NextOf};
 use boards::Answer;
 use boards::Listed;
 use boards::Move;
@@ -24,7 +20,7 @@ pub struct Seen {
 
 impl Seen {
     fn new() -> Seen
-        ensures { λ r. ⌜ ((m : ℕ) → marked r m ≡ false) ⌝ }
+        ensures { λ r. ⌜ r ≡ no-marks ⌝ }
     {
         Seen { marks: [0; 4] }
     }
@@ -133,8 +129,7 @@ pub struct NextMove {
 
 impl MoveOrder {
     pub fn new(game: Game, first: Move, second: Move) -> MoveOrder
-        ensures { λ r. ⌜ (candidates-left (r .left) ≡ some-move (first .bits) ++
-            (some-move (second .bits) ++ moves (position-of game))) × ((k : ℕ) → marked (r .seen) k ≡ false) ⌝ }
+        ensures { λ r. ⌜ r ≡ new-order game first second ⌝ }
     {
         let list = game.all_moves();
         let left = Candidates {

@@ -1,5 +1,5 @@
 -- The cells before the next byte are in the boards.
-use mathlib.Core.Path.{_≡_, sym, ap, _∙_}
+use mathlib.Core.Path.{_≡_, refl, sym, ap, _∙_}
 use Prim.Native.Nat.{_≤_, _-_}
 use Rattle.text.proofs.ReadingScan.{faultless-is-there}
 use Rattle.notation.specs.Parts.{fault-number}
@@ -27,9 +27,12 @@ enum-known-why c = search needs
 
 returns : tie.Need-returns Inv-loop μ-loop
 returns c =
-    let l = c .before .before .before .before .before .loop in fault-found _ _ _ (c .before .before .before .before .loop-test .taken)
-    (l .inv .1) _ (sym (ap fault-number (c .before .why .given .1)) ∙ c .before .before .before .check-cell .ensures)
-    (kind-is-a-fault (c .before .why .given .0 .0))
+    let l = c .before .before .before .before .before .loop in (
+      fault-found _ _ _ (c .before .before .before .before .loop-test .taken)
+          (l .inv .1) _ (sym (ap fault-number (c .before .why .given .1)) ∙ c .before .before .before .check-cell .ensures)
+          (kind-is-a-fault (c .before .why .given .0 .0)),
+      refl,
+    )
 
 enum-told : tie.Need-enum-told Inv-loop μ-loop
 enum-told c = search needs

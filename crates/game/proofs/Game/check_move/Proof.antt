@@ -37,9 +37,12 @@ returns-3 c =
 in-play-requires : tie.Need-in-play-requires
 in-play-requires c κs = search needs
 
+allows-requires : tie.Need-allows-requires
+allows-requires c κs = search needs
+
 returns-4 : tie.Need-returns-4
 returns-4 c =
-    let p = c .before in
+    let p = c .before .before in
     let i3 = p .before .before in
     let t = i3 .before in
     let i2 = t .before in
@@ -49,14 +52,11 @@ returns-4 c =
     shut _ _ _ _ (g .global .ensures) (l .local .ensures) (i1 .if1 .left) (i2 .if2 .left) _ (t .terminal .ensures) (i3 .if3 .left) _
     (p .in-play .ensures) (c .if4 .taken)
 
-allows-requires : tie.Need-allows-requires
-allows-requires c κs = search needs
-
 returns-5 : tie.Need-returns-5
 returns-5 c =
-    let a = c .before in
-    let i4 = a .before in
-    let p = i4 .before in
+    let i4 = c .before in
+    let a = i4 .before in
+    let p = a .before in
     let i3 = p .before .before in
     let t = i3 .before in
     let i2 = t .before in
@@ -77,13 +77,12 @@ enum-told-2 c = search needs
 
 -- the cell was looked at last
 cell-looked : (c : tie.After-at) (e : Bool) → blank (c .at .result) ≡ e →
-    cond e 0 13 ≡ refusal
-    (play (position-of (c .before .before .before .before .before .before .before .before .before .before .before .before .before .args .self)) (c .before .before .before .before .before .before .before .before .before .before .before .before .before .args .m .bits))
+    (let a = c .before .before .before .before .before .before .before .before .before .before .before .before .before .args in cond e 0 13 ≡ refusal (play (position-of (a .self)) (a .m .bits)))
 cell-looked c e h =
     let i5 = c .before .before in
-    let a = i5 .before in
-    let i4 = a .before in
-    let p = i4 .before in
+    let i4 = i5 .before in
+    let a = i4 .before in
+    let p = a .before in
     let i3 = p .before .before in
     let t = i3 .before in
     let i2 = t .before in
@@ -110,8 +109,8 @@ check-move-spec =
     terminal-requires
     returns-3
     in-play-requires
-    returns-4
     allows-requires
+    returns-4
     returns-5
     at-requires
     enum-told

@@ -7,11 +7,11 @@ use Rattle.game.proofs.MeaningMoves.{none-over, none-due, all-open, one
 use Rattle.game.proofs.Game.playable.Statement.{statement}
 use Rattle.game.proofs.Game.playable.Tie as tie
 
-terminal-requires : tie.Need-terminal-requires
-terminal-requires c κs = search needs
+game-over-requires : tie.Need-game-over-requires
+game-over-requires c κs = search needs
 
 returns : tie.Need-returns
-returns c = none-over (position-of (c .before .before .args .self)) (not-true _ (sym (c .before .terminal .ensures) ∙ c .if1 .taken))
+returns c = none-over (position-of (c .before .before .args .self)) (not-true _ (sym (c .before .game-over .ensures) ∙ c .if1 .taken))
 
 openbits-requires : tie.Need-openbits-requires
 openbits-requires c κs = search needs
@@ -33,7 +33,7 @@ returns-2 c =
     let opened = c .before .before in
     let unfinished = opened .before .before in
     all-open (position-of (unfinished .before .before .args .self)) _
-    (not-false _ (sym (unfinished .before .terminal .ensures) ∙ unfinished .if1 .left))
+    (not-false _ (sym (unfinished .before .game-over .ensures) ∙ unfinished .if1 .left))
     (opened .openbits .ensures)
     (c .enum-told .given .1)
 
@@ -48,7 +48,7 @@ returns-4 c =
     let opened = next .before .before in
     let unfinished = opened .before .before in
     one-open (position-of (unfinished .before .before .args .self)) _
-    (not-false _ (sym (unfinished .before .terminal .ensures) ∙ unfinished .if1 .left))
+    (not-false _ (sym (unfinished .before .game-over .ensures) ∙ unfinished .if1 .left))
     (opened .openbits .ensures) _
     (next .next .given .1)
     (c .if2 .left)
@@ -57,7 +57,7 @@ pub playable-spec : {M : Type 1} → statement M
 playable-spec =
     tie.close
     (tie.spec
-    terminal-requires
+    game-over-requires
     returns
     openbits-requires
     enum-told

@@ -1,5 +1,5 @@
 -- Nothing is marked, and the cursor has the list of moves.
-use Rattle.order.proofs.OrderSteps.{new-order}
+use mathlib.Core.Path.{refl}
 use borrow.Author.Needs.{needs}
 use Rattle.order.proofs.MoveOrder.new.Statement.{statement}
 use Rattle.order.proofs.MoveOrder.new.Tie as tie
@@ -11,11 +11,7 @@ new-requires : tie.Need-new-requires
 new-requires c κs = search needs
 
 returns : tie.Need-returns
-returns c = (
-  new-order (c .before .before .args .game) (c .before .before .args .first) (c .before .before .args .second) _
-      (c .before .all-moves .ensures),
-  c .new .ensures,
-)
+returns c = rw (c .before .all-moves .ensures, c .new .ensures) refl
 
 pub new-spec : {M : Type 1} → statement M
 new-spec = tie.close (tie.spec all-moves-requires new-requires returns)
