@@ -34,6 +34,7 @@ use Rattle.notation.specs.declared.MoveTextAnswer.{MoveTextAnswer}
 use Rattle.notation.specs.declared.MoveTextAnswer.the-variants.{Read, BadLength, BadCharacter}
 use Rattle.notation.specs.declared.ParsedMove.{ParsedMove}
 use Rattle.notation.specs.Parsed.{parse-number, reading-of, game-for, Parses, move-reading-of, move-for, move-number, Parses-move}
+use Rattle.demands.specs.Twelve.{text-refusal}
 use Rattle.demands.specs.Demand1.{letters, ReadingMove, side-letter, good-mark, good-cell, marks-from, cell-checks, text-checks}
 use Rattle.demands.specs.Demand1.{numbers, offsets, lengths, ReadingPosition}
 
@@ -235,22 +236,19 @@ answer-fits {text} (good {s = s} {os = os} {cs = cs} {w = w} q z) =
     marked text s os cs _ w q
     (passes (eqb f 0) f 12 (length cs) [] _ (subst (λ (k : ℕ). T (eqb k 0)) (sym (sym e ∙ z)) tt) (all-passed _))
 
-reading-number : Reading → ℕ
-reading-number (reads p) = 0
-reading-number (refuses n o l) = n
-
-fits-number : (cs : List (Bool × ℕ × ℕ × ℕ)) (x : Reading) → Fits cs x → reading-number x ≡ first-failed (numbers cs)
-unfolding Fits reading-number
+fits-number : (cs : List (Bool × ℕ × ℕ × ℕ)) (x : Reading) → Fits cs x → text-refusal x ≡ first-failed (numbers cs)
+unfolding Fits
 fits-number cs (reads p) h = sym h
 fits-number cs (refuses n o l) h = sym (h .0)
 
-answer-said : (a : ParseAnswer) (g : Game) → parse-number a ≡ reading-number (reading-of a g)
-unfolding reading-number
+pub refusal-is-first-failed : (text : List ℕ) → text-refusal (read text) ≡ first-failed (numbers (text-checks text (sections text)))
+refusal-is-first-failed text = fits-number _ (read text) (answer-fits (read-answers text))
+
+answer-said : (a : ParseAnswer) (g : Game) → parse-number a ≡ text-refusal (reading-of a g)
 answer-said Accepted g = refl
 answer-said (Refused e) g = refl
 
-refused-game : (x : Reading) → (reading-number x ≡ 0 → ⊥) → game-for x ≡ new-game
-unfolding reading-number
+refused-game : (x : Reading) → (text-refusal x ≡ 0 → ⊥) → game-for x ≡ new-game
 refused-game (reads p) h = absurd (h refl)
 refused-game (refuses n o l) h = refl
 
@@ -261,8 +259,8 @@ module _ (text : List ℕ) (r : Parsed) (h : Parses text r) where
   fits : Fits asked (reading-of (r .answer) (r .game))
   fits = subst (Fits asked) (sym (h .says)) (answer-fits (read-answers text))
 
-  said : parse-number (r .answer) ≡ reading-number (read text)
-  said = answer-said (r .answer) (r .game) ∙ ap reading-number (h .says)
+  said : parse-number (r .answer) ≡ text-refusal (read text)
+  said = answer-said (r .answer) (r .game) ∙ ap text-refusal (h .says)
 
   error-placed : (e : ParseError) → r .answer ≡ Refused e →
       (e .offset ≡ first-failed (offsets asked)) × (e .length ≡ first-failed (lengths asked))

@@ -71,6 +71,7 @@ module _ (ms : List ℕ) (m : Minimax) (c : Config) (g : Game) (a : Analysis) (r
     status-is = a-is .status ∙ ap (λ (q : Position). status-of (analysis q .status)) means;
     counts-are = a-is .stats ∙ ap (λ (q : Position). analysis q .stats) means;
     report-is = report-is;
+    sound-is = λ t. good-is-sound p (reached-good start start-is-good ms) t;
     answered =
         λ t. a-is .refusal ∙ ap (λ (q : Position). analysis q .refusal) means
         ∙ ap (λ (y : Found). y .refusal) (analysis-sound p t (good-is-sound p (reached-good start start-is-good ms) t) .2);

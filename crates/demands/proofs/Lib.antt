@@ -1,7 +1,11 @@
 pub mod Claims
 pub mod Demand3
+pub mod Demand2Listing
 pub mod Demand2
-pub mod Demand1Lines
+pub mod Demand1Calls
 pub mod Demand1Texts
+pub mod Demand1Lines
 pub mod Demand1
+pub mod Searches
+pub mod SearchesExamples
 pub mod Twelve

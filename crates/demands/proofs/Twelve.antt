@@ -2,7 +2,7 @@
 use mathlib.Core.Path.{_≡_, refl, ap, _∙_}
 use mathlib.Core.List.{_++_}
 use Rattle.rules.specs.Position.{start}
-use Rattle.text.proofs.Examples.{bytes, empty-text-reads, empty-text as text-of-101, e9 as cells-of-101}
+use Rattle.text.proofs.Examples.{empty-text-reads, empty-text as text-of-101, e9 as cells-of-101}
 use Rattle.base.specs.Branch.{if_then_else_}
 use Rattle.base.specs.Lists.{any, all, filter, elem, concat-map}
 use Rattle.base.specs.Update.{update}
@@ -28,7 +28,8 @@ use Rattle.theory.specs.OrderedSearch.{search}
 use Rattle.theory.specs.Deepening.{on-outcome, deepen, analyze}
 use Rattle.theory.specs.Reported.{entry-refusal, reported}
 use Rattle.program_line.specs.Answered.{reading-text, answer-line, report-text, position-text}
-use Rattle.demands.specs.Twelve.{quoted, e9, c9, empty-position, Twelve}
+use Rattle.text.specs.Bytes.{quoted}
+use Rattle.demands.specs.Twelve.{e9, c9, empty-position, Twelve}
 
 -- what the facts compute with
 asking : Unit {0}
@@ -48,7 +49,7 @@ computing = tt
 
 -- the empty board's text, as the worked examples have it
 same-text : empty-position ≡ text-of-101
-unfolding computing bytes text-of-101 cells-of-101
+unfolding computing text-of-101 cells-of-101
 same-text = refl
 
 empty-reads : read empty-position ≡ reads start

@@ -1,9 +1,9 @@
 -- Demand 1: what each entry point asks, as a list of checks with document 01's numbers in their order, and what it returns where one fails.
 -- The number that it answers is that of the first that fails, 0 where all pass.
 use mathlib.Core.Path.{_≡_}
-use mathlib.Core.Bool.{Bool, true, false, not, _||_, _&&_}
+use mathlib.Core.Bool.{Bool, false, not, _||_, _&&_}
 use mathlib.Core.List.{List, [], _∷_, _++_, map}
-use Prim.Native.Nat.{ℕ, suc, _-_, _%_}
+use Prim.Native.Nat.{ℕ, suc, _+_, _*_, _-_, _%_}
 use lib.Dec.{T, eqb, leb, ltb}
 use lib.IntN.{pos}
 use lib.ListN.{length, getD, replicate}
@@ -11,15 +11,18 @@ use Rattle.base.specs.Lists.{any, elem, from}
 use Rattle.base.specs.Checks.{all-pass, first-failed}
 use Rattle.rules.specs.declared.Player.{Player}
 use Rattle.rules.specs.declared.Player.the-variants.{X, O}
+use Rattle.rules.specs.declared.DrawWinner.the-variants.{Nobody}
 use Rattle.rules.specs.declared.CellState.the-variants.{Empty}
 use Rattle.rules.specs.declared.GameState.the-variants.{InPlay}
 use Rattle.rules.specs.Board.{blank, mine, in-play, won-by, nine, has-line}
+use Rattle.rules.specs.Position.{Position}
 use Rattle.rules.specs.Play.{no-move, move-of, board-of, cell-of, checks, after}
+use Rattle.rules.specs.Moves.{moves}
 use Rattle.rules.specs.Status.{unproven}
-use Rattle.rules.specs.Endgame.{no-endgame-stats as no-counts}
-use Rattle.text.specs.Reading.{sections}
+use Rattle.rules.specs.Endgame.{no-endgame-stats as no-counts, analysis}
+use Rattle.text.specs.Reading.{reads, sections, read}
 use Rattle.text.specs.MoveText.{coordinate}
-use Rattle.text.specs.ProgramLine.{asked, line-refusal, refusal-text}
+use Rattle.text.specs.ProgramLine.{answer-text, refusal-text}
 use Rattle.theory.specs.Limits.{console}
 use Rattle.theory.specs.Memory.{fresh-memory}
 use Rattle.theory.specs.OrderedSearch.{unlimited}
@@ -42,7 +45,7 @@ use Rattle.notation.specs.declared.ParseAnswer.the-variants.{Refused}
 use Rattle.notation.specs.declared.Parsed.{Parsed}
 use Rattle.notation.specs.declared.MoveTextAnswer.the-variants.{BadCharacter}
 use Rattle.notation.specs.declared.ParsedMove.{ParsedMove}
-use Rattle.notation.specs.Parsed.{parse-number, move-number, Parses, Parses-move}
+use Rattle.notation.specs.Parsed.{parse-number, move-number, game-for, Parses, Parses-move}
 use Rattle.status.specs.Sets.{status-of}
 use Rattle.endgame.specs.declared.Analysis.{Analysis}
 use Rattle.endgame.specs.declared.MoveStatus.{MoveStatus}
@@ -51,8 +54,11 @@ use Rattle.minimax.specs.declared.Minimax.{Minimax}
 use Rattle.minimax.specs.declared.Config.{Config}
 use Rattle.minimax.specs.declared.Report.{Report}
 use Rattle.minimax.specs.Structs.{structs}
-use Rattle.minimax.specs.Report.{settings-of, report-of, answer-of, reported-of, scoring-of, responses-of}
-use Rattle.program_line.specs.Answered.{answer-line}
+use Rattle.minimax.specs.Report.{settings-of, report-of, answer-of, reported-of, scoring-of, responses-of, empty-responses}
+use Rattle.line_buffer.specs.Buffer.{new-buffer, pushed-all, buffer-asks}
+use Rattle.answer_text.specs.declared.AnswerText.{AnswerText}
+use Rattle.answer_text.specs.AnswerBytes.{text-of-bytes, written-bytes}
+use Rattle.program_line.specs.Answered.{program-search, asked-text}
 
 -- ---- playing: the rules' own checks
 -- refused play returns the old game
@@ -232,14 +238,41 @@ one-or-two-digits (c ∷ []) = digit c
 one-or-two-digits (c ∷ d ∷ []) = digit c && digit d
 one-or-two-digits (c ∷ d ∷ e ∷ cs) = false
 
--- 19 where there is no blank, or what follows the last one is not one or two digits; it comes before all other numbers
-pub record AskingLine (line : List ℕ) : Type 0 where
-  pub no-blank : T (not (elem 0x20 line)) → answer-line line ≡ refusal-text 19
-  pub no-depth : (text rest : List ℕ) → line ≡ text ++ (0x20 ∷ rest) → T (not (elem 0x20 rest)) →
-      T (not (one-or-two-digits rest)) →
-      answer-line line ≡ refusal-text 19
-  pub accepted : (text rest : List ℕ) → line ≡ text ++ (0x20 ∷ rest) → T (not (elem 0x20 rest)) → T (one-or-two-digits rest) →
-      line-refusal (asked line) ≡ 0
+-- the number that they say
+abbrev pub digits-say : List ℕ → ℕ
+digits-say [] = 0
+digits-say (c ∷ []) = c - 0x30
+digits-say (c ∷ d ∷ cs) = 10 * (c - 0x30) + (d - 0x30)
+
+-- the program's settings
+abbrev pub program-config : ℕ → Config
+program-config depth = record { «max_depth» = depth; allowance = 1000000; «draw_winner» = Nobody }
+
+-- of what stands before the last blank and after it: the depth's form, the position's text, the endgame analysis, and a search from no
+-- responses with the table off
+abbrev pub answering : List ℕ → List ℕ → List (Bool × ℕ)
+answering text rest =
+    let depth = digits-say rest in
+    let g = game-for (read text) in
+    let c = program-config depth in
+    (one-or-two-digits rest, 19) ∷ (numbers (text-checks text (sections text)) ++ (analysing g ++ (
+    (leb 1 depth && leb depth (console .deepest), 15) ∷
+    (leb (depth-1-enters empty-responses g c []) (c .allowance), 18) ∷ [])))
+
+-- the text reads as a position, and what is written is its status, number of legal moves, and the search's last completed depth, score,
+-- positions entered and moves
+abbrev pub Answered : List ℕ → ℕ → List ℕ → Type 0
+Answered text depth written =
+    (p : Position) × (read text ≡ reads p) × (let x = program-search depth p in
+    written ≡ answer-text (analysis p .status) (length (moves p)) (x .depth) (x .score) (x .count) (x .pv))
+
+-- `E` and the number of the first check that fails, or the answer. A line without a blank has no depth
+pub record AnsweringLine (line written : List ℕ) : Type 0 where
+  pub no-blank : T (not (elem 0x20 line)) → written ≡ refusal-text 19
+  pub refused : (text rest : List ℕ) → line ≡ text ++ (0x20 ∷ rest) → T (not (elem 0x20 rest)) →
+      (first-failed (answering text rest) ≡ 0 → ⊥) → written ≡ refusal-text (first-failed (answering text rest))
+  pub answered : (text rest : List ℕ) → line ≡ text ++ (0x20 ∷ rest) → T (not (elem 0x20 rest)) →
+      first-failed (answering text rest) ≡ 0 → Answered text (digits-say rest) written
 
 -- ---- the demand: of every value that a promise allows
 pub record Demand1 : Type 0 where
@@ -254,5 +287,6 @@ pub record Demand1 : Type 0 where
   -- words and words' are the table's before and after
   pub search : (m : Minimax) (g : Game) (c : Config) (words : List ℕ) (r : Report) (words' : List ℕ) →
       report-of r words' ≡ reported-of m g c words → Searching m g c words (report-of r words')
-  -- of the bytes of a line, whose answer is `answer`'s by the law `line-is-answered`
-  pub program-line : (line : List ℕ) → AskingLine line
+  -- the line's bytes, pushed one by one into a buffer, which `answer` is given
+  pub program-line : (line : List ℕ) (r : AnswerText) → r ≡ text-of-bytes (asked-text (buffer-asks (pushed-all new-buffer line))) →
+      AnsweringLine line (written-bytes r)

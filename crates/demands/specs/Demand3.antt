@@ -1,4 +1,4 @@
--- Demand 3, of a list of moves tried one after the other from the empty board, refused ones included.
+-- Demand 3: moves are tried one after the other, beginning on the empty board; one that is refused changes nothing.
 use mathlib.Core.Path.{_≡_}
 use mathlib.Core.List.{List, []}
 use Prim.Native.Nat.{ℕ}
@@ -6,6 +6,7 @@ use lib.Dec.{T}
 use Rattle.rules.specs.declared.DrawWinner.the-variants.{Nobody}
 use Rattle.rules.specs.Position.{Position, start, unfinished}
 use Rattle.rules.specs.Play.{reached}
+use Rattle.rules.specs.Sound.{sound}
 use Rattle.rules.specs.Hash.{with-turn, zobrist}
 use Rattle.rules.specs.Endgame.{analysis}
 use Rattle.theory.specs.Memory.{Responses}
@@ -39,7 +40,8 @@ module _ (ms : List ℕ) (m : Minimax) (c : Config) (r : AfterMoves) where
     pub status-is : r .analysis .proven ≡ status-of (analysis p .status)
     pub counts-are : endgame-stats-of (r .analysis .stats) ≡ analysis p .stats
     pub report-is : report-of (r .report) [] ≡ reported (game (scoring-of c)) (settings-of c) p rs []
-    -- and, where the game is unfinished, the claims: the endgame question is answered
+    -- and, where the game is unfinished, the claims: the position is sound, and the endgame question is answered
+    pub sound-is : T (unfinished p) → T (sound p)
     pub answered : T (unfinished p) → analysis-number (r .analysis .answer) ≡ 0
     pub mark-says : T (unfinished p) → MarkSays (scoring-of c) (settings-of c) rs p (report-of (r .report) [])
     pub right : T (unfinished p) → NotStopped (scoring-of c) (settings-of c) rs p

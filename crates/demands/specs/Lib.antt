@@ -2,4 +2,5 @@ pub mod Claims
 pub mod Demand3
 pub mod Demand2
 pub mod Demand1
+pub mod Searches
 pub mod Twelve

@@ -1,23 +1,17 @@
 -- Document 01's twelve examples, over the definitions: one fact.
 use mathlib.Core.Path.{_≡_}
-use mathlib.Core.List.{List, [], _∷_, _++_}
+use mathlib.Core.List.{List, [], _++_}
 use Prim.Native.Nat.{ℕ}
-use Prim.Native.Char.{code}
-use Prim.Native.String.{String}
 use lib.IntN.{negsuc}
 use lib.ListN.{take, replicate, length}
 use Rattle.rules.specs.Position.{start}
 use Rattle.rules.specs.Play.{tried}
 use Rattle.rules.specs.Hash.{zobrist}
 use Rattle.rules.specs.Evaluation.{no-draw-winner, evaluate}
+use Rattle.text.specs.Bytes.{quoted}
 use Rattle.text.specs.Reading.{Reading, reads, refuses, read}
 use Rattle.text.specs.MoveText.{reads-move, move-refusal, read-move}
 use Rattle.program_line.specs.Answered.{answer-line}
-
--- the bytes of a quoted text of ASCII
-unfoldable pub quoted : String → List ℕ
-quoted String.[] = []
-quoted (String._∷_ c s) = code c ∷ quoted s
 
 -- the number of a refused text, 0 where it reads
 abbrev pub text-refusal : Reading → ℕ

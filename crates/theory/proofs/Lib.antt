@@ -14,3 +14,5 @@ pub mod OrderedSearchRange
 pub mod GameNim
 pub mod Table
 pub mod Reported
+pub mod DeepeningStats
+pub mod DeepeningNoMove
