@@ -155,6 +155,7 @@ module _ (text ms : List ℕ) (m : Move) (board cell : ℕ) (other : Game) (memo
         let e = h .played ∙ ap (λ (g : Game). games-after g ms) (h .parsed .game-is) in
         record {
           reading-is = h .parsed .says;
+          read-game-is = h .parsed .game-is;
           move-reading-is = h .move-parsed .says;
           move-read-is = h .move-parsed .move-is;
           move-text-is = h .move-rendered;

@@ -27,7 +27,7 @@ use Rattle.game.specs.After.{refusal, games-after}
 use Rattle.game.specs.Neat.{game-of}
 use Rattle.notation.specs.declared.Parsed.{Parsed}
 use Rattle.notation.specs.declared.ParseAnswer.the-variants.{Accepted}
-use Rattle.notation.specs.Parsed.{reading-of, move-reading-of, move-for}
+use Rattle.notation.specs.Parsed.{reading-of, game-for, move-reading-of, move-for}
 use Rattle.endgame.specs.Means.{analysis-number, move-status-number, endgame-stats-of}
 use Rattle.minimax.specs.declared.Minimax.{Minimax}
 use Rattle.minimax.specs.declared.Config.{Config}
@@ -96,6 +96,7 @@ module _ (text ms : List ℕ) (m : Move) (board cell : ℕ) (other : Game) (memo
   pub record Demand2 : Type 0 where
     -- `parse`: the position, or number, offset and length of the refusal
     pub reading-is : reading-of (r .read .answer) (r .read .game) ≡ read text
+    pub read-game-is : r .read .game ≡ game-for (read text)
     -- `parse_move`, of the same text: the move, or the refusal, which gives the empty move
     pub move-reading-is : move-reading-of (r .«read_move» .answer) (r .«read_move» .m .bits) ≡ read-move text
     pub move-read-is : r .«read_move» .m .bits ≡ move-for (read-move text)

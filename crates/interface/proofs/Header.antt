@@ -1,4 +1,4 @@
--- A report's words stand where the header says: of every report, and of one whose words are all written out.
+-- A report's words stand where the header says: of every report, and of one whose words are all written out; and a position's words.
 use mathlib.Core.Path.{_≡_, refl, sym, ap, _∙_, subst}
 use mathlib.Core.Bool.{true}
 use mathlib.Core.List.{List, [], _∷_, _++_}
@@ -7,10 +7,15 @@ use native.Mathlib.Omega.{arith}
 use lib.IntN.{pos, negsuc}
 use lib.ListN.{length, getD, drop, replicate, List·getD-append}
 use lib.Seq.{drop-append-add, getD-append-add}
+use Rattle.rules.specs.declared.Player.the-variants.{O}
+use Rattle.rules.specs.declared.NextBoard.the-variants.{Only}
+use Rattle.rules.specs.declared.GameState.the-variants.{Won}
 use Rattle.rules.specs.Play.{no-move}
 use Rattle.theory.specs.Memory.{counts, no-responses}
 use Rattle.theory.specs.Deepening.{Stats}
 use Rattle.theory.specs.Reported.{Reported, no-stats}
+use Rattle.game.specs.declared.Game.{Game}
+use Rattle.interface.specs.Position.{words-of}
 use Rattle.interface.specs.Calls.{stats-words, all-stats, head-words, report-words}
 use Rattle.interface.specs.Header.{STATS, STATS-WORDS, StatsLayout, ReportLayout}
 
@@ -83,3 +88,19 @@ pub sample-words : report-words sample 14 5
     12 ∷ 18446744073709551603 ∷ 15 ∷ 16 ∷ 17 ∷ 19 ∷ 20 ∷ replicate 553 0))
 unfolding all-stats
 sample-words = refl
+
+-- ---- of a position, in which no two fields are alike
+abbrev sample-game : Game
+sample-game = record {
+  «next_player» = O;
+  «next_board» = Only 8;
+  «local_boards» = record { rows = record { x = 10; o = 11 } ∷ record { x = 12; o = 13 } ∷ record { x = 14; o = 15 } ∷ [] };
+  «global_states» = record { x = 16; o = 17 };
+  «game_state» = Won O;
+  hash = 18;
+}
+
+-- three rows of x and o, the states' x and o, side, next board, state, hash
+pub sample-position-words : words-of sample-game
+    ≡ 10 ∷ 11 ∷ 12 ∷ 13 ∷ 14 ∷ 15 ∷ 16 ∷ 17 ∷ 1 ∷ 8 ∷ 3 ∷ 18 ∷ []
+sample-position-words = refl

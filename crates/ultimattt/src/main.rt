@@ -53,7 +53,7 @@ fn feed(begun: Program, bytes: &[u8]) -> AfterRead
 }
 
 // Reads standard input until it ends or something fails. What `read` gives and `write` takes no contract says; but each read is fed
-// whole, once and in order.
+// whole.
 fn run() -> RunResult
     ensures { λ r. ⌜ FedFromNew (r .program) ⌝ }
 {
