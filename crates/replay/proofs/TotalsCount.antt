@@ -10,7 +10,7 @@ use Rattle.input.specs.Lines.{count-on, longest}
 use Rattle.replay.specs.declared.totals.Totals.{Totals}
 use Rattle.replay.specs.declared.totals.Comparison.{Comparison}
 use Rattle.replay.specs.declared.totals.Comparison.the-variants.{Agrees, Apart, Differs}
-use Rattle.replay.specs.Totals.{with-record, Counted, may-go-on}
+use Rattle.replay.specs.Totals.{with-record, RecordCounted, may-go-on}
 
 second : (a b : Bool) → (a && b) ≡ true → b ≡ true
 second true b e = e
@@ -29,10 +29,10 @@ module _ (t : Totals) (go : may-go-on t ≡ true) where
   room-for-more : t .records < longest
   room-for-more = ltb-true (t .records) longest (second (t .written) (ltb (t .records) longest) go)
 
-  one-record-more : (outcome : Comparison) (r : Totals) → Counted t outcome r → r .records ≡ t .records + 1
+  one-record-more : (outcome : Comparison) (r : Totals) → RecordCounted t outcome r → r .records ≡ t .records + 1
   one-record-more outcome r c = c .records-are ∙ records-on t outcome ∙ one-on (t .records) room-for-more
 
 -- each record that is counted brings the end nearer
-pub fewer-left : (t r : Totals) (outcome : Comparison) → Counted t outcome r → may-go-on t ≡ true →
+pub fewer-left : (t r : Totals) (outcome : Comparison) → RecordCounted t outcome r → may-go-on t ≡ true →
     longest - r .records < longest - t .records
 fewer-left t r outcome c go = omega (arith, one-record-more t go outcome r c, room-for-more t go)

@@ -15,7 +15,7 @@ use Rattle.answer_text.proofs.AnswerBytes.{added-out, added-all-out}
 use Rattle.replay.specs.declared.totals.Totals.{Totals}
 use Rattle.replay.specs.declared.totals.Comparison.{Comparison}
 use Rattle.replay.specs.declared.totals.Comparison.the-variants.{Agrees, Apart, Differs}
-use Rattle.replay.specs.Totals.{with-record, Counted, agreed-text, verdict-text}
+use Rattle.replay.specs.Totals.{with-record, RecordCounted, agreed-text, verdict-text}
 
 pub then-text : (p q : AnswerText) (t u : List ℕ) → p ≡ text-of-bytes t → q ≡ added-all p u → q ≡ text-of-bytes (t ++ u)
 then-text p q t u e f = f ∙ ap (λ (z : AnswerText). added-all z u) e ∙ added-all-out t u
@@ -29,7 +29,7 @@ text-room o t e = ap (λ (z : AnswerText). length (z .bytes)) e ∙ length-padde
 
 pub counted-by : (t w : Totals) (outcome : Comparison) (written : Bool) → w ≡ with-record t outcome →
     (written ≡ true → w .written ≡ true) →
-    Counted t outcome (record { records = w .records; agreed = w .agreed; apart = w .apart; written = written })
+    RecordCounted t outcome (record { records = w .records; agreed = w .agreed; apart = w .apart; written = written })
 counted-by t w outcome written e f = record {
   records-are = ap (λ (z : Totals). z .records) e;
   agreed-are = ap (λ (z : Totals). z .agreed) e;

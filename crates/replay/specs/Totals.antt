@@ -24,7 +24,7 @@ with-record t Apart =
 with-record t Differs = record { records = count-on (t .records); agreed = t .agreed; apart = t .apart; written = t .written }
 
 -- one record more, of which something may have been printed
-pub record Counted (t : Totals) (outcome : Comparison) (r : Totals) : Type 0 where
+pub record RecordCounted (t : Totals) (outcome : Comparison) (r : Totals) : Type 0 where
   pub records-are : r .records ≡ with-record t outcome .records
   pub agreed-are : r .agreed ≡ with-record t outcome .agreed
   pub apart-are : r .apart ≡ with-record t outcome .apart

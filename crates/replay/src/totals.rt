@@ -2,7 +2,7 @@
 ghost use mathlib.Core.Path.{_≡_};
 ghost use mathlib.Core.Bool.{true, false};
 ghost use Rattle.answer_text.specs.AnswerBytes.{text-of-bytes};
-ghost use Rattle.replay.specs.Totals.{comparison, with-record, record-text, verdict-text, may-go-on, Counted};
+ghost use Rattle.replay.specs.Totals.{comparison, with-record, record-text, verdict-text, may-go-on, RecordCounted};
 use answer_text::AnswerText;
 use input::one_more;
 use libc::STDERR_FILENO;
@@ -92,7 +92,7 @@ impl Totals {
 
     // One record more; one that differs is printed with its number.
     pub fn count(self, outcome: Comparison) -> Totals
-        ensures { λ r. ⌜ Counted self outcome r ⌝ }
+        ensures { λ r. ⌜ RecordCounted self outcome r ⌝ }
     {
         let counted = self.with_record(outcome);
         let text = record_text(counted.records, outcome);

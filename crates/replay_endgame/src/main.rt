@@ -7,7 +7,7 @@ ghost use Prim.Native.Nat.{_≤_};
 ghost use lib.ListN.{length};
 ghost use mathlib.Core.Option.{some};
 ghost use Rattle.text.specs.Reading.{read};
-ghost use Rattle.replay.specs.Totals.{Counted};
+ghost use Rattle.replay.specs.Totals.{RecordCounted};
 ghost use Rattle.replay_endgame.specs.Records.{comparison-for, outcome-of};
 use decimals::Count;
 use input::Input;
@@ -50,7 +50,7 @@ fn outcome(line: &[u8]) -> Comparison
 
 // The totals with a line's record.
 fn step(totals: Totals, line: &[u8]) -> Totals
-    ensures { λ r. ⌜ Counted totals (outcome-of (now (line .entry))) r ⌝ }
+    ensures { λ r. ⌜ RecordCounted totals (outcome-of (now (line .entry))) r ⌝ }
 {
     totals.count(outcome(line))
 }

@@ -2,7 +2,7 @@
 // A record is a position's text, the draw winner (X, O or - for none) and the evaluation, parted by tabs (tools/lists.py).
 ghost use mathlib.Core.Path.{_≡_};
 ghost use Rattle.decimals.specs.Numbers.{read-signed};
-ghost use Rattle.replay.specs.Totals.{Counted};
+ghost use Rattle.replay.specs.Totals.{RecordCounted};
 ghost use Rattle.replay_eval.specs.Records.{is-score, agrees, outcome-of};
 use decimals::Signed;
 use input::Input;
@@ -55,7 +55,7 @@ fn outcome(line: &[u8]) -> Comparison
 
 // The totals with a line's record.
 fn step(totals: Totals, line: &[u8]) -> Totals
-    ensures { λ r. ⌜ Counted totals (outcome-of (now (line .entry))) r ⌝ }
+    ensures { λ r. ⌜ RecordCounted totals (outcome-of (now (line .entry))) r ⌝ }
 {
     totals.count(outcome(line))
 }

@@ -13,7 +13,7 @@ ghost use Rattle.game.specs.Meaning.{position-of};
 ghost use Rattle.game.specs.After.{games-after};
 ghost use Rattle.game.specs.Built.{new-game};
 ghost use Rattle.replay.specs.Agreement.{compared-all, wholly-agrees};
-ghost use Rattle.replay.specs.Totals.{comparison, Counted};
+ghost use Rattle.replay.specs.Totals.{comparison, RecordCounted};
 ghost use Rattle.replay_game.specs.Records.{player-of, state-of, next-of, row-in, game-in, moves-from, moves-in};
 ghost use Rattle.replay_game.specs.Records.{next-number, boards-numbers, position-numbers, reached-numbers, moves-numbers};
 ghost use Rattle.replay_game.specs.Records.{play-numbers, cell-number, cells-numbers, states-numbers, looked-numbers};
@@ -280,7 +280,8 @@ fn moves(words: &[u64], begun: Agreement, g: Game) -> Agreement
 fn play(words: &[u64], begun: Agreement, i: usize, start: Game) -> Comparison
     requires { ⌜ i < 100 ⌝ }
     ensures { λ r. ⌜ r ≡ comparison
-        (wholly-agrees (now (words .entry)) (compared-all (now (words .entry)) begun (play-numbers start (moves-in (now (words .entry)) i))))
+        (wholly-agrees (now (words .entry))
+        (compared-all (now (words .entry)) begun (play-numbers start (moves-in (now (words .entry)) i))))
         (not (unfinished (position-of (games-after start (moves-in (now (words .entry)) i))))) ⌝ }
 {
     let count = (decimals::at(words, i) % 512) as usize;
@@ -401,7 +402,7 @@ fn outcome(line: &[u8]) -> Comparison
 
 // The totals with a line's record more.
 fn step(totals: Totals, line: &[u8]) -> Totals
-    ensures { λ r. ⌜ Counted totals (outcome-of (now (line .entry))) r ⌝ }
+    ensures { λ r. ⌜ RecordCounted totals (outcome-of (now (line .entry))) r ⌝ }
 {
     totals.count(outcome(line))
 }

@@ -8,7 +8,7 @@ ghost use lib.ListN.{length, getD};
 ghost use Rattle.text.specs.Reading.{read};
 ghost use Rattle.notation.specs.Parsed.{move-reading-of};
 ghost use Rattle.replay.specs.Agreement.{new-agreement, compared-all, same-numbers};
-ghost use Rattle.replay.specs.Totals.{Counted};
+ghost use Rattle.replay.specs.Totals.{RecordCounted};
 ghost use Rattle.replay_notation.specs.Records.{byte-in, count-in, bytes-from-2, game-numbers, reading-record, named-byte};
 ghost use Rattle.replay_notation.specs.Records.{move-record, set-number, byte-record, merge-record, play-record, won-record};
 ghost use Rattle.replay_notation.specs.Records.{reads-back, record-of, apart, is-apart, comparison-of, outcome-of};
@@ -280,7 +280,7 @@ fn outcome(line: &[u8]) -> Comparison
 
 // The totals with a line's record more.
 fn step(totals: Totals, line: &[u8]) -> Totals
-    ensures { λ r. ⌜ Counted totals (outcome-of (now (line .entry))) r ⌝ }
+    ensures { λ r. ⌜ RecordCounted totals (outcome-of (now (line .entry))) r ⌝ }
 {
     totals.count(outcome(line))
 }

@@ -5,7 +5,7 @@ mod digest;
 mod expected;
 
 ghost use lib.ListN.{length};
-ghost use Rattle.replay.specs.Totals.{Counted};
+ghost use Rattle.replay.specs.Totals.{RecordCounted};
 ghost use Rattle.replay_search.specs.Chains.{outcome-of};
 use input::Input;
 use replay::Totals;
@@ -15,7 +15,7 @@ const ROOM: usize = 196611;
 
 // The totals with a line's record more; a record's table stands in the words.
 fn step(totals: Totals, line: &[u8], words: &mut [u64]) -> Totals
-    ensures { λ r. ⌜ Counted totals (outcome-of (length (now (words .entry))) (now (line .entry))) r ⌝ }
+    ensures { λ r. ⌜ RecordCounted totals (outcome-of (length (now (words .entry))) (now (line .entry))) r ⌝ }
 {
     totals.count(chain::outcome(line, words))
 }

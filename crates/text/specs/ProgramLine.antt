@@ -54,11 +54,6 @@ asked-by (around text rest) = asks-with text (depth-of rest)
 abbrev pub asked : List ℕ → Question
 asked line = asked-by (parted line)
 
--- document 01's numbers, 0 where nothing is refused
-abbrev pub line-refusal : Question → ℕ
-line-refusal no-depth = 19
-line-refusal (asks text depth) = 0
-
 -- ---- numbers
 -- n with no zero in front, if it has at most k digits
 unfoldable pub in-places : ℕ → ℕ → List ℕ

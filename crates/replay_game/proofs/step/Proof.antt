@@ -1,7 +1,7 @@
 -- The line's outcome is counted.
 use mathlib.Core.Path.{subst}
 use Rattle.replay.specs.declared.totals.Comparison.{Comparison}
-use Rattle.replay.specs.Totals.{Counted}
+use Rattle.replay.specs.Totals.{RecordCounted}
 use borrow.Author.Needs.{needs}
 use Rattle.replay_game.proofs.step.Statement.{statement}
 use Rattle.replay_game.proofs.step.Tie as tie
@@ -14,7 +14,7 @@ count-requires c κs = search needs
 
 returns : tie.Need-returns
 returns c =
-    subst (λ (o : Comparison). Counted (c .before .before .before .args .totals) o (c .count .result)) (c .before .outcome .ensures)
+    subst (λ (o : Comparison). RecordCounted (c .before .before .before .args .totals) o (c .count .result)) (c .before .outcome .ensures)
     (c .count .ensures)
 
 pub step-spec : {M : Type 1} → statement M

@@ -1,7 +1,7 @@
 -- The record is counted by what is found of it.
 use mathlib.Core.Path.{subst}
 use Rattle.replay.specs.declared.totals.Comparison.{Comparison}
-use Rattle.replay.specs.Totals.{Counted}
+use Rattle.replay.specs.Totals.{RecordCounted}
 use borrow.Author.Needs.{needs}
 use Rattle.replay_search.proofs.step.Statement.{statement}
 use Rattle.replay_search.proofs.step.Tie as tie
@@ -19,7 +19,7 @@ returns : tie.Need-returns
 returns c =
     let at-outcome = c .before .before .before in
     let a = at-outcome .before .before .before .before .args in
-    subst (λ (o : Comparison). Counted (a .totals) o (c .count .result)) (at-outcome .outcome .ensures) (c .count .ensures)
+    subst (λ (o : Comparison). RecordCounted (a .totals) o (c .count .result)) (at-outcome .outcome .ensures) (c .count .ensures)
 
 pub step-spec : {M : Type 1} → statement M
 step-spec = tie.close (tie.spec outcome-requires count-requires same-length returns)
