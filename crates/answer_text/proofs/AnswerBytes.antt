@@ -16,7 +16,7 @@ use Rattle.text.specs.Bytes.{space}
 use Rattle.text.specs.ProgramLine.{decimal, signed, shown, status-letters, moves-text, spaced, answer-text}
 use Rattle.answer_text.specs.declared.AnswerText.{AnswerText}
 use Rattle.answer_text.specs.AnswerBytes.{no-text, added, added-all, text-of-bytes, written-bytes}
-use Rattle.text.proofs.Padded.{set-padded, padded-full, take-padded}
+use Rattle.text.proofs.Padded.{length-padded, set-padded, padded-full, take-padded}
 
 -- ---- one byte
 pub added-with-room : (o : AnswerText) (b : ℕ) → o .len < 224 → record { bytes = set (o .bytes) (o .len) b; len = o .len + 1 }
@@ -97,6 +97,9 @@ pub written-whole : (t : List ℕ) → length t ≤ 224 → written-bytes (text-
 written-whole t h =
     let n : min (min (length t) 224) 224 ≡ length t = omega arith in
     rw n (take-padded (length t) 224 t h (omega arith) ∙ take-all (length t) t (omega arith))
+
+pub text-room : (o : AnswerText) (t : List ℕ) → o ≡ text-of-bytes t → length (o .bytes) ≡ 224
+text-room o t e = ap (λ (z : AnswerText). length (z .bytes)) e ∙ length-padded 224 t
 
 -- a text, a blank, and the rest
 pub then-blank : (o p q r : AnswerText) (t u : List ℕ) → p ≡ added-all o t → q ≡ added p space → r ≡ added-all q u →

@@ -80,6 +80,14 @@ marked n k = bit-or n (2 ^ k) k ∙ ap (λ (p : Bool). bit n k || p) (bit-pow k 
 pub unmarked : (n k j : ℕ) → (j ≡ k → ⊥) → bit (bitOr n (2 ^ k)) j ≡ bit n j
 unmarked n k j h = bit-or n (2 ^ k) j ∙ ap (λ (p : Bool). bit n j || p) (bit-pow k j ∙ ne-eqb j k h) ∙ or-false (bit n j)
 
+-- a digit that is set already
+pub marked-again : (n k : ℕ) → bit n k ≡ true → bitOr n (2 ^ k) ≡ n
+marked-again n k h = bit-ext (bitOr n (2 ^ k)) n (λ j. go j (ℕ-discrete j k))
+  where
+    go : (j : ℕ) → Dec (j ≡ k) → bit (bitOr n (2 ^ k)) j ≡ bit n j
+    go j (yes e) = rw e (marked n k ∙ sym h)
+    go j (no d) = unmarked n k j d
+
 module _ (w n : ℕ) (h : n < 2 ^ w) where
   top-digit : (b : Bool) → bit (n + cond b (2 ^ w) 0) w ≡ b
   top-digit true = rw (topped w n h) (marked n w)

@@ -1,16 +1,17 @@
--- A line taken byte by byte: what one byte does, and bytes one after the other.
-use mathlib.Core.Path.{_≡_, refl}
-use mathlib.Core.Bool.{Bool, true, false}
+-- A line taken byte by byte: what one byte does, bytes one after the other, and what is left of them.
+use mathlib.Core.Path.{_≡_, refl, sym, ap, _∙_}
+use mathlib.Core.Bool.{Bool, true, false, true≢false}
 use mathlib.Core.List.{List, [], _∷_, _++_}
-use Prim.Native.Nat.{ℕ, suc, _+_, _≤_, _<_}
+use Prim.Native.Nat.{ℕ, suc, _+_, _-_, _≤_, _<_}
 use native.Mathlib.Numerals.{add-one}
 use native.Mathlib.Omega.{arith}
 use lib.Dec.{eqb}
-use lib.ListN.{length, getD, drop, drop-of-length-le}
-use lib.Seq.{drop-cons}
+use lib.ListN.{length, getD, drop, drop-of-length-le, length-append, length-drop}
+use lib.Seq.{drop-cons, drop-drop, drop-append-seam}
 use borrow.Author.Tests.{eq-eqb, ne-eqb}
 use Rattle.base.specs.Branch.{if_then_else_}
 use Rattle.base.specs.LineFeed.{line-feed, UpToFeed, up-to-feed}
+use Rattle.base.proofs.Branch.{if-ind}
 
 module _ {S : Type 0} (push : S → ℕ → S) where
   -- ---- one byte
@@ -45,6 +46,21 @@ module _ {S : Type 0} (push : S → ℕ → S) where
   feed-append s (b ∷ xs) ys e =
       after-byte (eqb b line-feed) s xs ys (up-to-feed push (push s b)) (feed-append (push s b) xs ys) e
 
+  -- ---- what is left: the last bytes, and not all where a line feed was met
+  record LastBytes (bs : List ℕ) (t : UpToFeed S) : Type 0 where
+    before : List ℕ
+    whole : bs ≡ before ++ t .left
+    some : t .found ≡ true → 0 < length before
+
+  left-is-last : (s : S) (bs : List ℕ) → LastBytes bs (up-to-feed push s bs)
+  unfolding up-to-feed
+  left-is-last s [] = record { before = []; whole = refl; some = λ e. absurd (true≢false (sym e)) }
+  left-is-last s (b ∷ bs) =
+      let k = left-is-last (push s b) bs in
+      if-ind (LastBytes (b ∷ bs)) (eqb b line-feed) _ _
+      (λ _. record { before = b ∷ []; whole = refl; some = λ _. omega arith })
+      (λ _. record { before = b ∷ k .before; whole = ap (_∷_ b) (k .whole); some = λ _. omega arith })
+
   -- ---- the bytes of a list from a place on
   module _ (bytes : List ℕ) (s : S) (i : ℕ) where
     pub byte-taken-at : i < length bytes → (getD bytes i 0 ≡ line-feed → ⊥) →
@@ -58,3 +74,20 @@ module _ {S : Type 0} (push : S → ℕ → S) where
     pub all-taken-at : length bytes ≤ i → up-to-feed push s (drop i bytes) ≡ record { line = s; left = []; found = false }
     unfolding up-to-feed
     all-taken-at l = rw (drop-of-length-le bytes l)
+
+    abbrev last : LastBytes (drop i bytes) (up-to-feed push s (drop i bytes))
+    last = left-is-last s (drop i bytes)
+
+    length-last : length (drop i bytes) ≡ length (last .before) + length (up-to-feed push s (drop i bytes) .left)
+    length-last = simp length-append at (ap length (last .whole))
+
+    -- the place past the bytes that were taken, the line feed among them
+    module _ (at : ℕ) (at-is : at ≡ i + (length (drop i bytes) - length (up-to-feed push s (drop i bytes) .left))) where
+      pub left-at : drop at bytes ≡ up-to-feed push s (drop i bytes) .left
+      left-at =
+          let e : at ≡ i + length (last .before) = omega (arith, length-last) in
+          ap (λ (n : ℕ). drop n bytes) e ∙ sym (drop-drop (length (last .before)) i bytes)
+          ∙ ap (drop (length (last .before))) (last .whole) ∙ drop-append-seam (last .before) _
+
+      pub rises-at : up-to-feed push s (drop i bytes) .found ≡ true → (i < at) × (at ≤ length bytes)
+      rises-at f = let n = last .some f in (omega (arith, length-last), omega (arith, length-last, length-drop i bytes))

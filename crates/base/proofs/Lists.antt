@@ -62,6 +62,13 @@ in-filter f x (y ∷ xs) (inl e) t =
     if-ind (λ l. In x l) (f y) _ _ (λ _. inl e) (λ u. absurd (T-not (f y) u (subst (λ (z : ℕ). T (f z)) e t)))
 in-filter f x (y ∷ xs) (inr h) t = if-ind (λ l. In x l) (f y) _ _ (λ _. inr (in-filter f x xs h t)) (λ _. in-filter f x xs h t)
 
+pub filter-short : (f : ℕ → Bool) (xs : List ℕ) → length (filter f xs) ≤ length xs
+unfolding filter
+filter-short f [] = omega arith
+filter-short f (x ∷ xs) =
+    if-ind (λ (l : List ℕ). length l ≤ suc (length xs)) (f x) _ _ (λ _. omega (arith, filter-short f xs))
+    (λ _. omega (arith, filter-short f xs))
+
 pub in-elem : (x : ℕ) (xs : List ℕ) → In x xs → T (elem x xs)
 unfolding elem
 in-elem x [] h = absurd h

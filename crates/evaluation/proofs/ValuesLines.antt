@@ -1,6 +1,6 @@
 -- A line's three places in the digits of a number: its mask finds them, and only the nine low digits count.
 use mathlib.Core.Path.{_≡_, sym, ap, _∙_}
-use mathlib.Core.Bool.{Bool, _&&_, and-false}
+use mathlib.Core.Bool.{Bool, and-false}
 use mathlib.Core.List.{[], _∷_}
 use Prim.Native.Nat.{ℕ, _-_, _%_, _<_}
 use native.Mathlib.Nat.{mod-lt}

@@ -38,6 +38,11 @@ unfoldable pub refusal : Tried → ℕ
 refusal (played q) = 0
 refusal (refused n) = n
 
+-- what each of some moves is answered, tried one after the other
+unfoldable pub answers-each : Game → List ℕ → List ℕ
+answers-each g [] = []
+answers-each g (m ∷ ms) = refusal (play (position-of g) m) ∷ answers-each (game-after g m) ms
+
 -- what `make_move` gives: the refusal's number, the struct, and the rules' position
 pub record Plays (g : Game) (m : Move) (r : MoveResult) : Type 0 where
   pub number : answer-number (r .answer) ≡ refusal (play (position-of g) (m .bits))

@@ -1,4 +1,3 @@
 pub mod OrderMarks
-pub mod OrderCursor
 pub mod OrderCandidates
 pub mod OrderSteps

@@ -1,11 +1,11 @@
 -- One step of a move order, and what a move order has left by all its steps.
 use mathlib.Core.Path.{_≡_, refl, sym, ap, _∙_, subst}
-use mathlib.Core.Bool.{Bool, true, false, not, _||_}
+use mathlib.Core.Bool.{Bool, true, false, not}
 use mathlib.Core.List.{List, [], _∷_, _++_}
-use Prim.Native.Nat.{ℕ, _<_}
+use Prim.Native.Nat.{ℕ, suc, _/_, _≤_, _<_}
 use native.Mathlib.Omega.{arith}
-use lib.Dec.{T, eqb, T-not}
-use lib.ListN.{length}
+use lib.Dec.{T, T-not}
+use lib.ListN.{length, take}
 use Rattle.base.specs.Checks.{all-pass}
 use lib.Ieee.Bits.{is-true}
 use Rattle.base.specs.Branch.{if_then_else_}
@@ -33,8 +33,25 @@ use Rattle.order.specs.declared.Seen.{Seen}
 use Rattle.order.specs.declared.Candidates.{Candidates}
 use Rattle.order.specs.declared.MoveOrder.{MoveOrder}
 use Rattle.order.specs.declared.NextMove.{NextMove}
-use Rattle.order.specs.Order.{marked, candidates-left, new-order, Step, with-mark, step, step-of, NextOf, unmarked, order-left}
-use Rattle.order.proofs.OrderMarks.{none-marked}
+use Rattle.order.specs.Order.{
+  marked,
+  candidates-left,
+  new-order,
+  without-next,
+  set-mark,
+  candidates-after,
+  set-marks,
+  order-after,
+  Step,
+  with-mark,
+  step,
+  step-of,
+  number-met,
+  NextOf,
+  unmarked,
+  order-left,
+}
+use Rattle.order.proofs.OrderMarks.{none-marked, seen-length, seen-again, one-more}
 
 -- ---- a new order
 pub new-order-means : (g : Game) (first second : Move) → (candidates-left (new-order g first second .left)
@@ -58,6 +75,15 @@ module _ (ok : ℕ → Bool) (seen : ℕ → Bool) (m : ℕ) (ms : List ℕ) whe
   unfolding step if_then_else_
   step-accepted e a = rw (e, a)
 
+-- no more are left than there were
+step-left : (ok : ℕ → Bool) (seen : ℕ → Bool) (ms : List ℕ) → length (step ok seen ms .left) ≤ length ms
+unfolding step
+step-left ok seen [] = omega arith
+step-left ok seen (m ∷ ms) =
+    if-ind (λ (s : Step). length (s .left) ≤ suc (length ms)) (seen m) _ _ (λ _. omega (arith, step-left ok seen ms))
+    (λ _. if-ind (λ (s : Step). length (s .left) ≤ suc (length ms)) (ok m) _ _ (λ _. omega arith)
+    (λ _. omega (arith, step-left ok (with-mark seen m) ms)))
+
 abbrev ok : Game → ℕ → Bool
 ok g = accepts (position-of g)
 
@@ -76,52 +102,92 @@ pub none-refused : (p : Position) → T (not (accepts p no-move))
 unfolding accepts all-pass all
 none-refused p = tt
 
-abbrev pub step-from : Game → Candidates → Seen → Step
-step-from g left seen = step-of g (record { left = left; seen = seen })
+-- ---- two orders with the same step, which leaves the same
+abbrev pub order-of : Candidates → Seen → MoveOrder
+order-of left seen = record { left = left; seen = seen }
+
+pub record SameStep (g : Game) (w v : MoveOrder) : Type 0 where
+  pub step-is : step-of g w ≡ step-of g v
+  pub order-is : order-after (number-met g w) w ≡ order-after (number-met g v) v
 
 -- what comes back, by what the step is
 next-by : (g : Game) (w : MoveOrder) (r : NextMove) (s : Step) → step-of g w ≡ s → r .m .bits ≡ s .found →
-    r .game ≡ game-after g (s .found)
+    r .game ≡ game-after g (s .found) → r .order ≡ order-after (number-met g w) w
     → ((k : ℕ) → marked (r .order .seen) k ≡ s .marks k) → candidates-left (r .order .left) ≡ s .left → NextOf g w r
-next-by g w r s e m a k l = record {
+next-by g w r s e m a o k l = record {
   move-is = m ∙ sym (ap (λ (x : Step). x .found) e);
   game-is = a ∙ sym (ap (λ (x : Step). game-after g (x .found)) e);
+  order-is = o;
   marks-are = λ n. k n ∙ sym (ap (λ (x : Step). x .marks n) e);
   left-are = l ∙ sym (ap (λ (x : Step). x .left) e);
 }
 
+-- the next move is met
 module _ (g : Game) (left : Candidates) (seen : Seen) (m : Move) (rest : Candidates)
-    (e : candidates-left left ≡ m .bits ∷ candidates-left rest) where
-  pub repeated : (b : Bool) → b ≡ marked seen (m .bits) → b ≡ true → step-from g rest seen ≡ step-from g left seen
-  repeated b f h =
-      sym (ap (step (ok g) (marked seen)) e ∙ step-repeat (ok g) (marked seen) (m .bits) (candidates-left rest) (sym f ∙ h))
+    (e : (candidates-left left ≡ m .bits ∷ candidates-left rest) × (rest ≡ without-next left)) where
+  -- it is gone and marked, and the others are met from there
+  after-one-met : (new : Seen) → new ≡ set-mark seen (m .bits) → (n : ℕ) → order-after n (order-of rest new)
+      ≡ order-after (suc n) (order-of left seen)
+  unfolding candidates-after set-marks
+  after-one-met new f n =
+      (λ i. record { left = candidates-after n (e .1 i); seen = set-marks (f i) (take n (candidates-left rest)) })
+      ∙ sym (λ i. record { left = candidates-after n (without-next left); seen = set-marks seen (take (suc n) (e .0 i)) })
 
-  module _ (b : Bool) (f : b ≡ marked seen (m .bits)) (h : b ≡ false) (new : Seen)
-      (more : (k : ℕ) → marked new k ≡ (eqb k (m .bits) || marked seen k))
-      (made : MoveResult) (p : Plays g m made) where
-    pub refused : (r : MoveError) → made .answer ≡ Refused r → step-from g rest new ≡ step-from g left seen
-    refused r q =
-        let a : ok g (m .bits) ≡ false = false-by (ok g (m .bits)) (T-not (ok g (m .bits))
-        (refused-not-accepts (position-of g) (m .bits) (λ z. numbered r (sym (ap answer-number q) ∙ p .number ∙ z)))) in
-        (λ i. step (ok g) (λ k. more k i) (candidates-left rest))
-        ∙ sym (ap (step (ok g) (marked seen)) e ∙ step-refused (ok g) (marked seen) (m .bits) (candidates-left rest) (sym f ∙ h) a)
+  module _ (w : MoveOrder) (s : SameStep g (order-of left seen) w) (b : Bool) (f : b ≡ marked seen (m .bits)) where
+    goes-on : (new : Seen) → new ≡ set-mark seen (m .bits) → step-of g (order-of rest new) ≡ step-of g (order-of left seen)
+        → SameStep g (order-of rest new) w
+    goes-on new n t =
+        let l = step-left (ok g) (marked new) (candidates-left rest) in
+        let k : suc (number-met g (order-of rest new)) ≡ number-met g (order-of left seen) = omega (
+          arith,
+          ap length (e .0),
+          ap (λ (x : Step). length (x .left)) t,
+        ) in
+        record {
+          step-is = t ∙ s .step-is;
+          order-is = after-one-met new n _ ∙ ap (λ (j : ℕ). order-after j (order-of left seen)) k ∙ s .order-is;
+        }
 
-    pub accepted : made .answer ≡ Accepted → (w : MoveOrder) → step-from g left seen ≡ step-of g w
-        → NextOf g w (record { m = m; game = made .game; order = record { left = rest; seen = new } })
-    accepted q w s =
-        let a : ok g (m .bits)
-        ≡ true = is-true (ok g (m .bits)) (nought-accepts (position-of g) (m .bits) (sym (p .number) ∙ ap answer-number q)) in
-        next-by g w _ _ (sym s ∙ ap (step (ok g) (marked seen)) e ∙ step-accepted (ok g) (marked seen) (m .bits) (candidates-left rest)
-        (sym f ∙ h) a)
-        refl (p .exact) more refl
+    pub repeated : b ≡ true → SameStep g (order-of rest seen) w
+    repeated h =
+        goes-on seen (sym (seen-again seen (m .bits) (sym f ∙ h)))
+        (sym (ap (step (ok g) (marked seen)) (e .0) ∙ step-repeat (ok g) (marked seen) (m .bits) (candidates-left rest) (sym f ∙ h)))
+
+    module _ (h : b ≡ false) (new : Seen) (n : new ≡ set-mark seen (m .bits)) (fits : m .bits / 64 < length (new .marks))
+        (made : MoveResult) (p : Plays g m made) where
+      more : (k : ℕ) → marked new k ≡ with-mark (marked seen) (m .bits) k
+      more k =
+          let l = ap (λ (x : Seen). length (x .marks)) n ∙ seen-length seen (m .bits) in
+          ap (λ (x : Seen). marked x k) n ∙ one-more seen (m .bits) (omega arith) k
+
+      pub refused : (r : MoveError) → made .answer ≡ Refused r → SameStep g (order-of rest new) w
+      refused r q =
+          let a : ok g (m .bits) ≡ false = false-by (ok g (m .bits)) (T-not (ok g (m .bits))
+          (refused-not-accepts (position-of g) (m .bits) (λ z. numbered r (sym (ap answer-number q) ∙ p .number ∙ z)))) in
+          goes-on new n ((λ i. step (ok g) (λ k. more k i) (candidates-left rest))
+          ∙ sym (ap (step (ok g) (marked seen)) (e .0)
+          ∙ step-refused (ok g) (marked seen) (m .bits) (candidates-left rest) (sym f ∙ h) a))
+
+      pub accepted : made .answer ≡ Accepted → NextOf g w (record { m = m; game = made .game; order = order-of rest new })
+      unfolding candidates-after set-marks
+      accepted q =
+          let a : ok g (m .bits)
+          ≡ true = is-true (ok g (m .bits)) (nought-accepts (position-of g) (m .bits) (sym (p .number) ∙ ap answer-number q)) in
+          let t = ap (step (ok g) (marked seen)) (e .0)
+          ∙ step-accepted (ok g) (marked seen) (m .bits) (candidates-left rest) (sym f ∙ h) a in
+          let one : 1 ≡ number-met g (order-of left seen) = omega (arith, ap length (e .0), ap (λ (x : Step). length (x .left)) t) in
+          next-by g w _ _ (sym (s .step-is) ∙ t) refl (p .exact)
+          (after-one-met new n 0 ∙ ap (λ (k : ℕ). order-after k (order-of left seen)) one ∙ s .order-is) more refl
 
 pub ended : (g : Game) (left : Candidates) (seen : Seen) (w : MoveOrder) → candidates-left left ≡ [] →
-    step-from g left seen ≡ step-of g w → (m : Move) → m .bits ≡ no-move
-    → NextOf g w (record { m = m; game = g; order = record { left = left; seen = seen } })
-unfolding step
+    SameStep g (order-of left seen) w → (m : Move) → m .bits ≡ no-move
+    → NextOf g w (record { m = m; game = g; order = order-of left seen })
+unfolding step candidates-after set-marks
 ended g left seen w e s m z =
-    next-by g w _ _ (sym s ∙ ap (step (ok g) (marked seen)) e) z (sym (game-refused g no-move (none-refused (position-of g))))
-    (λ k. refl) e
+    let none : 0 ≡ number-met g (order-of left seen) = omega (arith, ap length e) in
+    next-by g w _ _ (sym (s .step-is) ∙ ap (step (ok g) (marked seen)) e) z
+    (sym (game-refused g no-move (none-refused (position-of g))))
+    (ap (λ (k : ℕ). order-after k (order-of left seen)) none ∙ s .order-is) (λ k. refl) e
 
 -- ---- what a move order has left
 module _ (ok : ℕ → Bool) where

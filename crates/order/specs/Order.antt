@@ -1,10 +1,11 @@
 -- The order in which a position's moves are searched: what it means, and one step of it.
 use mathlib.Core.Path.{_≡_}
-use mathlib.Core.Bool.{Bool, _||_}
+use mathlib.Core.Bool.{Bool, not, _||_}
 use mathlib.Core.List.{List, [], _∷_, _++_}
-use Prim.Native.Nat.{ℕ, _/_, _%_}
+use Prim.Native.Nat.{ℕ, zero, suc, _-_, _/_, _%_, _^_}
+use lib.Bits.{bitOr}
 use lib.Dec.{eqb}
-use lib.ListN.{getD, replicate}
+use lib.ListN.{getD, set, take, drop, length, replicate}
 use Rattle.base.specs.Branch.{if_then_else_}
 use Rattle.base.specs.Bits.{bit}
 use Rattle.rules.specs.Play.{accepts, no-move}
@@ -37,12 +38,38 @@ abbrev pub new-order : Game → Move → Move → MoveOrder
 new-order g first second =
     record { left = record { first = first; second = second; list = cursor-over (moves (position-of g)) }; seen = no-marks }
 
--- the next move in that order
-abbrev pub NextCandidateIs : List ℕ → NextCandidate → Type 0
-NextCandidateIs [] (Next m o) = ⊥
-NextCandidateIs [] End = Unit {0}
-NextCandidateIs (m ∷ ms) (Next k o) = (k .bits ≡ m) × (candidates-left o ≡ ms)
-NextCandidateIs (m ∷ ms) End = ⊥
+-- ---- one move met
+abbrev pub empty-move : Move
+empty-move = record { bits = no-move }
+
+-- the candidates without the first of those left: `first` or `second` is emptied, or the list goes on
+unfoldable pub without-next : Candidates → Candidates
+without-next o =
+    if not (eqb (o .first .bits) no-move) then (λ _. record { first = empty-move; second = o .second; list = o .list }) else
+    λ _. if not (eqb (o .second .bits) no-move) then (λ _. record { first = o .first; second = empty-move; list = o .list }) else
+    λ _. record { first = o .first; second = o .second; list = cursor-over (drop 1 (moves-left (o .list))) }
+
+-- the next of the moves left, and the candidates without it
+abbrev pub next-candidate : Candidates → List ℕ → NextCandidate
+next-candidate o [] = End
+next-candidate o (m ∷ ms) = Next (record { bits = m }) (without-next o)
+
+-- the marks with that of a move set
+unfoldable pub set-mark : Seen → ℕ → Seen
+set-mark s m = record { marks = set (s .marks) (m / 64) (bitOr (getD (s .marks) (m / 64) 0) (2 ^ (m % 64))) }
+
+-- ---- so many moves met: each is gone from the candidates, and marked
+unfoldable pub candidates-after : ℕ → Candidates → Candidates
+candidates-after zero o = o
+candidates-after (suc n) o = candidates-after n (without-next o)
+
+unfoldable pub set-marks : Seen → List ℕ → Seen
+set-marks s [] = s
+set-marks s (m ∷ ms) = set-marks (set-mark s m) ms
+
+abbrev pub order-after : ℕ → MoveOrder → MoveOrder
+order-after n w =
+    record { left = candidates-after n (w .left); seen = set-marks (w .seen) (take n (candidates-left (w .left))) }
 
 -- ---- a step: the move found, or the empty one; the marks by then; the moves left
 pub record Step : Type 0 where
@@ -65,11 +92,16 @@ step ok seen (m ∷ ms) =
 abbrev pub step-of : Game → MoveOrder → Step
 step-of g w = step (accepts (position-of g)) (marked (w .seen)) (candidates-left (w .left))
 
--- the move found and the game after it, with the rest, by what that means: nothing reads its fields but the next step. Where none is found
--- the empty move and the game itself, as no game accepts that move
+-- how many moves it meets
+abbrev pub number-met : Game → MoveOrder → ℕ
+number-met g w = length (candidates-left (w .left)) - length (step-of g w .left)
+
+-- the move found and the game after it, with the rest: the struct by equality, and what it means. Where none is found the empty move and
+-- the game itself, as no game accepts that move
 pub record NextOf (g : Game) (w : MoveOrder) (r : NextMove) : Type 0 where
   pub move-is : r .m .bits ≡ step-of g w .found
   pub game-is : r .game ≡ game-after g (step-of g w .found)
+  pub order-is : r .order ≡ order-after (number-met g w) w
   pub marks-are : (k : ℕ) → marked (r .order .seen) k ≡ step-of g w .marks k
   pub left-are : candidates-left (r .order .left) ≡ step-of g w .left
 

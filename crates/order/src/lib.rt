@@ -2,11 +2,9 @@
 // Ported from src/lib/minimax.rs of nelhage/ultimattt at commit 87ef0d9c7c (Apache-2.0, see NOTICE), changed: `move_iterator` and
 // `DedupIterator` are a cursor by value and a set of 256 marks.
 ghost use mathlib.Core.Path.{_≡_};
-ghost use mathlib.Core.Bool.{_||_};
-ghost use Prim.Native.Nat.{ℕ, _<_};
-ghost use lib.Dec.{eqb};
+ghost use Prim.Native.Nat.{_<_};
 ghost use lib.ListN.{getD, set};
-ghost use Rattle.order.specs.Order.{marked, candidates-left, no-marks, new-order, NextCandidateIs, NextOf};
+ghost use Rattle.order.specs.Order.{marked, candidates-left, no-marks, new-order, next-candidate, set-mark, NextOf};
 use boards::Answer;
 use boards::Listed;
 use boards::Move;
@@ -67,7 +65,7 @@ impl Seen {
     }
 
     fn with(self, m: Move) -> Seen
-        ensures { λ r. ⌜ ((k : ℕ) → marked r k ≡ (eqb k (m .bits) || marked self k)) ⌝ }
+        ensures { λ r. ⌜ r ≡ set-mark self (m .bits) ⌝ }
     {
         let i = m.bits / 64;
         let bit = 1u64 << (m.bits % 64);
@@ -89,7 +87,7 @@ pub enum NextCandidate {
 
 impl Candidates {
     fn next(self) -> NextCandidate
-        ensures { λ r. ⌜ NextCandidateIs (candidates-left self) r ⌝ }
+        ensures { λ r. ⌜ r ≡ next-candidate self (candidates-left self) ⌝ }
     {
         let none = Move::none();
         let first = self.first;

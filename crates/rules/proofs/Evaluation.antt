@@ -1,15 +1,12 @@
 -- Laws of the evaluation: its range, by the most that each line can give, and that the other side sees the negative.
 use mathlib.Core.Path.{_≡_, refl, sym, ap, _∙_}
 use mathlib.Core.Bool.{Bool, true, false, not, cond, _&&_}
-use mathlib.Core.List.{List, [], _∷_}
 use mathlib.Core.Logic.{_⊎_, inl, inr}
 use Prim.Native.Nat.{ℕ, zero, suc, _+_, _*_, _^_, _≤_}
 use native.Mathlib.Omega.{arith}
 use lib.Dec.{T, ltb}
-use lib.ListN.{length}
-use lib.IntN.{ℤ, pos, negsuc, negℤ, negℤ-negℤ, natAbs}
+use lib.IntN.{ℤ, pos, negℤ, negℤ-negℤ, natAbs}
 use lib.Signed.{_≤ℤ_, _<ℤ_}
-use Rattle.base.specs.Integers.{sum}
 use Rattle.base.proofs.Branch.{if-ind}
 use Rattle.base.proofs.Integers.{hi, lo, zarith, Within, within-abs, within-+, within-neg, within-pos, within-minus, times, within-sum}
 use Rattle.rules.specs.declared.Player.{Player}

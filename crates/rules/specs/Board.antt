@@ -1,7 +1,8 @@
 -- Sides, cells, the states of a board or of the game, and the eight lines.
-use mathlib.Core.Bool.{Bool, true, false, _&&_}
+use mathlib.Core.Bool.{Bool, true, false, cond, _&&_}
 use mathlib.Core.List.{List, [], _∷_}
 use Prim.Native.Nat.{ℕ, _+_}
+use lib.Dec.{eqb}
 use Rattle.rules.specs.declared.Player.{Player}
 use Rattle.rules.specs.declared.Player.the-variants.{X, O}
 use Rattle.rules.specs.declared.CellState.{CellState}
@@ -26,6 +27,10 @@ same O O = true
 abbrev pub side-number : Player → ℕ
 side-number X = 0
 side-number O = 1
+
+-- X for 0, O for any other number
+abbrev pub side-from : ℕ → Player
+side-from n = cond (eqb n 0) X O
 
 abbrev pub sides : List Player
 sides = X ∷ O ∷ []

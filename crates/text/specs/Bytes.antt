@@ -1,8 +1,9 @@
 -- The bytes that texts are made of.
-use mathlib.Core.List.{List, [], _∷_}
+use mathlib.Core.List.{List, [], _∷_, _++_}
 use Prim.Native.Nat.{ℕ}
 use Prim.Native.Char.{code}
 use Prim.Native.String.{String}
+use Rattle.base.specs.LineFeed.{line-feed}
 use Rattle.rules.specs.declared.Player.{Player}
 use Rattle.rules.specs.declared.Player.the-variants.{X, O}
 
@@ -55,3 +56,7 @@ letter-refused = 0x45
 unfoldable pub quoted : String → List ℕ
 quoted String.[] = []
 quoted (String._∷_ c s) = code c ∷ quoted s
+
+-- a line of it
+abbrev pub message : String → List ℕ
+message s = quoted s ++ (line-feed ∷ [])

@@ -1,7 +1,7 @@
 -- For every game: a depth's visited are just the positions that it enters, and the stats stand in the order of their depths.
 use mathlib.Core.Path.{_≡_, refl, sym, ap, _∙_}
 use mathlib.Core.Bool.{not}
-use mathlib.Core.List.{List, [], _∷_, _++_, map}
+use mathlib.Core.List.{List, [], _∷_, _++_}
 use mathlib.Core.Logic.{inl, inr}
 use mathlib.Core.Option.{Option, none, some}
 use Prim.Native.Nat.{ℕ, zero, suc, _+_, _≤_, _<_}
@@ -22,7 +22,7 @@ use Rattle.theory.specs.Table.{Entry, look-up, suffices}
 use Rattle.theory.specs.Memory.{Tally, Memory, begin, enter, leaf, hit, answered, cut}
 use Rattle.theory.specs.OrderedSearch.{Allowance, Outcome, stopped, found, Probed, known, missed, probed, probe, on-probe}
 use Rattle.theory.specs.OrderedSearch.{set-first, with-stored, candidates, Search, over-moves, search}
-use Rattle.theory.specs.Deepening.{Stats, Completed, nothing-yet, one-deeper, SearchAnswer, decided, deepen, analyze}
+use Rattle.theory.specs.Deepening.{Stats, visited-in, Completed, nothing-yet, one-deeper, SearchAnswer, decided, deepen, analyze}
 use Rattle.theory.specs.Reported.{no-stats}
 use Rattle.theory.proofs.Memory.{Leaves}
 use Rattle.theory.proofs.OrderedSearch.{Gives, gives-found, gives-next, gives-entering}
@@ -99,9 +99,6 @@ module _ (G : Game) where
       (λ r pv' u k. gives-found (Evenly s) r pv' _ (even-stored s u (G .key p) (suc d) a b r pv' k)))))
 
 -- ---- the completed depths: what each has visited
-abbrev visited-in : List Stats → ℕ
-visited-in ss = total (λ n. n) (map (λ (s : Stats). s .tally .visited) ss)
-
 visited-more : (ss : List Stats) (x : Stats) → visited-in (ss ++ (x ∷ [])) ≡ visited-in ss + x .tally .visited
 unfolding total
 visited-more [] x = omega arith

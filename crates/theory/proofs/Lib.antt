@@ -15,4 +15,5 @@ pub mod GameNim
 pub mod Table
 pub mod Reported
 pub mod DeepeningStats
+pub mod ReportedPlaces
 pub mod DeepeningNoMove

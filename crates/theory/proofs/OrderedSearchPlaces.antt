@@ -1,8 +1,8 @@
--- A variation has as many places as its depth: a search keeps the length of the variation that it is given, for every game, with the table
--- on or off.
+-- A variation has as many places as its depth, and no depth is over the limit: a search keeps the length of the variation that it is
+-- given, for every game, with the table on or off.
 use mathlib.Core.Path.{_≡_, refl, ap}
 use mathlib.Core.List.{List, [], _∷_, _++_}
-use Prim.Native.Nat.{ℕ, zero, suc}
+use Prim.Native.Nat.{ℕ, zero, suc, _+_, _≤_}
 use native.Mathlib.Omega.{arith}
 use lib.IntN.{ℤ, negℤ}
 use lib.ListN.{length, replicate, length-append, length-replicate}
@@ -64,21 +64,30 @@ module _ (G : Game) where
       (length-replicate d no-move))
       (λ r line' s₃ k. gives-found (Places (suc d)) r line' _ k))))
 
-  abbrev Filled : SearchAnswer → Type 0
-  Filled x = length (x .completed .pv) ≡ x .completed .depth
+  -- a variation for its depth, which is within the limit
+  record Filled (limit : ℕ) (x : SearchAnswer) : Type 0 where
+    places : length (x .completed .pv) ≡ x .completed .depth
+    no-deeper : x .completed .depth ≤ limit
 
-  deepen-places : (n : Allowance) (k : ℕ) (p : G .Pos) (w : Completed) (s : Memory) → length (w .pv) ≡ w .depth →
-      Filled (deepen G n k p w s)
+  deepen-filled : (n : Allowance) (limit k : ℕ) (p : G .Pos) (w : Completed) (s : Memory) → k + w .depth ≤ limit →
+      length (w .pv) ≡ w .depth → Filled limit (deepen G n k p w s)
   unfolding deepen
-  deepen-places n zero p w s h = h
-  deepen-places n (suc k) p w s h = on-outcome-gives (Places (suc (w .depth))) Filled _ _ _
+  deepen-filled n limit zero p w s h e = record { places = e; no-deeper = omega arith }
+  deepen-filled n limit (suc k) p w s h e = on-outcome-gives (Places (suc (w .depth))) (Filled limit) _ _ _
       (search-places n (suc (w .depth)) p lowest highest (w .pv ++ (no-move ∷ [])) no-move (begin s)
       (omega (arith, length-append (w .pv) (no-move ∷ []))))
-      (λ _. h)
-      (λ r pv s' e. if-ind Filled (decided r) _ _ (λ _. e) (λ _. deepen-places n k p (one-deeper w r pv (s' .tally)) s' e))
+      (λ _. record { places = e; no-deeper = omega arith })
+      (λ r pv s' e'. if-ind (Filled limit) (decided r) _ _ (λ _. record { places = e'; no-deeper = omega arith })
+      (λ _. deepen-filled n limit k p (one-deeper w r pv (s' .tally)) s' (omega arith) e'))
 
-  -- the answer's variation has as many places as its last completed depth
-  pub analyze-places : (n : Allowance) (limit : ℕ) (p : G .Pos) (s : Memory) →
-      length (analyze G n limit p s .completed .pv) ≡ analyze G n limit p s .completed .depth
-  unfolding analyze
-  analyze-places n limit p s = deepen-places n limit p nothing-yet s refl
+  module _ (n : Allowance) (limit : ℕ) (p : G .Pos) (s : Memory) where
+    analyze-filled : Filled limit (analyze G n limit p s)
+    unfolding analyze
+    analyze-filled = deepen-filled n limit limit p nothing-yet s (omega arith) refl
+
+    -- the answer's variation has as many places as its last completed depth
+    pub analyze-places : length (analyze G n limit p s .completed .pv) ≡ analyze G n limit p s .completed .depth
+    analyze-places = analyze-filled .places
+
+    pub analyze-no-deeper : analyze G n limit p s .completed .depth ≤ limit
+    analyze-no-deeper = analyze-filled .no-deeper

@@ -1,10 +1,11 @@
 -- The deepening search: one depth after another up to the limit, or until a score says that the game is won or lost.
 use mathlib.Core.Bool.{Bool, true, false, _||_}
-use mathlib.Core.List.{List, [], _∷_, _++_}
+use mathlib.Core.List.{List, [], _∷_, _++_, map}
 use Prim.Native.Nat.{ℕ, zero, suc}
 use lib.IntN.{ℤ, pos}
 use lib.Signed.{leZ}
 use Rattle.base.specs.Branch.{if_then_else_}
+use Rattle.base.specs.Lists.{total}
 use Rattle.rules.specs.Play.{no-move}
 use Rattle.rules.specs.Evaluation.{won, lost}
 use Rattle.theory.specs.Game.{Game}
@@ -17,6 +18,10 @@ pub record Stats : Type 0 where
   pub depth : ℕ
   pub score : ℤ
   pub tally : Tally
+
+-- the positions entered, over a list of depths
+abbrev pub visited-in : List Stats → ℕ
+visited-in ss = total (λ n. n) (map (λ (s : Stats). s .tally .visited) ss)
 
 -- what the completed depths have come to: the last one with its score and variation, and the stats of each
 pub record Completed : Type 0 where

@@ -18,7 +18,7 @@ is-some-requires-2 c κs = search needs
 
 returns-2 : tie.Need-returns-2
 returns-2 c =
-    next-second _ _ _ (c .before .before .before .is-some .ensures) (c .before .before .if1 .left)
+    next-second _ _ (c .before .before .before .is-some .ensures) (c .before .before .if1 .left) _
     (c .before .before .before .before .before .before .none .ensures) _ (c .before .is-some2 .ensures) (c .if2 .taken)
 
 next-requires : tie.Need-next-requires
@@ -34,17 +34,13 @@ returns-3 : tie.Need-returns-3
 returns-3 c =
     let at-is-some2 = c .before .before .before .before .before .before in
     let at-if1 = at-is-some2 .before in
-    let at-is-some = at-if1 .before in
-    let at-none = at-is-some .before .before .before in
-    next-listed _ (at-none .none .result) _ (at-is-some .is-some .ensures) (at-if1 .if1 .left) _ (at-is-some2 .is-some2 .ensures)
+    next-listed _ _ (at-if1 .before .is-some .ensures) (at-if1 .if1 .left) _ (at-is-some2 .is-some2 .ensures)
     (c .before .before .before .before .before .if2 .left) _ (c .before .before .before .next .ensures) _ _ (c .before .m .given .1)
 
 returns-4 : tie.Need-returns-4
 returns-4 c =
     let at-if1 = c .before .before .before .before .before .before in
-    let at-is-some = at-if1 .before in
-    let at-none = at-is-some .before .before .before in
-    next-ended _ (at-none .none .result) _ (at-is-some .is-some .ensures) (at-if1 .if1 .left) _
+    next-ended _ _ (at-if1 .before .is-some .ensures) (at-if1 .if1 .left) _
     (c .before .before .before .before .before .is-some2 .ensures) (c .before .before .before .before .if2 .left) _
     (c .before .before .next .ensures) (c .enum-told .given .1)
 

@@ -1,22 +1,25 @@
--- Each turn meets the next move in the order: the step from the moves not met and the marks stays as it was at the start.
-use mathlib.Core.Path.{_≡_, refl, _∙_}
+-- Each turn meets the next move in the order: the step from the moves not met and the marks stays as it was at the start, and so does
+-- the order that it leaves.
+use mathlib.Core.Path.{_≡_, refl}
 use mathlib.Core.List.{_∷_}
-use lib.ListN.{length}
-use Rattle.order.specs.Order.{candidates-left}
+use Prim.Native.Nat.{_/_, _<_}
+use native.Mathlib.Omega.{arith}
+use lib.ListN.{length, length-map}
+use Rattle.order.specs.Order.{candidates-left, without-next}
 use Rattle.order.proofs.OrderCandidates.{was-next, was-end}
-use Rattle.order.proofs.OrderSteps.{step-from, shorter, repeated, refused, accepted, ended}
+use Rattle.order.proofs.OrderSteps.{order-of, SameStep, shorter, repeated, refused, accepted, ended}
 use borrow.Author.Needs.{needs}
 use Rattle.order.proofs.MoveOrder.next.Statement.{statement}
 use Rattle.order.proofs.MoveOrder.next.Tie as tie
 
 abbrev Inv-loop : tie.InvT-loop
-Inv-loop game left₀ seen₀ left seen = step-from game left seen ≡ step-from game left₀ seen₀
+Inv-loop game left₀ seen₀ left seen = SameStep game (order-of left seen) (order-of left₀ seen₀)
 
 abbrev μ-loop : tie.MeasureT-loop
 μ-loop game left₀ seen₀ left seen = length (candidates-left left)
 
 loop-holds : tie.Need-loop-holds Inv-loop μ-loop
-loop-holds c = refl
+loop-holds c = record { step-is = refl; order-is = refl }
 
 next-requires : tie.Need-next-requires Inv-loop μ-loop
 next-requires c κs = search needs
@@ -30,17 +33,19 @@ enum-told c = search needs
 has-requires : tie.Need-has-requires Inv-loop μ-loop
 has-requires c κs = search needs
 
-met : (c : tie.After-known-told Inv-loop μ-loop) → candidates-left (c .before .before .before .before .loop .left)
-    ≡ c .before .m .given .0 .0 .bits ∷ candidates-left (c .before .m .given .0 .1 .0)
-met c = was-next _ _ (c .before .before .before .next .ensures) _ _ (c .before .m .given .1)
+one-met : (c : tie.After-known-told Inv-loop μ-loop) → (candidates-left (c .before .before .before .before .loop .left)
+    ≡ c .before .m .given .0 .0 .bits ∷ candidates-left (c .before .m .given .0 .1 .0))
+    × (c .before .m .given .0 .1 .0 ≡ without-next (c .before .before .before .before .loop .left))
+one-met c = was-next _ _ (c .before .before .before .next .ensures) _ _ (c .before .m .given .1)
 
 loop-less : tie.Need-loop-less Inv-loop μ-loop
-loop-less c = shorter _ _ _ (met (c .before .before))
+loop-less c = shorter _ _ _ (one-met (c .before .before) .0)
 
 loop-again : tie.Need-loop-again Inv-loop μ-loop
 loop-again c =
-    repeated (c .before .before .before .before .before .before .before .before .before .args .game) _ _ _ _ (met (c .before .before)) _
-    (c .before .has .ensures) (c .if1 .taken) ∙ c .before .before .before .before .before .before .loop .inv
+    let at-place = c .before .before in
+    let at-loop = at-place .before .before .before .before in
+    repeated _ _ _ _ _ (one-met at-place) _ (at-loop .loop .inv) _ (c .before .has .ensures) (c .if1 .taken)
 
 with-requires : tie.Need-with-requires Inv-loop μ-loop
 with-requires c κs = search needs
@@ -51,28 +56,36 @@ make-move-requires c κs = search needs
 enum-told-2 : tie.Need-enum-told-2 Inv-loop μ-loop
 enum-told-2 c = search needs
 
+-- a byte has its mark among the 256
+fits : (c : tie.After-with Inv-loop μ-loop) → c .before .before .before .before .m .given .0 .0 .bits / 64
+    < length (c .with .result .marks)
+fits c =
+    let n : length (c .with .result .marks) ≡ 4 = simp length-map at (c .with .ok .1 .1 .0 .1 .0 .1) in
+    omega (arith, c .before .before .before .known-told .given .0 .1 .1 .0 .1)
+
 returns : tie.Need-returns Inv-loop μ-loop
 returns c =
-    let at-has = c .before .before .before .before .before .before in
+    let at-with = c .before .before .before .before in
+    let at-has = at-with .before .before in
     let at-place = at-has .before in
     let at-loop = at-place .before .before .before .before in
-    accepted _ _ _ _ _ (met (at-place)) _ (at-has .has .ensures) (c .before .before .before .before .before .if1 .left) _
-    (c .before .before .before .before .with .ensures) _ (c .before .before .before .make-move .ensures)
-    (c .before .enum-told2 .given .1) _ (at-loop .loop .inv)
+    accepted _ _ _ _ _ (one-met at-place) _ (at-loop .loop .inv) _ (at-has .has .ensures) (at-with .before .if1 .left) _
+    (at-with .with .ensures) (fits at-with) _ (c .before .before .before .make-move .ensures) (c .before .enum-told2 .given .1)
 
 enum-told-3 : tie.Need-enum-told-3 Inv-loop μ-loop
 enum-told-3 c = search needs
 
 loop-less-2 : tie.Need-loop-less-2 Inv-loop μ-loop
-loop-less-2 c = shorter _ _ _ (met (c .before .before .before .before .before .before))
+loop-less-2 c = shorter _ _ _ (one-met (c .before .before .before .before .before .before) .0)
 
 loop-again-2 : tie.Need-loop-again-2 Inv-loop μ-loop
 loop-again-2 c =
-    let at-place = c .before .before .before .before .before .before in
+    let at-with = c .before .before .before in
+    let at-has = at-with .before .before in
+    let at-place = at-has .before in
     let at-loop = at-place .before .before .before .before in
-    refused _ _ _ _ _ (met (at-place)) _ (c .before .before .before .before .before .has .ensures)
-    (c .before .before .before .before .if1 .left) _ (c .before .before .before .with .ensures) _
-    (c .before .before .make-move .ensures) _ (c .enum-told3 .given .1) ∙ at-loop .loop .inv
+    refused _ _ _ _ _ (one-met at-place) _ (at-loop .loop .inv) _ (at-has .has .ensures) (at-with .before .if1 .left) _
+    (at-with .with .ensures) (fits at-with) _ (c .before .before .make-move .ensures) _ (c .enum-told3 .given .1)
 
 none-requires : tie.Need-none-requires Inv-loop μ-loop
 none-requires c κs = search needs
