@@ -1,3 +1,3 @@
+pub mod LinesReads
 pub mod Lines
 pub mod LinesWhole
-pub mod LinesReads

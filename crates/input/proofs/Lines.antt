@@ -3,20 +3,21 @@ use mathlib.Core.Path.{_≡_, refl, sym, ap, _∙_}
 use mathlib.Core.Bool.{Bool, true, false, true≢false}
 use mathlib.Core.Logic.{inl, inr}
 use mathlib.Core.List.{List, [], _∷_, _++_, append-assoc, append-nil}
-use Prim.Native.Nat.{ℕ, _+_, _<_, _≤_, min}
+use Prim.Native.Nat.{ℕ, _+_, _-_, _<_, _≤_, min}
 use native.Mathlib.Omega.{arith}
 use lib.Dec.{eqb, ltb}
-use lib.ListN.{length, getD, set, take, drop, length-take, length-append}
-use lib.Seq.{getD-take}
+use lib.IntN.{ℤ}
+use lib.ListN.{length, getD, set, take, drop, length-take, length-drop, length-append}
+use lib.Seq.{getD-take, length-take-le}
 use borrow.Author.Tests.{ltb-true, ltb-false}
 use Rattle.base.specs.Branch.{if_then_else_}
 use Rattle.base.specs.LineFeed.{line-feed, UpToFeed, up-to-feed}
 use Rattle.base.proofs.LineFeed.{feed-append, byte-taken-at, feed-found-at}
 use Rattle.input.specs.declared.InputLine.{InputLine}
 use Rattle.input.specs.declared.Input.{Input}
-use Rattle.input.specs.declared.Filled.{Filled}
-use Rattle.input.specs.Lines.{longest, new-line, count-on, with-byte, KeptLine, kept-with, line-taken, unused, begun, refilled}
+use Rattle.input.specs.Lines.{longest, new-line, count-on, one-longer, KeptLine, kept-with, line-taken, unused, begun, refilled}
 use Rattle.input.specs.Lines.{TakesLine, LastRead, ReadsLine}
+use Rattle.input.proofs.LinesReads.{within-room}
 
 -- ---- one byte of a part of a buffer
 module _ (end : ℕ) (buffer : List ℕ) (line : InputLine) (kept : List ℕ) (i : ℕ) (h : i < length (take end buffer)) where
@@ -24,7 +25,7 @@ module _ (end : ℕ) (buffer : List ℕ) (line : InputLine) (kept : List ℕ) (i
   same-byte = getD-take end buffer i 0 (omega (arith, length-take end buffer))
 
   pub buffer-byte-taken : (getD buffer i 0 ≡ 10 → ⊥) →
-      line-taken line kept (drop i (take end buffer)) ≡ line-taken (with-byte line) (set kept (line .length) (getD buffer i 0))
+      line-taken line kept (drop i (take end buffer)) ≡ line-taken (one-longer line) (set kept (line .length) (getD buffer i 0))
       (drop (i + 1) (take end buffer))
   buffer-byte-taken n =
       rw same-byte at (byte-taken-at kept-with (take end buffer) (record { counted = line; kept = kept }) i h (rw same-byte n))
@@ -64,15 +65,18 @@ pub record Went (turns : ℕ) (i : Input) (buffer₀ kept₀ : List ℕ) (j : In
 
 module _ (i : Input) (buffer₀ kept₀ : List ℕ) where
   pub went-none : (turns : ℕ) → longest ≤ turns → Went turns i buffer₀ kept₀ i buffer₀ kept₀
-  went-none turns h = record { came = []; same = rw append-nil; last-read = inl (refl, refl, refl); long = omega arith }
+  went-none turns h = record { came = []; same = rw append-nil; last-read = inl (refl, refl, refl, refl); long = omega arith }
 
-  pub went-on : (turns : ℕ) (j : Input) (buffer kept : List ℕ) (r : Input) (after : List ℕ) (read : Filled)
-      (more : List ℕ) (turns′ : ℕ) →
-      Went turns i buffer₀ kept₀ j buffer kept → TakesLine j buffer kept r after → r .found ≡ false →
-      turns ≤ turns′ + length (take (read .count) more) → Went turns′ i buffer₀ kept₀ (refilled r read) more after
-  went-on turns j buffer kept r after read more turns′ w t e h =
+  pub went-on : (turns : ℕ) (j : Input) (buffer kept : List ℕ) (r : Input) (after : List ℕ) (got : ℤ) (more : List ℕ) (turns′ : ℕ)
+      (j′ : Input) → Went turns i buffer₀ kept₀ j buffer kept → TakesLine j buffer kept r after → r .found ≡ false →
+      j′ ≡ refilled r got (length more) → turns ≤ turns′ + j′ .end → Went turns′ i buffer₀ kept₀ j′ more after
+  unfolding refilled
+  went-on turns j buffer kept r after got more turns′ j′ w t e filled h =
       let s = w .same in
-      let bytes = take (read .count) more in
+      let at-first : j′ .at ≡ 0 = rw filled in
+      let same-line : j′ .line ≡ r .line = rw filled in
+      let bytes = take (j′ .end) more in
+      let n : length bytes ≡ j′ .end = length-take-le (j′ .end) more (rw filled (within-room got (length more))) in
       let f : line-taken (i .line) kept₀ (unused i buffer₀ ++ w .came) .found ≡ false = rw s (sym (t .found-is) ∙ e) in
       record {
         came = w .came ++ bytes;
@@ -80,11 +84,13 @@ module _ (i : Input) (buffer₀ kept₀ : List ℕ) where
           ← append-assoc (unused i buffer₀) (w .came) bytes,
           feed-append kept-with (record { counted = i .line; kept = kept₀ }) (unused i buffer₀ ++ w .came) bytes f,
           s,
+          at-first,
+          same-line,
           t .line-is,
           t .kept-is,
         );
-        last-read = inr (w .came, refl);
-        long = omega (arith, w .long, length-append (w .came) bytes);
+        last-read = inr (w .came, refl, rw at-first (omega arith));
+        long = omega (arith, w .long, n, length-append (w .came) bytes);
       }
 
 -- ---- a line that goes on has all bytes on it: its length is their number, up to the largest
@@ -110,15 +116,21 @@ unfolding up-to-feed
 all-counted l kept [] h e = omega arith
 all-counted l kept (b ∷ bs) h e =
     let n = counted-on (l .length) h in
-    byte-counted (eqb b line-feed) (record { counted = l; kept = kept }) bs (line-taken (with-byte l) (set kept (l .length) b) bs)
+    byte-counted (eqb b line-feed) (record { counted = l; kept = kept }) bs (line-taken (one-longer l) (set kept (l .length) b) bs)
     (min longest (l .length + length (b ∷ bs)))
-    (λ f. all-counted (with-byte l) (set kept (l .length) b) bs (omega arith) f ∙ omega arith) e
+    (λ f. all-counted (one-longer l) (set kept (l .length) b) bs (omega arith) f ∙ omega arith) e
 
 -- what is taken stands in the same buffer
-still-last : (i : Input) (buffer₀ came : List ℕ) (j : Input) (buffer : List ℕ) (r : Input) → r .end ≡ j .end →
-    LastRead i buffer₀ came j buffer → LastRead i buffer₀ came r buffer
-still-last i buffer₀ came j buffer r e (inl h) = inl (h .0, e ∙ h .1, h .2)
-still-last i buffer₀ came j buffer r e (inr h) = inr (h .0, rw e (h .1))
+still-last : (i : Input) (buffer₀ came : List ℕ) (j : Input) (buffer kept : List ℕ) (r : Input) (after : List ℕ) →
+    TakesLine j buffer kept r after → LastRead i buffer₀ came j buffer → LastRead i buffer₀ came r buffer
+still-last i buffer₀ came j buffer kept r after t (inl h) =
+    let same : r .at + length (unused r buffer) ≡ j .at + length (unused j buffer) =
+    ap (λ (l : List ℕ). r .at + length l) (t .left-is) ∙ t .at-is in
+    inl (h .0, t .end-is ∙ h .1, h .2, same ∙ h .3)
+still-last i buffer₀ came j buffer kept r after t (inr h) =
+    let within : length (unused j buffer) ≤ j .end - j .at =
+    omega (arith, length-drop (j .at) (take (j .end) buffer), length-take (j .end) buffer) in
+    inr (h .0, rw (t .end-is) (h .1), omega (arith, t .end-is, t .at-is, within, h .2))
 
 -- what is taken at last
 pub reads : (i : Input) (buffer₀ kept₀ : List ℕ) (j : Input) (buffer kept : List ℕ) (r : Input) (after : List ℕ) →
@@ -129,7 +141,7 @@ reads i buffer₀ kept₀ j buffer kept r after turns w t good last =
     let line : r .line ≡ line-taken new-line kept₀ (unused i buffer₀ ++ w .came) .line .counted = rw (w .same) (t .line-is) in
     record {
       came = w .came;
-      last-read = still-last (begun i) buffer₀ (w .came) j buffer r (t .end-is) (w .last-read);
+      last-read = still-last (begun i) buffer₀ (w .came) j buffer kept r after t (w .last-read);
       line-is = line;
       found-is = found;
       kept-is = rw (w .same) (t .kept-is);
@@ -141,21 +153,23 @@ reads i buffer₀ kept₀ j buffer kept r after turns w t good last =
     }
 
 -- the last read gave nothing
-pub reads-end : (i : Input) (buffer₀ kept₀ : List ℕ) (r : Input) (read : Filled) (buffer kept : List ℕ) →
-    (turns : ℕ) → Went turns (begun i) buffer₀ kept₀ (refilled r read) buffer kept → read .count ≡ 0 →
-    ReadsLine i buffer₀ kept₀ (refilled r read) buffer kept
-unfolding up-to-feed
-reads-end i buffer₀ kept₀ r read buffer kept turns w z =
-    let u : unused (refilled r read) buffer ≡ [] = rw z in
+pub reads-end : (i : Input) (buffer₀ kept₀ : List ℕ) (j : Input) (got : ℤ) (room : ℕ) (r : Input) (buffer kept : List ℕ) →
+    (turns : ℕ) → r ≡ refilled j got room → Went turns (begun i) buffer₀ kept₀ r buffer kept → r .end ≡ 0 →
+    ReadsLine i buffer₀ kept₀ r buffer kept
+unfolding up-to-feed refilled
+reads-end i buffer₀ kept₀ j got room r buffer kept turns e w z =
+    let goes : r .found ≡ false = rw e in
+    let at-first : r .at ≡ 0 = rw e in
+    let u : unused r buffer ≡ [] = rw (at-first, z) in
     let s : line-taken new-line kept₀ (unused i buffer₀ ++ w .came) ≡ record
     { line = record { counted = r .line; kept = kept }; left = []; found = false } = w .same ∙ rw u in
     record {
       came = w .came;
       last-read = w .last-read;
       line-is = rw s;
-      found-is = rw s;
+      found-is = rw s goes;
       kept-is = rw s;
       left-is = rw s u;
       ends = λ _. inl z;
-      failed-ends = λ _. (refl, z);
+      failed-ends = λ _. (goes, z);
     }

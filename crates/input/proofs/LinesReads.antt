@@ -1,38 +1,52 @@
--- What a read answered, by its sign.
-use mathlib.Core.Path.{_≡_, refl, sym}
-use mathlib.Core.Bool.{Bool, true, false, true≢false}
-use mathlib.Core.List.{List}
-use Prim.Native.Nat.{ℕ, _≤_}
+-- The bytes of a read, by the sign of what `read` returned.
+use mathlib.Core.Path.{_≡_, refl}
+use mathlib.Core.Bool.{Bool, true, false, not, _&&_, _||_}
+use mathlib.Core.Logic.{_⊎_, inl, inr}
+use Prim.Native.Nat.{ℕ, _≤_, _<_, min}
 use native.Mathlib.Omega.{arith}
 use lib.IntN.{ℤ, pos, negsuc}
-use lib.ListN.{length}
-use lib.Seq.{length-take-le}
-use lib.Signed.{ltZ}
-use borrow.Author.Tests.{le-ltb}
+use borrow.Author.Tests.{le-ltb, eq-eqb, ne-eqb}
 use Rattle.io.specs.Counts.{clamped}
-use Rattle.input.specs.declared.Filled.{Filled}
-use Rattle.input.specs.Lines.{read-of, Fills}
+use Rattle.input.specs.declared.Input.{Input}
+use Rattle.input.specs.Lines.{ended, refilled}
 
-pub read-by-sign : (got : ℤ) (room : ℕ) →
-    _≡_ {A = Filled} (record { count = clamped got room; failed = ltZ got (pos 0) }) (read-of got room)
-unfolding read-of
-read-by-sign (pos n) room = rw (le-ltb n 0 (omega arith))
-read-by-sign (negsuc n) room = refl
+pub within-room : (got : ℤ) (room : ℕ) → clamped got room ≤ room
+within-room (pos n) room = omega arith
+within-room (negsuc n) room = omega arith
 
-read-fills : (got : ℤ) (after : List ℕ) → Fills (read-of got (length after)) after
-unfolding read-of
-read-fills (pos n) after =
-    let h : read-of (pos n) (length after) .count ≤ length after = omega arith in
-    record { counts = (h, sym (length-take-le _ after h)); failed-empty = λ f. absurd (true≢false (sym f)) }
-read-fills (negsuc n) after = record { counts = (omega arith, refl); failed-empty = λ _. refl }
-
-pub fills : (got : ℤ) (room : ℕ) (r : Filled) (after : List ℕ) → r ≡ read-of got room → room ≡ length after → Fills r after
-fills got room r after e same = rw (e, same) (read-fills got after)
+not-failed : (i : Input) (got : ℤ) (room : ℕ) → (refilled i got room .end ≡ 0 → ⊥) → refilled i got room .failed ≡ false
+unfolding refilled
+not-failed i (pos n) room h = le-ltb n 0 (omega arith)
+not-failed i (negsuc n) room h = absurd (h refl)
 
 -- a read that gave a byte did not fail
-pub gave-a-byte : (r : Filled) (after : List ℕ) → Fills r after → (r .count ≡ 0 → ⊥) → r .failed ≡ false
-gave-a-byte r after f n = go (r .failed) refl
+pub gave-a-byte : (i : Input) (got : ℤ) (room : ℕ) (r : Input) → r ≡ refilled i got room → (r .end ≡ 0 → ⊥) → r .failed ≡ false
+gave-a-byte i got room r e h = rw e (not-failed i got room (rw e at h))
+
+-- ---- a negative number is a failed read, which gives nothing and ends the lines; no other is
+module _ (i : Input) (n room : ℕ) where
+  pub failed-read : (refilled i (negsuc n) room .failed ≡ true) × (refilled i (negsuc n) room .end ≡ 0)
+  unfolding refilled
+  failed-read = (refl, refl)
+
+  pub good-read : (refilled i (pos n) room .failed ≡ false) × (refilled i (pos n) room .end ≡ min n room)
+  unfolding refilled
+  good-read = (le-ltb n 0 (omega arith), refl)
+
+pub failed-is-end : (i : Input) → i .failed ≡ true → ended i ≡ true
+failed-is-end i e = rw e
+
+pub line-is-no-end : (i : Input) → i .failed ≡ false → (i .found ≡ true) ⊎ (0 < i .line .length) → ended i ≡ false
+line-is-no-end i e (inl f) = rw (e, f)
+line-is-no-end i e (inr h) = rw (e, ne-eqb (i .line .length) 0 (omega arith)) (both (i .found))
   where
-    go : (b : Bool) → r .failed ≡ b → b ≡ false
-    go true e = absurd (n (f .failed-empty e))
-    go false e = refl
+    both : (b : Bool) → (not b && false) ≡ false
+    both true = refl
+    both false = refl
+
+pub nothing-is-end : (i : Input) → i .found ≡ false → i .line .length ≡ 0 → ended i ≡ true
+nothing-is-end i e z = rw (e, eq-eqb (i .line .length) 0 z) (either (i .failed))
+  where
+    either : (b : Bool) → (b || true) ≡ true
+    either true = refl
+    either false = refl

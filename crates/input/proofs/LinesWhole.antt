@@ -11,7 +11,7 @@ use Rattle.base.specs.Branch.{if_then_else_}
 use Rattle.base.specs.LineFeed.{line-feed, UpToFeed, up-to-feed}
 use Rattle.base.proofs.LineFeed.{feed-append, feed-found}
 use Rattle.input.specs.declared.InputLine.{InputLine}
-use Rattle.input.specs.Lines.{longest, new-line, count-on, with-byte, complete-line, KeptLine, kept-with, line-taken}
+use Rattle.input.specs.Lines.{longest, new-line, count-on, one-longer, complete-line, KeptLine, kept-with, line-taken}
 use Rattle.input.proofs.Lines.{all-counted}
 
 -- no byte of a list is a line feed
@@ -35,7 +35,7 @@ goes-on : (l : InputLine) (kept bs : List ℕ) → Unbroken bs →
 unfolding up-to-feed if_then_else_
 goes-on l kept [] u = (refl, refl, refl)
 goes-on l kept (b ∷ bs) u =
-    let h = goes-on (with-byte l) (set kept (l .length) b) bs (u .1) in
+    let h = goes-on (one-longer l) (set kept (l .length) b) bs (u .1) in
     rw (ne-eqb b line-feed (u .0)) (h .0, h .1, h .2 ∙ length-set kept (l .length) b)
 
 -- with room for them, they are kept after those that came before
@@ -52,7 +52,7 @@ keeps l kept came (b ∷ bs) u e k fits small =
     let len : count-on (l .length) ≡ length more = count-on-is (l .length) m ∙ ap suc e ∙ sym count in
     let put : take (length more) (set kept (l .length) b) ≡ more = rw (count, ← e) (take-suc-set kept (l .length) b n ∙ rw (e, k)) in
     let room : length (set kept (l .length) b) ≡ length kept = length-set kept (l .length) b in
-    let next = keeps (with-byte l) (set kept (l .length) b) more bs (u .1) len put (omega arith) (omega arith) in
+    let next = keeps (one-longer l) (set kept (l .length) b) more bs (u .1) len put (omega arith) (omega arith) in
     rw (ne-eqb b line-feed (u .0), ← append-snoc came b bs) next
 
 -- ---- a line

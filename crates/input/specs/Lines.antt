@@ -1,18 +1,18 @@
--- A line of bytes, as far as it came.
+-- A line of bytes, as far as it came; and what is promised of taking and of reading the next one.
 use mathlib.Core.Path.{_≡_}
 use mathlib.Core.Bool.{Bool, true, false, not, _&&_, _||_}
 use mathlib.Core.List.{List, [], _++_}
 use mathlib.Core.Logic.{_⊎_}
-use Prim.Native.Nat.{ℕ, _+_, min}
+use Prim.Native.Nat.{ℕ, _+_, _≤_}
 use lib.Dec.{eqb, leb, ltb}
-use lib.IntN.{ℤ, pos, negsuc}
+use lib.IntN.{ℤ, pos}
+use lib.Signed.{ltZ}
 use lib.ListN.{length, set, take, drop}
-use Rattle.io.specs.Counts.{Counts}
+use Rattle.io.specs.Counts.{clamped}
 use Rattle.base.specs.Branch.{if_then_else_}
 use Rattle.base.specs.LineFeed.{UpToFeed, up-to-feed}
 use Rattle.input.specs.declared.InputLine.{InputLine}
 use Rattle.input.specs.declared.Input.{Input}
-use Rattle.input.specs.declared.Filled.{Filled}
 
 abbrev pub longest : ℕ
 longest = 0xffffffffffffffff
@@ -25,8 +25,8 @@ unfoldable pub count-on : ℕ → ℕ
 count-on n = if ltb n longest then (λ _. n + 1) else λ _. n
 
 -- a line with one byte more
-abbrev pub with-byte : InputLine → InputLine
-with-byte l = record { length = count-on (l .length) }
+abbrev pub one-longer : InputLine → InputLine
+one-longer l = record { length = count-on (l .length) }
 
 -- the line, or nothing if it is longer than what is kept
 unfoldable pub complete-line : InputLine → List ℕ → List ℕ
@@ -38,7 +38,7 @@ pub record KeptLine : Type 0 where
   pub kept : List ℕ
 
 abbrev pub kept-with : KeptLine → ℕ → KeptLine
-kept-with k b = record { counted = with-byte (k .counted); kept = set (k .kept) (k .counted .length) b }
+kept-with k b = record { counted = one-longer (k .counted); kept = set (k .kept) (k .counted .length) b }
 
 -- what bytes make of a line and of what is kept of it, up to a line feed
 abbrev pub line-taken : InputLine → List ℕ → List ℕ → UpToFeed KeptLine
@@ -52,24 +52,17 @@ unused i buffer = drop (i .at) (take (i .end) buffer)
 abbrev pub ended : Input → Bool
 ended i = i .failed || (not (i .found) && eqb (i .line .length) 0)
 
+-- nothing was read yet
+abbrev pub new-input : Input
+new-input = record { at = 0; end = 0; line = new-line; found = false; failed = false }
+
 -- a new line, with the same bytes to use
 abbrev pub begun : Input → Input
 begun i = record { at = i .at; end = i .end; line = new-line; found = false; failed = false }
 
--- ---- one read
--- what `read` answers of a buffer of so many bytes: a negative number if it failed
-unfoldable pub read-of : ℤ → ℕ → Filled
-read-of (pos n) room = record { count = min n room; failed = false }
-read-of (negsuc n) room = record { count = 0; failed = true }
-
--- a failed read gives no byte
-pub record Fills (r : Filled) (after : List ℕ) : Type 0 where
-  pub counts : Counts (r .count) after
-  pub failed-empty : r .failed ≡ true → r .count ≡ 0
-
--- the same line, with the bytes of a read to use
-abbrev pub refilled : Input → Filled → Input
-refilled i read = record { at = 0; end = read .count; line = i .line; found = false; failed = read .failed }
+-- the same line, with the bytes of a read to use: got is what `read` returned of a buffer of room bytes, a negative number if it failed
+unfoldable pub refilled : Input → ℤ → ℕ → Input
+refilled i got room = record { at = 0; end = clamped got room; line = i .line; found = false; failed = ltZ got (pos 0) }
 
 -- ---- a line
 -- the input after a line was taken from it, in an unchanged buffer
@@ -82,10 +75,13 @@ pub record TakesLine (i : Input) (buffer kept : List ℕ) (r : Input) (after : L
   pub left-is : unused r buffer ≡ line-taken (i .line) kept (unused i buffer) .left
   pub at-is : r .at + length (line-taken (i .line) kept (unused i buffer) .left) ≡ i .at + length (unused i buffer)
 
--- nothing was read; or what came ends with all bytes of the last read, which stand first in the buffer
+-- nothing was read, and the same bytes are passed or left; or what came ends with all bytes of the last read, which stand first in the
+-- buffer
 abbrev pub LastRead : Input → List ℕ → List ℕ → Input → List ℕ → Type 0
 LastRead i buffer came r after =
-    ((came ≡ []) × (r .end ≡ i .end) × (after ≡ buffer)) ⊎ ((earlier : List ℕ) × (came ≡ earlier ++ take (r .end) after))
+    ((came ≡ []) × (r .end ≡ i .end) × (after ≡ buffer) ×
+    (r .at + length (unused r after) ≡ i .at + length (unused i buffer))) ⊎
+    ((earlier : List ℕ) × (came ≡ earlier ++ take (r .end) after) × (r .at ≤ r .end))
 
 -- no line feed came: the last read gave no byte; or the line is as long as can be counted
 abbrev pub NoFeedCame : Input → Type 0

@@ -2,8 +2,7 @@
 ghost use mathlib.Core.Path.{_≡_};
 ghost use Prim.Native.Nat.{min};
 ghost use lib.ListN.{length, set};
-ghost use Rattle.input.specs.Lines.{with-byte, count-on, complete-line, ended, begun, refilled, read-of};
-ghost use Rattle.input.specs.Lines.{Fills, TakesLine, ReadsLine};
+ghost use Rattle.input.specs.Lines.{one-longer, count-on, complete-line, new-input, ended, begun, refilled, TakesLine, ReadsLine};
 use libc::STDIN_FILENO;
 
 const LONGEST: usize = 18446744073709551615;
@@ -20,12 +19,6 @@ pub struct Input {
     pub end: usize,
     pub line: InputLine,
     pub found: bool,
-    pub failed: bool,
-}
-
-// What a read gave: how many bytes, and whether it failed.
-pub struct Filled {
-    pub count: usize,
     pub failed: bool,
 }
 
@@ -47,7 +40,7 @@ impl InputLine {
 
     // One byte more. It is kept if there is room.
     pub fn push(self, b: u8, kept: &mut [u8]) -> InputLine
-        ensures { λ r. ⌜ (r ≡ with-byte self) × (now (kept .exit) ≡ set (now (kept .entry)) (self .length) b) ⌝ }
+        ensures { λ r. ⌜ (r ≡ one-longer self) × (now (kept .exit) ≡ set (now (kept .entry)) (self .length) b) ⌝ }
     {
         let at = self.length;
         let longer = InputLine {
@@ -74,13 +67,17 @@ impl InputLine {
 }
 
 impl Input {
-    pub const NEW: Input = Input {
-        at: 0,
-        end: 0,
-        line: InputLine::NEW,
-        found: false,
-        failed: false,
-    };
+    pub fn new() -> Input
+        ensures { λ r. ⌜ r ≡ new-input ⌝ }
+    {
+        Input {
+            at: 0,
+            end: 0,
+            line: InputLine::NEW,
+            found: false,
+            failed: false,
+        }
+    }
 
     // Whether no line came: a read failed, or the input ended with nothing on its last line.
     pub fn is_end(self) -> bool
@@ -125,17 +122,17 @@ impl Input {
         }
     }
 
-    // The same line, with the bytes of a read to use.
-    fn refilled(self, read: Filled) -> Input
-        ensures { λ r. ⌜ r ≡ refilled self read ⌝ }
+    // The same line, with the bytes of a read to use: `got` is what `read` returned of the buffer.
+    fn refilled(self, got: isize, buffer: &[u8]) -> Input
+        ensures { λ r. ⌜ r ≡ refilled self got (length (now (buffer .entry))) ⌝ }
     {
         let line = self.line;
         Input {
             at: 0,
-            end: read.count,
+            end: io::count(got, buffer),
             line,
             found: false,
-            failed: read.failed,
+            failed: got < 0,
         }
     }
 
@@ -163,32 +160,13 @@ impl Input {
             if input.found {
                 return input;
             }
-            let read = fill(buffer);
-            let n = read.count;
-            input = input.refilled(read);
-            if n == 0 {
+            let got = libc::read(STDIN_FILENO, buffer);
+            input = input.refilled(got, buffer);
+            if input.end == 0 {
                 return input;
             }
             turns -= 1;
         }
         input.take(buffer, kept)
     }
-}
-
-// What `read` answered of a buffer.
-fn read_of(got: isize, buffer: &[u8]) -> Filled
-    ensures { λ r. ⌜ r ≡ read-of got (length (now (buffer .entry))) ⌝ }
-{
-    Filled {
-        count: io::count(got, buffer),
-        failed: got < 0,
-    }
-}
-
-// One read.
-fn fill(buffer: &mut [u8]) -> Filled
-    ensures { λ r. ⌜ Fills r (now (buffer .exit)) ⌝ }
-{
-    let got = libc::read(STDIN_FILENO, buffer);
-    read_of(got, buffer)
 }

@@ -2,7 +2,7 @@
 use mathlib.Core.Path.{_≡_, refl, _∙_}
 use mathlib.Core.Bool.{true, not}
 use mathlib.Core.List.{List, [], _∷_, _++_}
-use Prim.Native.Nat.{ℕ, _+_, _-_, _≤_, _<_}
+use Prim.Native.Nat.{ℕ, _+_, _-_, _<_}
 use lib.Dec.{T, eqb}
 use lib.ListN.{length, getD, drop}
 use borrow.Author.Tests.{eq-eqb}
@@ -18,11 +18,8 @@ use Rattle.line_buffer.specs.Taking.{buffered, BuffersLine}
 -- what was taken, by parts
 pub takes : (h : LineBuffer) (bytes : List ℕ) (from : ℕ) (r : TakenLine) (t : UpToFeed LineBuffer) →
     buffered h (drop from bytes) ≡ t →
-    r .line ≡ t .line → r .found ≡ t .found → r .at ≡ from + (length (drop from bytes) - length (t .left)) →
-    drop (r .at) bytes ≡ t .left →
-    (r .found ≡ true → (from < r .at) × (r .at ≤ length bytes)) → BuffersLine h bytes from r
-takes h bytes from r t e line-is found-is at-is left-is on =
-    record { line-is = rw e line-is; found-is = rw e found-is; at-is = rw e at-is; left-is = rw e left-is; goes-on = on }
+    r .line ≡ t .line → r .found ≡ t .found → r .at ≡ from + (length (drop from bytes) - length (t .left)) → BuffersLine h bytes from r
+takes h bytes from r t e line-is found-is at-is = record { line-is = rw e line-is; found-is = rw e found-is; at-is = rw e at-is }
 
 -- one byte more
 pub byte-pushed : (t : UpToFeed LineBuffer) (h g : LineBuffer) (bytes : List ℕ) (i : ℕ) → i < length bytes →

@@ -1,8 +1,7 @@
 -- A line taken from bytes, up to a line feed.
 use mathlib.Core.Path.{_≡_}
-use mathlib.Core.Bool.{true}
 use mathlib.Core.List.{List}
-use Prim.Native.Nat.{ℕ, _+_, _-_, _≤_, _<_}
+use Prim.Native.Nat.{ℕ, _+_, _-_}
 use lib.ListN.{length, drop}
 use Rattle.base.specs.LineFeed.{UpToFeed, up-to-feed}
 use Rattle.line_buffer.specs.declared.LineBuffer.{LineBuffer}
@@ -19,5 +18,3 @@ pub record BuffersLine (h : LineBuffer) (bytes : List ℕ) (from : ℕ) (r : Tak
   pub found-is : r .found ≡ buffered h (drop from bytes) .found
   -- past the bytes that were taken, the line feed among them
   pub at-is : r .at ≡ from + (length (drop from bytes) - length (buffered h (drop from bytes) .left))
-  pub left-is : drop (r .at) bytes ≡ buffered h (drop from bytes) .left
-  pub goes-on : r .found ≡ true → (from < r .at) × (r .at ≤ length bytes)

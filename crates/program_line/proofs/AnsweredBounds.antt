@@ -1,6 +1,5 @@
 -- What the program's search reports, depth after depth: no score leaves the root's window, and no count the allowance.
 use mathlib.Core.Path.{_≡_, sym}
-use mathlib.Core.Bool.{Bool}
 use mathlib.Core.List.{List, [], _∷_, _++_}
 use Prim.Native.Nat.{ℕ, zero, suc, _+_, _^_, _≤_}
 use native.Mathlib.Omega.{arith}
@@ -8,9 +7,10 @@ use lib.Dec.{eqb→eq}
 use lib.IntN.{ℤ, natAbs}
 use lib.ListN.{length, length-append, length-replicate}
 use lib.Signed.{_≤ℤ_}
-use Rattle.base.specs.Lists.{filter, concat-map}
+use Rattle.base.specs.Lists.{concat-map}
 use Rattle.base.specs.Checks.{first-failed}
 use Rattle.base.proofs.Branch.{if-ind}
+use Rattle.base.proofs.Lists.{filter-short}
 use Rattle.base.proofs.Integers.{hi, lo, zarith, hi-le, lo-le, within-abs}
 use Rattle.rules.specs.Position.{Position}
 use Rattle.rules.specs.Play.{no-move, accepts}
@@ -26,27 +26,19 @@ use Rattle.theory.specs.Reported.{Settings, entry-refusal, Reported, report, re
 use Rattle.theory.proofs.OrderedSearch.{Gives}
 use Rattle.theory.proofs.OrderedSearchRange.{search-range}
 use Rattle.theory.proofs.OrderedSearchGrowth.{Ends, search-allowed}
-use Rattle.theory.proofs.OrderedSearchPlaces.{analyze-places}
+use Rattle.theory.proofs.OrderedSearchPlaces.{analyze-places, analyze-no-deeper}
 use Rattle.rules_game.specs.RulesGame.{game}
 use Rattle.minimax.proofs.ReportRefusals.{limits}
 use Rattle.minimax.proofs.StateMoves.{value-within}
 use Rattle.program_line.specs.Answered.{settings, program-search}
 
 -- ---- there are 81 moves at most
-keep-short : (f : ℕ → Bool) (xs : List ℕ) → length (filter f xs) ≤ length xs
-unfolding filter
-keep-short f [] = omega arith
-keep-short f (x ∷ xs) =
-    if-ind (λ (l : List ℕ). length l ≤ suc (length xs)) (f x) _ _ (λ _. omega (arith, keep-short f xs))
-    (λ _. omega (arith, keep-short f xs))
-
 pub moves-short : (p : Position) → length (moves p) ≤ 81
 unfolding moves places concat-map
-moves-short p = keep-short (accepts p) places
+moves-short p = filter-short (accepts p) places
 
--- ---- the whole depths and the count
-pub record Bounded (limit n : ℕ) (x : SearchAnswer) : Type 0 where
-  pub deep : x .completed .depth ≤ limit
+-- ---- the score and the count
+pub record Bounded (n : ℕ) (x : SearchAnswer) : Type 0 where
   pub low : lowest ≤ℤ x .completed .score
   pub high : x .completed .score ≤ℤ highest
   pub counted : x .memory .count ≤ n
@@ -60,23 +52,22 @@ on-outcome-both P M Q (stopped s) f g h k i j = i s k
 on-outcome-both P M Q (found r line s) f g h k i j = j r line s h k
 
 module _ (G : Game) (values : (p : G .Pos) → (lowest ≤ℤ G .value p) × (G .value p ≤ℤ highest)) (n : ℕ) (p : G .Pos) where
-  deepen-bounded : (limit k : ℕ) (w : Completed) (s : Memory) → k + w .depth ≤ limit → lowest ≤ℤ w .score →
-      w .score ≤ℤ highest → s .count ≤ n → Bounded limit n (deepen G (at-most n) k p w s)
+  deepen-bounded : (k : ℕ) (w : Completed) (s : Memory) → lowest ≤ℤ w .score → w .score ≤ℤ highest → s .count ≤ n →
+      Bounded n (deepen G (at-most n) k p w s)
   unfolding deepen begin hi lo
-  deepen-bounded limit zero w s d a b c = record { deep = omega arith; low = a; high = b; counted = c }
-  deepen-bounded limit (suc k) w s d a b c =
-      on-outcome-both (λ r. (lowest ≤ℤ r) × (r ≤ℤ highest)) (λ z. z .count ≤ n) (Bounded limit n) _ _ _
+  deepen-bounded zero w s a b c = record { low = a; high = b; counted = c }
+  deepen-bounded (suc k) w s a b c =
+      on-outcome-both (λ r. (lowest ≤ℤ r) × (r ≤ℤ highest)) (λ z. z .count ≤ n) (Bounded n) _ _ _
       (search-range G values (at-most n) (suc (w .depth)) p lowest highest (w .pv ++ (no-move ∷ [])) no-move (begin s) (omega zarith)
       (omega zarith) (omega zarith) (omega zarith))
       (search-allowed G n (suc (w .depth)) p lowest highest (w .pv ++ (no-move ∷ [])) no-move (begin s) c)
-      (λ _ e. record { deep = omega arith; low = a; high = b; counted = e })
-      (λ r line s' h e. if-ind (Bounded limit n) (decided r) _ _
-      (λ _. record { deep = omega arith; low = h .0; high = h .1; counted = e })
-      (λ _. deepen-bounded limit k (one-deeper w r line (s' .tally)) s' (omega arith) (h .0) (h .1) e))
+      (λ _ e. record { low = a; high = b; counted = e })
+      (λ r line s' h e. if-ind (Bounded n) (decided r) _ _ (λ _. record { low = h .0; high = h .1; counted = e })
+      (λ _. deepen-bounded k (one-deeper w r line (s' .tally)) s' (h .0) (h .1) e))
 
-  analyze-bounded : (limit : ℕ) (s : Memory) → s .count ≤ n → Bounded limit n (analyze G (at-most n) limit p s)
+  analyze-bounded : (limit : ℕ) (s : Memory) → s .count ≤ n → Bounded n (analyze G (at-most n) limit p s)
   unfolding analyze hi lo
-  analyze-bounded limit s c = deepen-bounded limit limit nothing-yet s (omega arith) (omega zarith) (omega zarith) c
+  analyze-bounded limit s c = deepen-bounded limit nothing-yet s (omega zarith) (omega zarith) c
 
 -- ---- what is reported
 pub record Small (r : Reported) : Type 0 where
@@ -93,16 +84,15 @@ module _ (c : Settings) (words : ℕ) where
       (λ _. if-ind (λ (n : ℕ). n ≤ 18) _ _ _
       (λ _. if-ind (λ (n : ℕ). n ≤ 18) _ _ _ (λ _. omega arith) (λ _. omega arith)) (λ _. omega arith)) (λ _. omega arith)
 
-report-small : (G : Game) (p : G .Pos) (x : SearchAnswer) → Bounded (console .deepest) 1000000 x →
-    length (x .completed .pv) ≡ x .completed .depth
-    → Small (report G p x)
-report-small G p x b e = record {
+report-small : (G : Game) (p : G .Pos) (x : SearchAnswer) → Bounded 1000000 x → x .completed .depth ≤ console .deepest →
+    length (x .completed .pv) ≡ x .completed .depth → Small (report G p x)
+report-small G p x b d e = record {
   number-small = if-ind (λ (n : ℕ). n ≤ 18) _ _ _ (λ _. omega arith) (λ _. omega arith);
-  depth-small = b .deep;
+  depth-small = d;
   score-small =
       within-abs (2 ^ 60 + 1) (x .completed .score) (hi-le (x .completed .score) _ (b .high), lo-le (x .completed .score) _ (b .low));
   count-small = b .counted;
-  line-long = simp (length-append, length-replicate) (omega (arith, b .deep));
+  line-long = simp (length-append, length-replicate) (omega arith);
 }
 
 refused-small : (n : ℕ) (rs : Responses) (words : List ℕ) → n ≤ 18 → Small (refused-entry n rs words)
@@ -121,8 +111,9 @@ searched-small depth p =
     if-ind Small _ _ _
     (λ t. let l = limits (settings depth) 0 (sym (eqb→eq _ 0 t)) in
     let s = fresh-memory no-responses [] in
-    let a = analyze-bounded (game no-draw-winner) (value-within no-draw-winner) 1000000 p (settings depth .max-depth) s (omega arith) in
-    report-small (game no-draw-winner) p (analyze (game no-draw-winner) (at-most 1000000) (settings depth .max-depth) p s)
-    (record { deep = omega arith; low = a .low; high = a .high; counted = a .counted })
-    (analyze-places (game no-draw-winner) (at-most 1000000) (settings depth .max-depth) p s))
+    let limit = settings depth .max-depth in
+    report-small (game no-draw-winner) p (analyze (game no-draw-winner) (at-most 1000000) limit p s)
+    (analyze-bounded (game no-draw-winner) (value-within no-draw-winner) 1000000 p limit s (omega arith))
+    (omega (arith, analyze-no-deeper (game no-draw-winner) (at-most 1000000) limit p s))
+    (analyze-places (game no-draw-winner) (at-most 1000000) limit p s))
     (λ _. refused-small _ no-responses [] (entry-small (settings depth) 0))

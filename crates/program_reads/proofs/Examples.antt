@@ -2,16 +2,16 @@
 use mathlib.Core.Path.{_≡_, refl}
 use mathlib.Core.List.{[], _∷_}
 use Rattle.base.specs.Branch.{if_then_else_}
-use Rattle.program_reads.specs.Lines.{split, lines}
+use Rattle.program_reads.specs.Lines.{split, input-lines}
 
-pub no-line : lines [] ≡ []
+pub no-line : input-lines [] ≡ []
 unfolding split
 no-line = refl
 
-pub last-without-feed : lines (97 ∷ 98 ∷ 10 ∷ 10 ∷ 99 ∷ []) ≡ (97 ∷ 98 ∷ []) ∷ [] ∷ (99 ∷ []) ∷ []
+pub last-without-feed : input-lines (97 ∷ 98 ∷ 10 ∷ 10 ∷ 99 ∷ []) ≡ (97 ∷ 98 ∷ []) ∷ [] ∷ (99 ∷ []) ∷ []
 unfolding split if_then_else_
 last-without-feed = refl
 
-pub last-with-feed : lines (97 ∷ 13 ∷ 10 ∷ 10 ∷ []) ≡ (97 ∷ 13 ∷ []) ∷ [] ∷ []
+pub last-with-feed : input-lines (97 ∷ 13 ∷ 10 ∷ 10 ∷ []) ≡ (97 ∷ 13 ∷ []) ∷ [] ∷ []
 unfolding split if_then_else_
 last-with-feed = refl

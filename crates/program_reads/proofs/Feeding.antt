@@ -1,27 +1,25 @@
 -- The loop over the lines of a read: what the rest of it makes of the program is always what the whole read makes of it.
 use mathlib.Core.Path.{_≡_, refl, sym, ap, _∙_}
-use mathlib.Core.Bool.{Bool, true, false, not, cond}
+use mathlib.Core.Bool.{Bool, true, false, cond}
 use mathlib.Core.List.{List, [], _∷_, _++_}
 use Prim.Native.Nat.{ℕ, suc, _-_, _≤_, _<_}
 use native.Mathlib.Omega.{arith}
-use lib.Dec.{eqb, ltb}
+use lib.Dec.{eqb}
 use lib.ListN.{length, drop}
-use borrow.Author.Tests.{ltb-true}
 use Rattle.base.specs.LineFeed.{line-feed, UpToFeed}
-use Rattle.text.proofs.Padded.{length-padded}
 use Rattle.line_buffer.specs.declared.LineBuffer.{LineBuffer}
 use Rattle.line_buffer.specs.Buffer.{new-buffer, pushed, buffer-asks}
 use Rattle.line_buffer.specs.Taking.{buffered}
 use Rattle.answer_text.specs.declared.AnswerText.{AnswerText}
 use Rattle.answer_text.specs.AnswerBytes.{no-text}
-use Rattle.answer_text.proofs.AnswerBytes.{added-out}
+use Rattle.answer_text.proofs.AnswerBytes.{added-out, text-room}
 use Rattle.program_line.specs.Answered.{asked-text}
 use Rattle.program_reads.specs.declared.Program.{Program}
 use Rattle.program_reads.specs.declared.NextAnswer.{NextAnswer}
 use Rattle.program_reads.specs.Lines.{Split, split}
-use Rattle.program_reads.specs.Promises.{buffer-answer, last-answer, new-program, AnswersNext, fed, FedFromNew}
+use Rattle.program_reads.specs.Promises.{buffer-answer, last-answer, AnswersNext, fed}
 use Rattle.program_reads.proofs.Lines.{split-found, split-goes-on}
-use Rattle.program_reads.proofs.Promises.{fed-all-append}
+use Rattle.program_reads.proofs.Promises.{next-left}
 
 -- ---- it ends: what is left to take, where a line was found
 abbrev pub left : ℕ → ℕ → Bool → ℕ
@@ -34,9 +32,8 @@ left-falls n a b f true e h = rw e (let k = h refl in omega arith)
 -- ---- an answer is the first bytes of a row of 224
 room : (h : LineBuffer) (c : Bool) → length (cond c (buffer-answer h) no-text .bytes) ≡ 224
 room h true =
-    ap (λ (o : AnswerText). length (o .bytes)) (added-out (asked-text (buffer-asks h)) line-feed)
-    ∙ length-padded 224 (asked-text (buffer-asks h) ++ (line-feed ∷ []))
-room h false = length-padded 224 []
+    let t = asked-text (buffer-asks h) in text-room (buffer-answer h) (t ++ (line-feed ∷ [])) (added-out t line-feed)
+room h false = text-room no-text [] refl
 
 pub last-room : (h : LineBuffer) (o : AnswerText) → o ≡ last-answer h → length (o .bytes) ≡ 224
 last-room h o e = ap (λ (o : AnswerText). length (o .bytes)) e ∙ go (eqb (h .len) 0)
@@ -69,7 +66,7 @@ module _ (p : Program) (bytes : List ℕ) (from : ℕ) (r : NextAnswer) (a : Ans
           let f : taken .found ≡ true = sym (a .found-is) ∙ e in
           let q : r .program ≡ record { line = new-buffer; reads = p .reads } = a .program-is ∙ rw f in
           ap (λ (q : Program). fed q (drop (r .at) bytes)) q
-          ∙ ap (λ (bs : List ℕ). going (split pushed new-buffer new-buffer bs .rest)) (a .left-is)
+          ∙ ap (λ (bs : List ℕ). going (split pushed new-buffer new-buffer bs .rest)) (next-left p bytes from r a)
           ∙ sym (ap (λ (s : Split LineBuffer). going (s .rest)) (split-found pushed new-buffer (p .line) (drop from bytes) f))
       go false e =
           let f : taken .found ≡ false = sym (a .found-is) ∙ e in
@@ -83,22 +80,3 @@ outcome-stays bytes n r e a = outcome-is-fed (n .program) bytes (n .at) r a ∙ 
 
 pub outcome-reached : (bytes : List ℕ) (n : NextAnswer) → n .found ≡ false → n .program ≡ outcome bytes n
 outcome-reached bytes n e = rw e
-
--- ---- the loop over the reads
-pub none-fed : (p : Program) → p ≡ new-program → FedFromNew p
-none-fed p e = record { reads = []; is-fed = e }
-
--- after one read more, or as it was where not all was written
-pub one-more-fed : (p q : Program) (written : Bool) (r : List ℕ) → q ≡ cond written (fed p r) p → FedFromNew p → FedFromNew q
-one-more-fed p q true r e f =
-    record {
-      reads = f .reads ++ (r ∷ []);
-      is-fed = e ∙ ap (λ (p : Program). fed p r) (f .is-fed) ∙ sym (fed-all-append new-program (f .reads) r);
-    }
-one-more-fed p q false r e f = record { reads = f .reads; is-fed = e ∙ f .is-fed }
-
--- a read is counted only where the program goes on from it
-pub reads-fall : (p q : Program) (written may : Bool) (r : List ℕ) → q ≡ cond written (fed p r) p → not written ≡ false →
-    may ≡ ltb 0 (p .reads) → may ≡ true → q .reads < p .reads
-reads-fall p q true may r e w m t = omega (arith, ap (λ (q : Program). q .reads) e, ltb-true 0 (p .reads) (sym m ∙ t))
-reads-fall p q false may r e w m t = absurd (let z : _≡_ {A = ℕ} 0 1 = cc w in omega arith)

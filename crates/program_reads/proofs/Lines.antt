@@ -10,7 +10,7 @@ use Rattle.base.specs.Branch.{if_then_else_}
 use Rattle.base.specs.Lists.{all}
 use Rattle.base.specs.LineFeed.{line-feed, UpToFeed, up-to-feed}
 use Rattle.line_buffer.proofs.Taking.{Plain}
-use Rattle.program_reads.specs.Lines.{Split, with-line, split, with-byte, split-bytes, last-line, lines}
+use Rattle.program_reads.specs.Lines.{Split, with-line, split, with-byte, split-bytes, last-line}
 use Rattle.program_reads.specs.Lines.{written-answer, answers, program-text, by-reads, input-of}
 
 -- ---- lines of any kind

@@ -1,13 +1,14 @@
 -- What the promises say of the lines of bytes: whatever the functions answer, and however the input comes, the program's text is written.
-use mathlib.Core.Path.{_≡_, refl, sym, ap, ap₂, _∙_}
+use mathlib.Core.Path.{_≡_, refl, sym, ap, ap₂, _∙_, subst}
 use mathlib.Core.Bool.{Bool, true, false, cond}
 use mathlib.Core.List.{List, [], _∷_, _++_, append-nil}
-use Prim.Native.Nat.{ℕ, _-_}
+use Prim.Native.Nat.{ℕ, zero, suc, _+_, _-_, _≤_, _<_}
 use native.Mathlib.Omega.{arith}
 use lib.Dec.{eqb}
 use lib.ListN.{length, drop, length-append}
 use borrow.Author.Tests.{eqb-true}
 use Rattle.base.specs.LineFeed.{line-feed, UpToFeed, up-to-feed}
+use Rattle.base.proofs.LineFeed.{left-at, rises-at}
 use Rattle.text.specs.ProgramLine.{parted}
 use Rattle.line_buffer.specs.declared.LineBuffer.{LineBuffer}
 use Rattle.line_buffer.specs.declared.TakenLine.{TakenLine}
@@ -24,8 +25,8 @@ use Rattle.program_reads.specs.declared.NextAnswer.{NextAnswer}
 use Rattle.program_reads.specs.Lines.{Split, split, with-byte, split-bytes, last-line, written-answer, answers, program-text}
 use Rattle.program_reads.specs.Lines.{by-reads, input-of}
 use Rattle.program_reads.specs.Promises.{buffer-answer, last-answer, new-program, after-line, text-after, AnswersNext}
-use Rattle.program_reads.specs.Promises.{fed, fed-all, WritesRead, no-more, ends, WritesAll, ended, came}
-use Rattle.program_reads.proofs.Lines.{split-append, split-found, split-goes-on, split-held, up-to-held, reads-make-no-difference}
+use Rattle.program_reads.specs.Promises.{fed, WritesRead, no-more, ends, WritesAll, ended, came}
+use Rattle.program_reads.proofs.Lines.{split-found, split-goes-on, split-held, up-to-held, reads-make-no-difference}
 
 -- a program has come to a line
 abbrev pub Holds : Program → List ℕ → Type 0
@@ -73,8 +74,6 @@ module _ (p : Program) (bytes : List ℕ) (from : ℕ) (t : TakenLine) (k : Buff
         program-is = rw (g, c);
         found-is = sym c;
         at-is = k .at-is;
-        left-is = k .left-is;
-        goes-on = λ _. k .goes-on e;
       }
 
   pub next-goes-on : (text : AnswerText) (n : ℕ) → t .found ≡ false → text ≡ no-text → n ≡ p .reads - 1 →
@@ -86,11 +85,17 @@ module _ (p : Program) (bytes : List ℕ) (from : ℕ) (t : TakenLine) (k : Buff
         program-is = rw (g, c, k .line-is);
         found-is = sym c;
         at-is = k .at-is;
-        left-is = k .left-is;
-        goes-on = λ z. absurd (let z : _≡_ {A = ℕ} 0 1 = cc z in omega arith);
       }
 
 -- ---- a step
+-- from the place that is given, the bytes are those left; where a line ended, it lies further on, and among them
+module _ (p : Program) (bytes : List ℕ) (from : ℕ) (r : NextAnswer) (a : AnswersNext p bytes from r) where
+  pub next-left : drop (r .at) bytes ≡ buffered (p .line) (drop from bytes) .left
+  next-left = left-at pushed bytes (p .line) from (r .at) (a .at-is)
+
+  pub next-rises : r .found ≡ true → (from < r .at) × (r .at ≤ length bytes)
+  next-rises e = rises-at pushed bytes (p .line) from (r .at) (a .at-is) (sym (a .found-is) ∙ e)
+
 abbrev pub next-line : List ℕ → List ℕ → UpToFeed (List ℕ)
 next-line begun bytes = up-to-feed with-byte begun bytes
 
@@ -131,7 +136,7 @@ next-answers p bytes from r a line h =
       text-is = ap written-bytes (a .text-is ∙ ap text-after e) ∙ text-written u;
       holds = ap (λ (q : Program). q .line) (a .program-is ∙ ap (after-line p) e) ∙ line-goes-on p u;
       found-is = a .found-is ∙ ap (λ (t : UpToFeed LineBuffer). t .found) e;
-      left-is = a .left-is ∙ ap (λ (t : UpToFeed LineBuffer). t .left) e;
+      left-is = next-left p bytes from r a ∙ ap (λ (t : UpToFeed LineBuffer). t .left) e;
     }
 
 -- ---- what is written of a read, and of all
@@ -183,26 +188,60 @@ writes-by-reads p rs t (came {r = r} {q = q} {t = t₁} {u = u} {rs = rest} w v)
 pub program-writes : (rs : List (List ℕ)) (t : List ℕ) → WritesAll new-program rs t → t ≡ program-text (input-of rs)
 program-writes rs t w = writes-by-reads new-program rs t w [] new-holds ∙ reads-make-no-difference rs
 
--- ---- a program that reads have led to holds the line that goes on after the whole input, and has counted them
-fed-holds : (p : Program) (r line : List ℕ) → Holds p line → Holds (fed p r) (split-bytes line r .rest)
+-- ---- there is such a text, whatever the reads
+-- the answer that `AnswersNext` describes
+abbrev next-of : Program → List ℕ → ℕ → NextAnswer
+next-of p bytes from =
+    let t = buffered (p .line) (drop from bytes) in
+    record {
+      text = text-after t;
+      program = after-line p t;
+      at = from + (length (drop from bytes) - length (t .left));
+      found = t .found;
+    }
+
+next-of-answers : (p : Program) (bytes : List ℕ) (from : ℕ) → AnswersNext p bytes from (next-of p bytes from)
+next-of-answers p bytes from = record { text-is = refl; program-is = refl; found-is = refl; at-is = refl }
+
+abbrev Written : List ℕ → Program → ℕ → Type 0
+Written bytes p from = (t : List ℕ) × (q : Program) × WritesRead bytes p from t q
+
+-- where fewer than n bytes are left
+writes-below : (n : ℕ) (bytes : List ℕ) (p : Program) (from : ℕ) → length bytes - from < n → Written bytes p from
+writes-below zero bytes p from h = absurd (omega arith)
+writes-below (suc n) bytes p from h = go (r .found) refl (writes-below n bytes (r .program) (r .at))
+  where
+    r : NextAnswer
+    r = next-of p bytes from
+
+    a : AnswersNext p bytes from r
+    a = next-of-answers p bytes from
+
+    longer : r .found ≡ true → Written bytes (r .program) (r .at) → Written bytes p from
+    longer e k = (written-bytes (r .text) ++ k .0, k .1, ends a e (k .2))
+
+    go : (c : Bool) → r .found ≡ c → (length bytes - r .at < n → Written bytes (r .program) (r .at)) → Written bytes p from
+    go true e below = longer e (below (omega (arith, next-rises p bytes from r a e)))
+    go false e below = ([], r .program, no-more a e)
+
+pub read-writes-something : (bytes : List ℕ) (p : Program) (from : ℕ) → (t : List ℕ) × (q : Program) × WritesRead bytes p from t q
+read-writes-something bytes p from = writes-below (suc (length bytes - from)) bytes p from (omega arith)
+
+pub writes-something : (p : Program) (rs : List (List ℕ)) → (t : List ℕ) × WritesAll p rs t
+writes-something p [] = (written-bytes (last-answer (p .line)), ended refl)
+writes-something p (r ∷ rs) =
+    let k = read-writes-something r p 0 in
+    let w = writes-something (k .1) rs in
+    (k .0 ++ w .0, came (k .2) (w .1))
+
+-- so the promises allow the program's text, and by `program-writes` no other
+pub program-text-written : (rs : List (List ℕ)) → WritesAll new-program rs (program-text (input-of rs))
+program-text-written rs =
+    let w = writes-something new-program rs in subst (WritesAll new-program rs) (program-writes rs (w .0) (w .1)) (w .1)
+
+-- ---- a program after a read holds the line that goes on
+pub fed-holds : (p : Program) (r line : List ℕ) → Holds p line → Holds (fed p r) (split-bytes line r .rest)
 fed-holds p r line h =
     ap (λ (h : LineBuffer). split pushed new-buffer h r .rest) h
     ∙ ap (λ (n : LineBuffer). split pushed n (buffer-of line) r .rest) new-holds
     ∙ ap (λ (s : Split LineBuffer). s .rest) (split-held with-byte [] pushed buffer-of pushed-held line r)
-
-pub fed-all-holds : (p : Program) (rs : List (List ℕ)) (line : List ℕ) → Holds p line →
-    Holds (fed-all p rs) (split-bytes line (input-of rs) .rest)
-unfolding split
-fed-all-holds p [] line h = h
-fed-all-holds p (r ∷ rs) line h =
-    fed-all-holds (fed p r) rs (split-bytes line r .rest) (fed-holds p r line h)
-    ∙ sym (ap (λ (s : Split (List ℕ)). buffer-of (s .rest)) (split-append with-byte [] line r (input-of rs)))
-
-pub fed-all-counts : (p : Program) (rs : List (List ℕ)) → fed-all p rs .reads ≡ p .reads - length rs
-fed-all-counts p [] = omega arith
-fed-all-counts p (r ∷ rs) = omega (arith, fed-all-counts (fed p r) rs)
-
--- one read more
-pub fed-all-append : (p : Program) (rs : List (List ℕ)) (r : List ℕ) → fed-all p (rs ++ (r ∷ [])) ≡ fed (fed-all p rs) r
-fed-all-append p [] r = refl
-fed-all-append p (s ∷ rs) r = fed-all-append (fed p s) rs r

@@ -34,8 +34,8 @@ abbrev pub last-line : List ℕ → List (List ℕ)
 last-line [] = []
 last-line (b ∷ bs) = (b ∷ bs) ∷ []
 
-abbrev pub lines : List ℕ → List (List ℕ)
-lines input = split-bytes [] input .whole ++ last-line (split-bytes [] input .rest)
+abbrev pub input-lines : List ℕ → List (List ℕ)
+input-lines input = split-bytes [] input .whole ++ last-line (split-bytes [] input .rest)
 
 -- ---- answers
 abbrev pub written-answer : List ℕ → List ℕ
@@ -47,7 +47,7 @@ answers (line ∷ ls) = written-answer line ++ answers ls
 
 -- what the program writes over an input
 abbrev pub program-text : List ℕ → List ℕ
-program-text input = answers (lines input)
+program-text input = answers (input-lines input)
 
 -- the same, read by read: the answers to the lines that end in a read, and the line that goes on into the next
 abbrev pub by-reads : List ℕ → List (List ℕ) → List ℕ

@@ -2,7 +2,7 @@
 use mathlib.Core.Path.{_≡_}
 use mathlib.Core.Bool.{true, false, cond}
 use mathlib.Core.List.{List, [], _∷_, _++_}
-use Prim.Native.Nat.{ℕ, _+_, _-_, _≤_, _<_}
+use Prim.Native.Nat.{ℕ, _+_, _-_}
 use lib.Dec.{eqb}
 use lib.ListN.{length, drop}
 use Rattle.base.specs.LineFeed.{line-feed, UpToFeed}
@@ -42,21 +42,10 @@ pub record AnswersNext (p : Program) (bytes : List ℕ) (from : ℕ) (r : NextAn
   pub found-is : r .found ≡ buffered (p .line) (drop from bytes) .found
   -- past the bytes that were taken, the line feed among them
   pub at-is : r .at ≡ from + (length (drop from bytes) - length (buffered (p .line) (drop from bytes) .left))
-  pub left-is : drop (r .at) bytes ≡ buffered (p .line) (drop from bytes) .left
-  pub goes-on : r .found ≡ true → (from < r .at) × (r .at ≤ length bytes)
 
--- after a read, and after reads one by one
+-- after a read
 abbrev pub fed : Program → List ℕ → Program
 fed p bytes = record { line = split pushed new-buffer (p .line) bytes .rest; reads = p .reads - 1 }
-
-abbrev pub fed-all : Program → List (List ℕ) → Program
-fed-all p [] = p
-fed-all p (r ∷ rs) = fed-all (fed p r) rs
-
--- a program that reads have led to, each fed whole, from a new one
-pub record FedFromNew (p : Program) : Type 0 where
-  pub reads : List (List ℕ)
-  pub is-fed : p ≡ fed-all new-program reads
 
 -- ---- what a run writes, step by step, whatever values the promises allow
 -- of the bytes of one read, from a place on: answers until no line ends any more

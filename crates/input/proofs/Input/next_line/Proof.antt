@@ -44,8 +44,8 @@ returns c =
     (rw (at-begun .begun .ensures) at (l .inv .0)) (c .before .before .before .take .ensures) (l .inv .1)
     (λ e. absurd (true≢false (sym (c .if1 .taken) ∙ e)))
 
-fill-requires : tie.Need-fill-requires Inv-loop μ-loop
-fill-requires c κs = search needs
+read-requires : tie.Need-read-requires Inv-loop μ-loop
+read-requires c κs = search needs
 
 refilled-requires : tie.Need-refilled-requires Inv-loop μ-loop
 refilled-requires c κs = search needs
@@ -58,18 +58,18 @@ same-length-4 c = search needs
 
 returns-2 : tie.Need-returns-2 Inv-loop μ-loop
 returns-2 c =
-    let at-if1 = c .before .before .before .before .before .before in
+    let at-read = c .before .before .before .before .before .before in
+    let at-if1 = at-read .before .before in
     let at-take = at-if1 .before .before .before in
     let at-loop = at-take .before .before .before .before in
     let at-begun = at-loop .before in
     let a = at-begun .before .before .before .args in
     let l = at-loop .loop in
-    let fill = c .before .before .before .before .fill in
-    let w = went-on _ _ _ (l .turns) (l .input) (l .buffer) (l .kept) (at-take .take .result) _ (fill .result) (fill .last .0) (l .turns)
-    (rw (at-begun .begun .ensures) at (l .inv .0)) (at-take .take .ensures) (at-if1 .if1 .left) (omega arith) in
-    rw (c .before .refilled .ensures)
-    (reads-end (a .self) (now (a .buffer)) (now (a .kept)) (at-take .take .result) (fill .result) (fill .last .0) _
-    (l .turns) w (c .if2 .taken))
+    let e = c .before .before .refilled .ensures in
+    let w = went-on _ _ _ (l .turns) (l .input) (l .buffer) (l .kept) (at-take .take .result) _ _ (at-read .read .last .1 .0)
+    (l .turns) (c .before .before .refilled .result) (rw (at-begun .begun .ensures) at (l .inv .0)) (at-take .take .ensures)
+    (at-if1 .if1 .left) e (omega arith) in
+    reads-end (a .self) (now (a .buffer)) (now (a .kept)) _ _ _ _ _ _ (l .turns) e w (c .if2 .taken)
 
 sub-turns : tie.Need-sub-turns Inv-loop μ-loop
 sub-turns c = search needs
@@ -79,13 +79,14 @@ loop-less c = search needs
 
 loop-again : tie.Need-loop-again Inv-loop μ-loop
 loop-again c =
-    let at-if1 = c .before .before .before .before .before .before in
+    let at-read = c .before .before .before .before .before .before in
+    let at-if1 = at-read .before .before in
     let at-take = at-if1 .before .before .before in
     let l = at-take .before .before .before .before .loop in
-    let fill = c .before .before .before .before .fill in (
-      rw (c .before .refilled .ensures) (went-on _ _ _ (l .turns) (l .input) (l .buffer) (l .kept) (at-take .take .result) _ (fill .result)
-          (fill .last .0) _ (l .inv .0) (at-take .take .ensures) (at-if1 .if1 .left) (omega (arith, fill .ensures .counts .1))),
-      rw (c .before .refilled .ensures) (gave-a-byte (fill .result) _ (fill .ensures) (c .if2 .left)),
+    let e = c .before .before .refilled .ensures in (
+      went-on _ _ _ (l .turns) (l .input) (l .buffer) (l .kept) (at-take .take .result) _ _
+          (at-read .read .last .1 .0) _ _ (l .inv .0) (at-take .take .ensures) (at-if1 .if1 .left) e (omega arith),
+      gave-a-byte _ _ _ _ e (c .if2 .left),
       search needs,
       search needs,
     )
@@ -120,7 +121,7 @@ next-line-spec =
     same-length
     same-length-2
     returns
-    fill-requires
+    read-requires
     refilled-requires
     same-length-3
     same-length-4

@@ -3,7 +3,7 @@ use mathlib.Core.Path.{_≡_, refl, _∙_}
 use mathlib.Core.List.{List}
 use Prim.Native.Nat.{ℕ, _-_, _≤_}
 use native.Mathlib.Omega.{arith}
-use lib.ListN.{length, length-map, length-set, drop, drop-of-length-le, length-drop}
+use lib.ListN.{length, length-map, length-set, drop, length-drop}
 use borrow.Author.Needs.{needs}
 use Rattle.base.proofs.LineFeed.{feed-found-at, all-taken-at}
 use Rattle.line_buffer.specs.declared.AfterBlank.{AfterBlank}
@@ -40,8 +40,7 @@ returns c =
     let l = c .before .before .before in
     takes _ (l .before .before .before .args .bytes .now) _ _ _ (l .loop .inv .0
     ∙ feed-found-at pushed _ _ (l .loop .i) (c .before .before .loop-test .taken) (c .if1 .taken)) refl refl
-    (simp length-drop (omega (arith, l .loop .inv .1, c .before .before .loop-test .taken))) refl
-    (λ _. (omega (arith, l .loop .inv .1), omega (arith, c .before .before .loop-test .taken)))
+    (simp length-drop (omega (arith, l .loop .inv .1, c .before .before .loop-test .taken)))
 
 slice-aggregate-keep : tie.Need-slice-aggregate-keep Inv-loop μ-loop
 slice-aggregate-keep c = search needs
@@ -80,8 +79,6 @@ returns-2 c =
     takes _ (l .before .before .before .args .bytes .now) _ _ _ (l .loop .inv .0
     ∙ all-taken-at pushed _ _ (l .loop .i) (c .loop-test .left)) refl refl
     (simp length-drop (omega (arith, l .loop .inv .1, l .loop .inv .3, c .loop-test .left)))
-    (drop-of-length-le _ (c .loop-test .left))
-    (λ e. absurd (let z : _≡_ {A = ℕ} 0 1 = cc e in omega arith))
 
 pub take-spec : {M : Type 1} → statement M
 take-spec =
