@@ -1,9 +1,10 @@
 """Damaged records, which the replay programs must report: the end of each stored list. And what a program prints of its list.
 
 Of a list's good records the shortest of each sort is damaged (`sort_of`): each number of its answer made one more and one less (of
-the 101 bytes of a rendered text the first, the middle and the last), a number dropped at the end, a number added there; in eval and
-search the draw winner made a letter that is none, and a field dropped and added. Then come lines that are no records: letters, a
-kind that there is not, nothing at all, and a good record that zeros make too long. lists.py says what a record holds.
+the 101 bytes of a rendered text the first, the middle and the last), a number dropped at the end, a number added there; in endgame
+the last listed move dropped and doubled, and the first two swapped; in eval and search the draw winner made a letter that is none, and
+a field dropped and added. Then come lines that are no records: letters, a kind that there is not, nothing at all, and a good record
+that zeros make too long. lists.py says what a record holds.
 """
 import re
 from lists import LONGEST, RECORDS
@@ -60,8 +61,8 @@ def sort_of(name, fields):
     if name == "eval":
         return fields[1], fields[2][:1] == "-", fields[2] == "0"
     if name == "endgame":
-        made, status, *_ = numbers = numbers_of(fields[1])
-        return made, status, numbers[9], numbers[4] > 0
+        refusal, status, *_ = numbers = numbers_of(fields[1])
+        return refusal, status, numbers[9], numbers[4] > 0, len(numbers) > 11
     ending, _, depth, below, *_ = last = numbers_of(fields[-1])
     if len(fields) > 7:
         return "several", ending
@@ -93,20 +94,23 @@ def changed(numbers, places):
     yield numbers + [0]
 
 
-def endgame_places(numbers):
-    """All but the moves that are judged."""
-    return [i for i in range(len(numbers)) if i < 8 or i % 3 != 2]
+def endgame_changed(numbers):
+    """At any place; then the last listed move, three numbers, dropped and doubled, and the first two swapped."""
+    yield from changed(numbers, range(len(numbers)))
+    yield numbers[:-3]
+    yield numbers + numbers[-3:]
+    if len(numbers) > 11:
+        yield numbers[:8] + numbers[11:14] + numbers[8:11] + numbers[14:]
 
 
-def search_places(numbers):
-    """All but the sign of a score that is 0."""
+def search_changed(numbers):
+    """Any but the sign of a score that is 0."""
     signs = [3, *range(9 + numbers[2] + 1, len(numbers), 8)]
-    return [i for i in range(len(numbers)) if i not in signs or numbers[i + 1] > 0]
+    yield from changed(numbers, [i for i in range(len(numbers)) if i not in signs or numbers[i + 1] > 0])
 
 
-def changed_within(fields, at, places):
-    numbers = numbers_of(fields[at])
-    for damaged in changed(numbers, places(numbers)):
+def changed_within(fields, at, changes):
+    for damaged in changes(numbers_of(fields[at])):
         yield fields[:at] + [" ".join(map(str, damaged))] + fields[at + 1:]
 
 
@@ -118,10 +122,10 @@ def damaged_record(name, fields):
     if name == "eval":
         yield from (fields[:2] + [str(int(fields[2]) + n)] for n in (1, -1))
     elif name == "endgame":
-        yield from changed_within(fields, 1, endgame_places)
+        yield from changed_within(fields, 1, endgame_changed)
     else:
         for at in range(6, len(fields), 3):
-            yield from changed_within(fields, at, search_places)
+            yield from changed_within(fields, at, search_changed)
     if name != "endgame":
         yield fields[:1] + ["Y"] + fields[2:]
     yield fields[:-1]

@@ -31,8 +31,9 @@ Of endgame it is two fields parted by tabs: a position's text; numbers parted by
     then of each listed move: move answer status
 
 refusal is 0 for an analysis, or 14; answer is 0 for a move that is judged, 10 or 14 for a refusal. A refusal has
-the full set, and 14 no counts. Where the Rust lists no move, as where it panics, the first cell of the first
-board is judged.
+the full set, and 14 no counts. The moves are those that the Rust lists: what play accepts, and of a finished game what it would
+accept if the game went on. Where it lists none, as where it panics (in an unfinished position with a side's line of boards, or with no
+open board and a free choice), the first cell of the first board is judged.
 
 Of search a record is one memory and the searches that use it, one after the other; fields parted by tabs: the table's entries;
 the draw winner; the allowance; the responses at the start, three numbers each (side that made the previous

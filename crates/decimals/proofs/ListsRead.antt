@@ -19,7 +19,7 @@ use Rattle.decimals.specs.declared.list.Scan.{Scan}
 use Rattle.decimals.specs.declared.list.Count.{Count}
 use Rattle.decimals.specs.declared.list.Count.the-variants.{Of}
 use Rattle.decimals.specs.Numbers.{with-digit, and-then, digits-after, read-number}
-use Rattle.decimals.specs.Lists.{with-first, parts, number-before, numbers-of, at-most, count-of}
+use Rattle.decimals.specs.Lists.{with-first, text-parts, number-before, numbers-of, at-most, count-of}
 use Rattle.decimals.specs.Lists.{new-scan, with-number, ends, scanned, words-after, Scanned, scanned-all, counted, ListRead}
 
 -- ---- options of lists
@@ -55,14 +55,14 @@ abbrev numbers-from : Bool → ℕ → List (List ℕ) → Option (List ℕ)
 numbers-from any value [] = none
 numbers-from any value (p ∷ ps) = number-before (part-from any value p) (numbers-of ps)
 
-pub first-part : (text : List ℕ) → (p : List ℕ) × (ps : List (List ℕ)) × (parts text ≡ p ∷ ps)
-unfolding parts
+pub first-part : (text : List ℕ) → (p : List ℕ) × (ps : List (List ℕ)) × (text-parts text ≡ p ∷ ps)
+unfolding text-parts
 first-part [] = ([], [], refl)
 first-part (b ∷ bs) =
     if-ind (λ (qs : List (List ℕ)). (p : List ℕ) × (ps : List (List ℕ)) × (qs ≡ p ∷ ps)) (eqb b space) _ _
-    (λ _. ([], parts bs, refl)) (λ _. let f = first-part bs in (b ∷ f .0, f .1, rw (f .2)))
+    (λ _. ([], text-parts bs, refl)) (λ _. let f = first-part bs in (b ∷ f .0, f .1, rw (f .2)))
 
-new-part : (text : List ℕ) → numbers-from false 0 (parts text) ≡ numbers-of (parts text)
+new-part : (text : List ℕ) → numbers-from false 0 (text-parts text) ≡ numbers-of (text-parts text)
 unfolding numbers-of
 new-part text = let f = first-part text in rw (f .2)
 
@@ -113,13 +113,13 @@ part-ends true value done (w ∷ rest) said next bad more =
 -- ---- a text
 digit-read : (any : Bool) (value b : ℕ) (bs done rest : List ℕ) → (any ≡ false → value ≡ 0) → (n : Number) →
     with-digit value b ≡ n →
-    ((more : ℕ) → Outcome done rest (numbers-from true more (parts bs)) (scanned-all (state true more done) (done ++ rest) bs)) →
-    Outcome done rest (numbers-from any value (with-first b (parts bs)))
+    ((more : ℕ) → Outcome done rest (numbers-from true more (text-parts bs)) (scanned-all (state true more done) (done ++ rest) bs)) →
+    Outcome done rest (numbers-from any value (with-first b (text-parts bs)))
     (scanned-all (with-number (state any value done) n) (done ++ rest) bs)
 digit-read any value b bs done rest z n e more = let f = first-part bs in go n e f
   where
-    go : (n : Number) → with-digit value b ≡ n → (p : List ℕ) × (ps : List (List ℕ)) × (parts bs ≡ p ∷ ps) →
-        Outcome done rest (numbers-from any value (with-first b (parts bs)))
+    go : (n : Number) → with-digit value b ≡ n → (p : List ℕ) × (ps : List (List ℕ)) × (text-parts bs ≡ p ∷ ps) →
+        Outcome done rest (numbers-from any value (with-first b (text-parts bs)))
         (scanned-all (with-number (state any value done) n) (done ++ rest) bs)
     go (Is m) e f = rw (f .2, longer-part any value b (f .0) z, e) (rw (f .2) at (more m))
     go Bad e f =
@@ -128,24 +128,24 @@ digit-read any value b bs done rest z n e more = let f = first-part bs in go n e
 
 abbrev TextRead : List ℕ → Bool → ℕ → List ℕ → List ℕ → Type 0
 TextRead text any value done rest =
-    Outcome done rest (numbers-from any value (parts text)) (scanned-all (state any value done) (done ++ rest) text)
+    Outcome done rest (numbers-from any value (text-parts text)) (scanned-all (state any value done) (done ++ rest) text)
 
 byte-read : (any : Bool) (value b : ℕ) (bs done rest : List ℕ) → (any ≡ false → value ≡ 0) →
     ((any : Bool) (value : ℕ) (done rest : List ℕ) → (any ≡ false → value ≡ 0) → TextRead bs any value done rest) →
     (c : Bool) → eqb b space ≡ c →
-    Outcome done rest (numbers-from any value (if c then (λ _. [] ∷ parts bs) else λ _. with-first b (parts bs)))
+    Outcome done rest (numbers-from any value (if c then (λ _. [] ∷ text-parts bs) else λ _. with-first b (text-parts bs)))
     (scanned-all (scanned (state any value done) b (length (done ++ rest))) (words-after (state any value done) b (done ++ rest)) bs)
 unfolding if_then_else_ scanned words-after
 byte-read any value b bs done rest z more true e =
     let s : b ≡ space = eqb→eq b space (rw e tt) in
-    rw s (part-ends any value done rest (numbers-of (parts bs)) (λ s words. scanned-all s words bs) (all-bad bs)
+    rw s (part-ends any value done rest (numbers-of (text-parts bs)) (λ s words. scanned-all s words bs) (all-bad bs)
     (λ done rest. rw (new-part bs) at (more false 0 done rest (λ _. refl))))
 byte-read any value b bs done rest z more false e =
     rw e (digit-read any value b bs done rest z (with-digit value b) refl (λ m. more true m done rest (λ f. absurd (true≢false f))))
 
 text-read : (text : List ℕ) (any : Bool) (value : ℕ) (done rest : List ℕ) → (any ≡ false → value ≡ 0) →
     TextRead text any value done rest
-unfolding scanned-all parts numbers-of
+unfolding scanned-all text-parts numbers-of
 text-read [] any value done rest z =
     part-ends any value done rest (some []) (λ s words. record { scan = s; words = words }) (λ s words e. e)
     (λ done rest. all-read [] refl (omega arith) refl (omega arith) refl)
@@ -153,7 +153,7 @@ text-read (b ∷ bs) any value done rest z = byte-read any value b bs done rest 
 
 -- ---- what is answered
 module _ (text words : List ℕ) where
-  outcome : Outcome [] words (numbers-of (parts text)) (scanned-all new-scan words text)
+  outcome : Outcome [] words (numbers-of (text-parts text)) (scanned-all new-scan words text)
   outcome = rw (new-part text) at (text-read text false 0 [] words (λ _. refl))
 
   answered : (said : Option (List ℕ)) (r : Scanned) → Outcome [] words said r →
@@ -171,5 +171,5 @@ module _ (text words : List ℕ) where
   pub list-read : (r : Count) (after : List ℕ) → r ≡ counted (scanned-all new-scan words text .scan) →
       after ≡ scanned-all new-scan words text .words → ListRead text words r after
   list-read r after c w =
-      let a = answered (numbers-of (parts text)) (scanned-all new-scan words text) outcome in
+      let a = answered (numbers-of (text-parts text)) (scanned-all new-scan words text) outcome in
       record { count-is = c ∙ a .0; written = λ ns e. w ∙ a .1 ns e; words-are = w }

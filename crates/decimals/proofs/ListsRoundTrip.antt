@@ -17,7 +17,7 @@ use Rattle.decimals.specs.declared.number.Number.the-variants.{Is, Bad}
 use Rattle.decimals.specs.declared.list.Count.{Count}
 use Rattle.decimals.specs.declared.list.Count.the-variants.{Of}
 use Rattle.decimals.specs.Numbers.{with-digit, digits-after, read-number}
-use Rattle.decimals.specs.Lists.{parts, number-before, numbers-of, at-most, list-of, list-text, count-of, ListRead}
+use Rattle.decimals.specs.Lists.{text-parts, number-before, numbers-of, at-most, list-of, list-text, count-of, ListRead}
 use Rattle.decimals.proofs.NumbersRoundTrip.{digit-read, first-digit-read, number-reads-back, AfterZeros, read-is-decimal}
 use Rattle.decimals.proofs.ListsRead.{first-part}
 
@@ -26,8 +26,8 @@ spaced-first : (b : ℕ) (q : List ℕ) (qs : List (List ℕ)) → spaced ((b �
 spaced-first b q [] = refl
 spaced-first b q (r ∷ rs) = refl
 
-pub parts-make-text : (text : List ℕ) → spaced (parts text) ≡ text
-unfolding parts
+pub parts-make-text : (text : List ℕ) → spaced (text-parts text) ≡ text
+unfolding text-parts
 parts-make-text [] = refl
 parts-make-text (b ∷ bs) =
     let f = first-part bs in
@@ -44,17 +44,17 @@ abbrev pub EachBlankless : List (List ℕ) → Type 0
 EachBlankless [] = Unit {0}
 EachBlankless (p ∷ ps) = Blankless p × EachBlankless ps
 
-one-part : (p : List ℕ) → Blankless p → parts p ≡ p ∷ []
-unfolding parts if_then_else_
+one-part : (p : List ℕ) → Blankless p → text-parts p ≡ p ∷ []
+unfolding text-parts if_then_else_
 one-part [] h = refl
 one-part (b ∷ bs) h = rw (ne-eqb b space (h .0), one-part bs (h .1))
 
-part-before : (p rest : List ℕ) → Blankless p → parts (p ++ (space ∷ rest)) ≡ p ∷ parts rest
-unfolding parts if_then_else_
+part-before : (p rest : List ℕ) → Blankless p → text-parts (p ++ (space ∷ rest)) ≡ p ∷ text-parts rest
+unfolding text-parts if_then_else_
 part-before [] rest h = refl
 part-before (b ∷ bs) rest h = rw (ne-eqb b space (h .0), part-before bs rest (h .1))
 
-pub spaced-parts : (p : List ℕ) (ps : List (List ℕ)) → EachBlankless (p ∷ ps) → parts (spaced (p ∷ ps)) ≡ p ∷ ps
+pub spaced-parts : (p : List ℕ) (ps : List (List ℕ)) → EachBlankless (p ∷ ps) → text-parts (spaced (p ∷ ps)) ≡ p ∷ ps
 spaced-parts p [] h = one-part p (h .0)
 spaced-parts p (q ∷ qs) h = part-before p (spaced (q ∷ qs)) (h .0) ∙ ap (_∷_ p) (spaced-parts q qs (h .1))
 
@@ -136,13 +136,13 @@ said-by room (some ms) ns e = go (leb (length ms) room) refl e
     go false h e = absurd (Option·none-ne-some ns e)
 
 pub read-is-text : (room : ℕ) (text ns : List ℕ) → list-of room text ≡ some ns →
-    EachAfterZeros (parts text) ns × (length ns ≤ room)
+    EachAfterZeros (text-parts text) ns × (length ns ≤ room)
 read-is-text room text ns e =
-    let s = said-by room (numbers-of (parts text)) ns e in (parts-are-decimals (parts text) ns (s .0), s .1)
+    let s = said-by room (numbers-of (text-parts text)) ns e in (parts-are-decimals (text-parts text) ns (s .0), s .1)
 
 -- ---- texts at the edges
 computing : Unit {0}
-unfolding quoted parts numbers-of read-number digits-after with-digit if_then_else_
+unfolding quoted text-parts numbers-of read-number digits-after with-digit if_then_else_
 computing = tt
 
 -- leading zeros count for nothing; the largest number; as many as there is room for

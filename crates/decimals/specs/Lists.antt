@@ -22,9 +22,9 @@ with-first b [] = (b ∷ []) ∷ []
 with-first b (p ∷ ps) = (b ∷ p) ∷ ps
 
 -- a text cut at each blank; one without a blank is its only part
-unfoldable pub parts : List ℕ → List (List ℕ)
-parts [] = [] ∷ []
-parts (b ∷ bs) = if eqb b space then (λ _. [] ∷ parts bs) else λ _. with-first b (parts bs)
+unfoldable pub text-parts : List ℕ → List (List ℕ)
+text-parts [] = [] ∷ []
+text-parts (b ∷ bs) = if eqb b space then (λ _. [] ∷ text-parts bs) else λ _. with-first b (text-parts bs)
 
 abbrev pub number-before : Number → Option (List ℕ) → Option (List ℕ)
 number-before Bad ns = none
@@ -42,7 +42,7 @@ at-most room (some ns) = if leb (length ns) room then (λ _. some ns) else λ _.
 
 -- the numbers of a text, if there is room for them
 abbrev pub list-of : ℕ → List ℕ → Option (List ℕ)
-list-of room text = at-most room (numbers-of (parts text))
+list-of room text = at-most room (numbers-of (text-parts text))
 
 -- the text of a list of numbers
 abbrev pub list-text : List ℕ → List ℕ

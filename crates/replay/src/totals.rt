@@ -1,8 +1,8 @@
 // How many records agree, and what is printed of them.
 ghost use mathlib.Core.Path.{_≡_};
-ghost use mathlib.Core.Bool.{true, false};
 ghost use Rattle.answer_text.specs.AnswerBytes.{text-of-bytes};
-ghost use Rattle.replay.specs.Totals.{comparison, with-record, record-text, verdict-text, may-go-on, RecordCounted};
+ghost use Rattle.replay.specs.Totals.{comparison, new-totals, with-record, counted-record, printed, RecordCounted, may-go-on};
+ghost use Rattle.replay.specs.Totals.{record-text, verdict-text, last-text, told-text, Concludes};
 use answer_text::AnswerText;
 use input::one_more;
 use libc::STDERR_FILENO;
@@ -40,6 +40,19 @@ pub struct Totals {
     pub written: bool,
 }
 
+// The totals with a record more, and what is printed of it.
+struct CountedRecord {
+    totals: Totals,
+    text: AnswerText,
+}
+
+// The end of a list: what was printed, the totals after it, and what was told.
+pub struct Conclusion {
+    pub text: AnswerText,
+    pub totals: Totals,
+    pub told: AnswerText,
+}
+
 // What is printed of a record, by its number: nothing if it agrees.
 fn record_text(number: usize, outcome: Comparison) -> AnswerText
     ensures { λ r. ⌜ r ≡ text-of-bytes (record-text number outcome) ⌝ }
@@ -55,12 +68,16 @@ fn record_text(number: usize, outcome: Comparison) -> AnswerText
 }
 
 impl Totals {
-    pub const NEW: Totals = Totals {
-        records: 0,
-        agreed: 0,
-        apart: 0,
-        written: true,
-    };
+    pub fn new() -> Totals
+        ensures { λ r. ⌜ r ≡ new-totals ⌝ }
+    {
+        Totals {
+            records: 0,
+            agreed: 0,
+            apart: 0,
+            written: true,
+        }
+    }
 
     // One record more.
     fn with_record(self, outcome: Comparison) -> Totals
@@ -90,21 +107,39 @@ impl Totals {
         }
     }
 
+    // One record more, with what is printed of it.
+    fn counted(self, outcome: Comparison) -> CountedRecord
+        ensures { λ r. ⌜ r ≡ counted-record self outcome ⌝ }
+    {
+        let totals = self.with_record(outcome);
+        let text = record_text(totals.records, outcome);
+        CountedRecord { totals, text }
+    }
+
+    // The totals after a print: `all` says whether all of it was written.
+    fn printed(self, all: bool) -> Totals
+        ensures { λ r. ⌜ r ≡ printed self all ⌝ }
+    {
+        Totals {
+            written: self.written & all,
+            ..self
+        }
+    }
+
     // One record more; one that differs is printed with its number.
     pub fn count(self, outcome: Comparison) -> Totals
         ensures { λ r. ⌜ RecordCounted self outcome r ⌝ }
     {
-        let counted = self.with_record(outcome);
-        let text = record_text(counted.records, outcome);
+        let counted = self.counted(outcome);
+        let totals = counted.totals;
+        let text = counted.text;
         let bytes = text.bytes;
         let n = text.written();
-        let printed = io::write_all(STDOUT_FILENO, &bytes[..n]);
-        Totals {
-            records: counted.records,
-            agreed: counted.agreed,
-            apart: counted.apart,
-            written: if printed { counted.written } else { false },
+        // Nothing to print, and nothing to mark.
+        if n == 0 {
+            return totals;
         }
+        totals.printed(io::write_all(STDOUT_FILENO, &bytes[..n]))
     }
 
     // Whether records may go on to be counted.
@@ -132,25 +167,46 @@ impl Totals {
         apart.text(b" of them ").text(said).push(b'\n')
     }
 
-    // Prints the verdict; where not all could be read or written, that is said on standard error.
-    // The answer: the list was read to its end, and all was written.
-    pub fn conclude(self, said: &[u8], failed: bool) -> bool
-        ensures { λ r. ⌜ (r ≡ true → (failed ≡ false) × (self .written ≡ true)) ⌝ }
+    // What is printed at the end of a list: nothing if not all could be read.
+    fn last_text(self, said: &[u8], failed: bool) -> AnswerText
+        ensures { λ r. ⌜ r ≡ text-of-bytes (last-text self (now (said .entry)) failed) ⌝ }
     {
         if failed {
-            io::write_all(STDERR_FILENO, b"reading failed: the list is not whole\n");
-            return false;
+            AnswerText::new()
+        } else {
+            self.verdict(said)
         }
-        let text = self.verdict(said);
+    }
+
+    // What is told on standard error: that not all could be read, or else that not all was written.
+    fn told(self, failed: bool) -> AnswerText
+        ensures { λ r. ⌜ r ≡ text-of-bytes (told-text failed (self .written)) ⌝ }
+    {
+        if failed {
+            return AnswerText::new()
+                .text(b"reading failed: the list is not whole")
+                .push(b'\n');
+        }
+        if self.written {
+            return AnswerText::new();
+        }
+        AnswerText::new()
+            .text(b"writing failed: not all is printed")
+            .push(b'\n')
+    }
+
+    // The end of a list: the last text is printed, and what failed is told on standard error.
+    pub fn conclude(self, said: &[u8], failed: bool) -> Conclusion
+        ensures { λ r. ⌜ Concludes self (now (said .entry)) failed r ⌝ }
+    {
+        let text = self.last_text(said, failed);
         let bytes = text.bytes;
         let n = text.written();
-        let printed = io::write_all(STDOUT_FILENO, &bytes[..n]);
-        if printed {
-            if self.written {
-                return true;
-            }
-        }
-        io::write_all(STDERR_FILENO, b"writing failed: not all is printed\n");
-        false
+        let totals = self.printed(io::write_all(STDOUT_FILENO, &bytes[..n]));
+        let told = totals.told(failed);
+        let bytes = told.bytes;
+        let n = told.written();
+        io::write_all(STDERR_FILENO, &bytes[..n]);
+        Conclusion { text, totals, told }
     }
 }

@@ -1,2 +1,3 @@
+pub mod RecordsMoves
 pub mod RecordsCompared
 pub mod Records

@@ -3,10 +3,8 @@ use mathlib.Core.Path.{_≡_, refl, sym, ap, _∙_}
 use mathlib.Core.Bool.{true, false}
 use mathlib.Core.List.{List}
 use mathlib.Core.Option.{none, some}
-use Prim.Native.Nat.{ℕ, _≤_}
-use native.Mathlib.Omega.{arith}
+use Prim.Native.Nat.{ℕ}
 use lib.Dec.{eqb}
-use lib.ListN.{length, take, length-take}
 use Rattle.base.specs.Branch.{if_then_else_}
 use Rattle.base.specs.Lists.{count}
 use Rattle.text.specs.Reading.{Reading, reads, refuses, read}
@@ -30,10 +28,6 @@ module _ (text ns : List ℕ) (r : Parsed) (parses : Parses text r) where
 
   pub position-found : r .answer ≡ Accepted → comparison-of (position-of (r .game)) ns ≡ comparison-for (read text) (some ns)
   position-found q = rw (read-as q)
-
--- the first words of a record are not too many
-pub first-few : (n : ℕ) (words : List ℕ) → n ≤ 256 → length (take n words) ≤ 256
-first-few n words h = rw (length-take n words) (omega arith)
 
 none-differs : (r : Reading) → comparison-for r none ≡ Differs
 none-differs (refuses n offset size) = refl

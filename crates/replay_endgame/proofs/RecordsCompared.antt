@@ -1,11 +1,9 @@
 -- The numbers of an analysis and of moves, compared one after the other.
-use mathlib.Core.Path.{_≡_, refl, sym, ap, _∙_}
+use mathlib.Core.Path.{_≡_, sym, ap, _∙_}
 use mathlib.Core.Bool.{Bool}
 use mathlib.Core.List.{List, [], _∷_}
-use Prim.Native.Nat.{ℕ, suc, _+_, _%_, _<_, _≤_}
-use native.Mathlib.Omega.{arith}
-use lib.ListN.{length, getD, drop, drop-of-length-le}
-use lib.Seq.{drop-cons, drop-drop}
+use Prim.Native.Nat.{ℕ}
+use lib.ListN.{length}
 use Rattle.base.specs.Lists.{concat-map}
 use Rattle.rules.specs.Position.{Position}
 use Rattle.rules.specs.Status.{as-byte}
@@ -20,7 +18,15 @@ use Rattle.endgame.specs.Means.{analysis-number, move-status-number, endgame-st
 use Rattle.replay.specs.declared.agreement.Agreement.{Agreement}
 use Rattle.replay.specs.Agreement.{same-numbers, new-agreement, compared, compared-all, wholly-agrees}
 use Rattle.replay.proofs.AgreementCompared.{compared-append, compared-is-same}
-use Rattle.replay_endgame.specs.Records.{stats-numbers, analysis-numbers, move-numbers, moves-of, record-of}
+use Rattle.replay_endgame.specs.Records.{
+  listed-moves,
+  expected-moves,
+  stats-numbers,
+  analysis-numbers,
+  move-numbers,
+  record-of,
+}
+use Rattle.replay_endgame.proofs.RecordsMoves.{first-expected, some-expected}
 
 -- ---- the analysis
 analysis-said : (g : Game) (r : Analysis) → Analyses g r →
@@ -57,39 +63,38 @@ module _ (ns : List ℕ) (a : Agreement) where
       (eb ∙ ap (λ (t : Status). t .bits) (h .status))
 
 -- ---- the listed moves
-one-move : (m : ℕ) (ns : List ℕ) → moves-of (m ∷ ns) ≡ m % 256 ∷ moves-of (drop 2 ns)
-one-move m [] = refl
-one-move m (n ∷ []) = refl
-one-move m (n ∷ s ∷ ns) = refl
-
-module _ (ns : List ℕ) (p : Position) (at : ℕ) where
-  next-moves : at < length ns → moves-of (drop at ns) ≡ getD ns at 0 % 256 ∷ moves-of (drop (at + 3) ns)
-  next-moves h =
-      let past : suc at + 2 ≡ at + 3 = omega arith in
-      ap moves-of (drop-cons ns at 0 h) ∙ one-move (getD ns at 0) (drop (suc at) ns) ∙
-      ap (λ (l : List ℕ). getD ns at 0 % 256 ∷ moves-of l)
-      (drop-drop 2 (suc at) ns ∙ ap (λ (k : ℕ). drop k ns) past)
-
-  pub moves-go-on : (a r : Agreement) → at < length ns → r ≡ compared-all ns a (move-numbers p (getD ns at 0 % 256)) →
-      compared-all ns r (concat-map (move-numbers p) (moves-of (drop (at + 3) ns)))
-      ≡ compared-all ns a (concat-map (move-numbers p) (moves-of (drop at ns)))
+module _ (ns : List ℕ) (p : Position) (a : Agreement) where
+  pub moves-go-on : (m : ℕ) {ms rest : List ℕ} → ms ≡ m ∷ rest → {r : Agreement} → r ≡ compared-all ns a (move-numbers p m) →
+      compared-all ns r (concat-map (move-numbers p) rest) ≡ compared-all ns a (concat-map (move-numbers p) ms)
   unfolding concat-map
-  moves-go-on a r h e =
-      let rest = concat-map (move-numbers p) (moves-of (drop (at + 3) ns)) in
-      ap (λ (x : Agreement). compared-all ns x rest) e ∙ sym (compared-append ns a (move-numbers p (getD ns at 0 % 256)) rest) ∙
-      ap (λ (ms : List ℕ). compared-all ns a (concat-map (move-numbers p) ms)) (sym (next-moves h))
+  moves-go-on m {ms} {rest} e f =
+      let others = concat-map (move-numbers p) rest in
+      ap (λ (x : Agreement). compared-all ns x others) f ∙ sym (compared-append ns a (move-numbers p m) others) ∙
+      ap (λ (l : List ℕ). compared-all ns a (concat-map (move-numbers p) l)) (sym e)
 
-  pub moves-end : (a : Agreement) → length ns ≤ at → compared-all ns a (concat-map (move-numbers p) (moves-of (drop at ns))) ≡ a
+  pub moves-end : {ms : List ℕ} → ms ≡ [] → compared-all ns a (concat-map (move-numbers p) ms) ≡ a
   unfolding concat-map
-  moves-end a h = ap (λ (l : List ℕ). compared-all ns a (concat-map (move-numbers p) (moves-of l))) (drop-of-length-le ns h)
+  moves-end e = ap (λ (l : List ℕ). compared-all ns a (concat-map (move-numbers p) l)) e
+
+  pub first-compared : length (listed-moves p) ≡ 0 → {r : Agreement} → r ≡ compared-all ns a (move-numbers p 0) →
+      r ≡ compared-all ns a (concat-map (move-numbers p) (expected-moves p))
+  unfolding concat-map
+  first-compared h f =
+      f ∙ ap (λ (l : List ℕ). compared-all ns a (concat-map (move-numbers p) l)) (sym (first-expected p h))
+
+  pub some-compared : (length (listed-moves p) ≡ 0 → ⊥) → {ms : List ℕ} → ms ≡ listed-moves p → {r : Agreement} →
+      r ≡ compared-all ns a (concat-map (move-numbers p) ms) →
+      r ≡ compared-all ns a (concat-map (move-numbers p) (expected-moves p))
+  some-compared h e f =
+      f ∙ ap (λ (l : List ℕ). compared-all ns a (concat-map (move-numbers p) l)) (e ∙ sym (some-expected p h))
 
 -- ---- the whole record
-pub whole-is-record : (ns : List ℕ) (p : Position) (ms : List ℕ) {a₁ a₂ : Agreement} {r : Bool} →
+pub whole-is-record : (ns : List ℕ) (p : Position) {a₁ a₂ : Agreement} {r : Bool} →
     a₁ ≡ compared-all ns new-agreement (analysis-numbers (analysis p)) →
-    a₂ ≡ compared-all ns a₁ (concat-map (move-numbers p) ms) →
-    r ≡ wholly-agrees ns a₂ → r ≡ same-numbers ns (record-of p ms)
-whole-is-record ns p ms e₁ e₂ e =
-    let moves = concat-map (move-numbers p) ms in
+    a₂ ≡ compared-all ns a₁ (concat-map (move-numbers p) (expected-moves p)) →
+    r ≡ wholly-agrees ns a₂ → r ≡ same-numbers ns (record-of p)
+whole-is-record ns p e₁ e₂ e =
+    let moves = concat-map (move-numbers p) (expected-moves p) in
     e ∙ ap (wholly-agrees ns) (e₂ ∙ ap (λ (x : Agreement). compared-all ns x moves) e₁ ∙
     sym (compared-append ns new-agreement (analysis-numbers (analysis p)) moves)) ∙
-    compared-is-same ns (record-of p ms)
+    compared-is-same ns (record-of p)

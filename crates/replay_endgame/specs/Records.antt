@@ -1,14 +1,17 @@
 -- A record of the endgame analysis, and what is found of it: a position's text, a tab, and numbers, those of the analysis and three of
 -- each listed move.
-use mathlib.Core.Bool.{Bool, _||_}
+use mathlib.Core.Bool.{Bool, _&&_, _||_}
 use mathlib.Core.List.{List, [], _∷_, _++_}
 use mathlib.Core.Option.{Option, none, some}
-use Prim.Native.Nat.{ℕ, _%_}
+use Prim.Native.Nat.{ℕ}
 use lib.Dec.{eqb}
-use lib.ListN.{getD, drop}
+use lib.ListN.{getD}
 use Rattle.base.specs.Branch.{if_then_else_}
-use Rattle.base.specs.Lists.{concat-map}
-use Rattle.rules.specs.Position.{Position}
+use Rattle.base.specs.Lists.{any, concat-map}
+use Rattle.rules.specs.declared.GameState.the-variants.{InPlay}
+use Rattle.rules.specs.Board.{sides, has-line}
+use Rattle.rules.specs.Position.{Position, unfinished, won-boards}
+use Rattle.rules.specs.Moves.{moves}
 use Rattle.rules.specs.Status.{as-byte}
 use Rattle.rules.specs.Endgame.{EndgameStats, Analysis, analysis, evaluate-move}
 use Rattle.text.specs.Reading.{Reading, reads, refuses, read}
@@ -18,6 +21,28 @@ use Rattle.replay.specs.declared.totals.Comparison.the-variants.{Differs}
 use Rattle.replay.specs.Agreement.{same-numbers}
 use Rattle.replay.specs.Fields.{field, tabs}
 use Rattle.replay.specs.Totals.{comparison}
+
+-- ---- the moves that a record lists, by its position alone
+-- an unfinished position in which a side has a line of boards
+abbrev pub is-lined : Position → Bool
+is-lined p = unfinished p && any (λ w. has-line (won-boards p w)) sides
+
+-- the position as if the game went on
+abbrev pub reopened : Position → Position
+reopened p = record { turn = p .turn; next-board = p .next-board; cells = p .cells; states = p .states; state = InPlay }
+
+-- what the Rust lists: the rules' moves, of a finished game as if it went on; none where its analysis panics on a line of boards
+unfoldable pub listed-moves : Position → List ℕ
+listed-moves p = if is-lined p then (λ _. []) else λ _. moves (reopened p)
+
+-- where none is listed, the first cell of the first board
+abbrev pub or-first : List ℕ → List ℕ
+or-first [] = 0 ∷ []
+or-first (m ∷ ms) = m ∷ ms
+
+-- just these, in this order
+abbrev pub expected-moves : Position → List ℕ
+expected-moves p = or-first (listed-moves p)
 
 -- ---- the numbers
 abbrev pub stats-numbers : EndgameStats → List ℕ
@@ -32,20 +57,9 @@ analysis-numbers a = a .refusal ∷ as-byte (a .status) ∷ stats-numbers (a .st
 abbrev pub move-numbers : Position → ℕ → List ℕ
 move-numbers p m = let judged = evaluate-move p m in m ∷ judged .refusal ∷ as-byte (judged .status) ∷ []
 
--- the moves of which numbers are the threes: the first of each
-abbrev pub moves-of : List ℕ → List ℕ
-moves-of [] = []
-moves-of (m ∷ []) = m % 256 ∷ []
-moves-of (m ∷ answer ∷ []) = m % 256 ∷ []
-moves-of (m ∷ answer ∷ status ∷ ns) = m % 256 ∷ moves-of ns
-
--- the moves that a record lists, after the eight numbers of the analysis
-abbrev pub listed-moves : List ℕ → List ℕ
-listed-moves ns = moves-of (drop 8 ns)
-
--- the record of a position and moves
-abbrev pub record-of : Position → List ℕ → List ℕ
-record-of p ms = analysis-numbers (analysis p) ++ concat-map (move-numbers p) ms
+-- the record of a position
+abbrev pub record-of : Position → List ℕ
+record-of p = analysis-numbers (analysis p) ++ concat-map (move-numbers p) (expected-moves p)
 
 -- ---- what is found
 -- the position is refused with 14, or the first listed move with 10
@@ -54,7 +68,7 @@ is-apart ns = eqb (getD ns 0 0) 14 || eqb (getD ns 9 0) 10
 
 -- of the numbers of a position's record
 abbrev pub comparison-of : Position → List ℕ → Comparison
-comparison-of p ns = comparison (same-numbers ns (record-of p (listed-moves ns))) (is-apart ns)
+comparison-of p ns = comparison (same-numbers ns (record-of p)) (is-apart ns)
 
 -- a text that is no position differs, and so does what is no list of numbers
 abbrev pub comparison-for : Reading → Option (List ℕ) → Comparison

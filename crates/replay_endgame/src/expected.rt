@@ -1,21 +1,63 @@
-// The numbers that are expected of a position and the moves that a record lists, compared with the record's (tools/lists.py).
+// The numbers that are expected of a position and of the moves that the Rust lists there, compared with a record's (tools/lists.py).
 ghost use mathlib.Core.Path.{_≡_};
-ghost use Prim.Native.Nat.{_≤_};
-ghost use lib.ListN.{length};
 ghost use Rattle.base.specs.Lists.{concat-map};
 ghost use Rattle.rules.specs.Endgame.{analysis};
+ghost use Rattle.boards.specs.Cursor.{moves-left};
 ghost use Rattle.game.specs.Meaning.{position-of};
 ghost use Rattle.endgame.specs.Means.{endgame-stats-of};
 ghost use Rattle.replay.specs.Agreement.{compared-all, same-numbers};
-ghost use Rattle.replay_endgame.specs.Records.{stats-numbers, analysis-numbers, move-numbers, listed-moves, record-of, is-apart};
+ghost use Rattle.replay_endgame.specs.Records.{is-lined, reopened, listed-moves, expected-moves};
+ghost use Rattle.replay_endgame.specs.Records.{stats-numbers, analysis-numbers, move-numbers, record-of, is-apart};
+use boards::Listed;
 use boards::Move;
+use boards::MoveIterator;
 use endgame::Analysis;
 use endgame::EndgameStats;
 use game::Game;
+use lines::has_line;
 use replay::Agreement;
+use rules::GameState;
 
-// The numbers before the moves.
-const HEAD: usize = 8;
+// What is judged where no move is listed: the first cell of the first board.
+const FIRST: Move = Move { bits: 0 };
+
+// Whether the game is unfinished and a side has a line of boards: the Rust's analysis panics there, and lists nothing.
+fn is_lined(game: Game) -> bool
+    ensures { λ r. ⌜ r ≡ is-lined (position-of game) ⌝ }
+{
+    let states = game.global_states;
+    if game.game_over() {
+        return false;
+    }
+    if has_line(states.xbits()) {
+        return true;
+    }
+    has_line(states.obits())
+}
+
+// The game, finished or not, as if it went on.
+fn reopened(game: Game) -> Game
+    ensures { λ r. ⌜ position-of r ≡ reopened (position-of game) ⌝ }
+{
+    Game {
+        game_state: GameState::InPlay,
+        ..game
+    }
+}
+
+// The cursor over the moves that the Rust lists.
+fn listed(game: Game) -> MoveIterator
+    ensures { λ r. ⌜ moves-left r ≡ listed-moves (position-of game) ⌝ }
+{
+    if is_lined(game) {
+        return MoveIterator {
+            top: 0,
+            middle: 0,
+            bottom: 0,
+        };
+    }
+    reopened(game).all_moves()
+}
 
 fn with_stats(begun: Agreement, words: &[u64], stats: EndgameStats) -> Agreement
     ensures { λ r. ⌜ r ≡ compared-all (now (words .entry)) begun (stats-numbers (endgame-stats-of stats)) ⌝ }
@@ -36,10 +78,10 @@ fn with_analysis(begun: Agreement, words: &[u64], game: Game) -> Agreement
     let answer = analysis.answer;
     let status = analysis.status();
     let stats = analysis.stats;
-    let judged = begun
+    let so_far = begun
         .number(words, answer.number())
         .number(words, status.as_byte() as u64);
-    with_stats(judged, words, stats)
+    with_stats(so_far, words, stats)
 }
 
 fn with_move(begun: Agreement, words: &[u64], game: Game, m: Move) -> Agreement
@@ -54,29 +96,41 @@ fn with_move(begun: Agreement, words: &[u64], game: Game, m: Move) -> Agreement
         .number(words, status.as_byte() as u64)
 }
 
-// Each listed move stands three numbers after the one before.
-fn with_moves(begun: Agreement, words: &[u64], game: Game) -> Agreement
-    requires { ⌜ length (now words) ≤ 256 ⌝ }
+// The moves that a cursor has left.
+fn with_left(begun: Agreement, words: &[u64], game: Game, list: MoveIterator) -> Agreement
     ensures { λ r. ⌜ r ≡ compared-all (now (words .entry)) begun
-        (concat-map (move-numbers (position-of game)) (listed-moves (now (words .entry)))) ⌝ }
+        (concat-map (move-numbers (position-of game)) (moves-left list)) ⌝ }
 {
     let mut so_far = begun;
-    let mut at = HEAD;
-    while at < words.len() {
-        let m = Move {
-            bits: (words[at] % 256) as u8,
-        };
-        so_far = with_move(so_far, words, game, m);
-        at += 3;
+    let mut left = list;
+    loop {
+        match left.next() {
+            Listed::End => {
+                return so_far;
+            }
+            Listed::Next(m, rest) => {
+                so_far = with_move(so_far, words, game, m);
+                left = rest;
+            }
+        }
     }
-    so_far
 }
 
-// Whether a record is that of the position and of the moves that it lists.
+// The expected moves.
+fn with_moves(begun: Agreement, words: &[u64], game: Game) -> Agreement
+    ensures { λ r. ⌜ r ≡ compared-all (now (words .entry)) begun
+        (concat-map (move-numbers (position-of game)) (expected-moves (position-of game))) ⌝ }
+{
+    let list = listed(game);
+    if list.count() == 0 {
+        return with_move(begun, words, game, FIRST);
+    }
+    with_left(begun, words, game, list)
+}
+
+// Whether a record is the position's.
 pub(crate) fn is_met(words: &[u64], game: Game) -> bool
-    requires { ⌜ length (now words) ≤ 256 ⌝ }
-    ensures { λ r. ⌜ r ≡ same-numbers (now (words .entry))
-        (record-of (position-of game) (listed-moves (now (words .entry)))) ⌝ }
+    ensures { λ r. ⌜ r ≡ same-numbers (now (words .entry)) (record-of (position-of game)) ⌝ }
 {
     let analysed = with_analysis(Agreement::NEW, words, game);
     with_moves(analysed, words, game).is_whole(words)

@@ -3,8 +3,6 @@
 mod expected;
 
 ghost use mathlib.Core.Path.{_≡_};
-ghost use Prim.Native.Nat.{_≤_};
-ghost use lib.ListN.{length};
 ghost use mathlib.Core.Option.{some};
 ghost use Rattle.text.specs.Reading.{read};
 ghost use Rattle.replay.specs.Totals.{RecordCounted};
@@ -20,7 +18,6 @@ const MOST: usize = 256;
 
 // What is found of a position's text and its numbers. A text that is no position differs.
 fn comparison(position: &[u8], words: &[u64]) -> Comparison
-    requires { ⌜ length (now words) ≤ 256 ⌝ }
     ensures { λ r. ⌜ r ≡ comparison-for (read (now (position .entry))) (some (now (words .entry))) ⌝ }
 {
     let parsed = notation::parse(position);
@@ -55,12 +52,11 @@ fn step(totals: Totals, line: &[u8]) -> Totals
     totals.count(outcome(line))
 }
 
-// Ends where the input ends, where something can't be written, or with as many records as a word can count.
 fn main() {
     let mut buffer = io::large_buffer();
     let mut kept = io::buffer();
-    let mut input = Input::NEW;
-    let mut totals = Totals::NEW;
+    let mut input = Input::new();
+    let mut totals = Totals::new();
     while totals.may_go_on() {
         input = input.next_line(&mut buffer, &mut kept);
         if input.is_end() {

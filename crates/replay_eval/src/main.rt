@@ -60,12 +60,11 @@ fn step(totals: Totals, line: &[u8]) -> Totals
     totals.count(outcome(line))
 }
 
-// Ends where the input ends, where something can't be written, or with as many records as a word can count.
 fn main() {
     let mut buffer = io::large_buffer();
     let mut kept = io::buffer();
-    let mut input = Input::NEW;
-    let mut totals = Totals::NEW;
+    let mut input = Input::new();
+    let mut totals = Totals::new();
     while totals.may_go_on() {
         input = input.next_line(&mut buffer, &mut kept);
         if input.is_end() {

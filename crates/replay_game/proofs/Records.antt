@@ -1,4 +1,4 @@
--- Numbers compared one after the other: moves of the question, their answers, the moves of a list, and all of a record.
+-- Numbers compared one after the other: moves of the question, their answers, and all of a record.
 use mathlib.Core.Path.{_≡_, refl, sym, ap, ap₂, _∙_, subst}
 use mathlib.Core.Bool.{Bool, false, not}
 use mathlib.Core.List.{List, [], _∷_, _++_, map}
@@ -12,15 +12,9 @@ use Rattle.base.specs.Lists.{from}
 use Rattle.rules.specs.Position.{unfinished}
 use Rattle.rules.specs.Play.{move-of, no-move}
 use Rattle.boards.specs.Answers.{in-range}
-use Rattle.boards.specs.declared.moves.Move.{Move}
-use Rattle.boards.specs.declared.moves.MoveIterator.{MoveIterator}
-use Rattle.boards.specs.declared.moves.Listed.{Listed}
-use Rattle.boards.specs.declared.moves.Listed.the-variants.{Next, End}
-use Rattle.boards.specs.Cursor.{moves-left, cursor-over, listed}
-use Rattle.order.proofs.OrderCursor.{rest-left}
 use Rattle.game.specs.declared.Game.{Game}
 use Rattle.game.specs.Meaning.{position-of}
-use Rattle.game.specs.After.{games-after}
+use Rattle.game.specs.After.{games-after, answers-each}
 use Rattle.replay.specs.declared.agreement.Agreement.{Agreement}
 use Rattle.replay.specs.declared.totals.Comparison.{Comparison}
 use Rattle.replay.specs.Agreement.{new-agreement, compared, compared-all, wholly-agrees}
@@ -30,7 +24,6 @@ use Rattle.replay_game.specs.declared.Run.{Run}
 use Rattle.replay_game.specs.Records.{
   moves-from,
   moves-in,
-  answers,
   reached-numbers,
   moves-numbers,
   play-numbers,
@@ -61,39 +54,18 @@ module _ (f : ℕ → ℕ) where
 
 -- ---- moves tried one after the other
 pub none-run : (ns : List ℕ) (r : Run) → Runs ns (r .compared) (r .game) [] r
-unfolding answers games-after
+unfolding answers-each games-after
 none-run ns r = record { game-is = refl; compared-is = refl }
 
 pub more-run : (ns : List ℕ) (a : Agreement) (g : Game) (m : ℕ) (ms : List ℕ) (r q : Run) → Runs ns a g (m ∷ []) r →
     Runs ns (r .compared) (r .game) ms q → Runs ns a g (m ∷ ms) q
-unfolding answers games-after
+unfolding answers-each games-after
 more-run ns a g m ms r q h k =
     record {
       game-is = k .game-is ∙ ap (λ (x : Game). games-after x ms) (h .game-is);
       compared-is =
-          k .compared-is ∙ ap₂ (λ (x : Agreement) (y : Game). compared-all ns x (answers y ms)) (h .compared-is) (h .game-is);
+          k .compared-is ∙ ap₂ (λ (x : Agreement) (y : Game). compared-all ns x (answers-each y ms)) (h .compared-is) (h .game-is);
     }
-
--- ---- what a cursor gives next
-module _ (it : MoveIterator) where
-  next-of-left : (m : Move) (rest : MoveIterator) (ms : List ℕ) → moves-left it ≡ ms → Next m rest ≡ listed ms →
-      moves-left it ≡ m .bits ∷ moves-left rest
-  next-of-left m rest [] e h = absurd (let z : _≡_ {A = ℕ} 0 1 = cc in omega arith)
-  next-of-left m rest (n ∷ ns) e h =
-      let p : m ≡ record { bits = n } = cc in
-      let q : rest ≡ cursor-over ns = cc in
-      e ∙ sym (ap₂ (λ (x : ℕ) (xs : List ℕ). x ∷ xs) (ap (λ (y : Move). y .bits) p) (ap moves-left q ∙ rest-left it n ns e))
-
-  pub next-left : (l : Listed) → l ≡ listed (moves-left it) → (m : Move) (rest : MoveIterator) → l ≡ Next m rest →
-      moves-left it ≡ m .bits ∷ moves-left rest
-  next-left l p m rest q = next-of-left m rest (moves-left it) refl (sym q ∙ p)
-
-  end-of-left : (ms : List ℕ) → End ≡ listed ms → ms ≡ []
-  end-of-left [] h = refl
-  end-of-left (n ∷ ns) h = absurd (let z : _≡_ {A = ℕ} 0 1 = cc in omega arith)
-
-  pub none-left : (l : Listed) → l ≡ listed (moves-left it) → l ≡ End → moves-left it ≡ []
-  none-left l p q = end-of-left (moves-left it) (sym q ∙ p)
 
 -- ---- one list, then another
 pub joined : (ns : List ℕ) (a b r : Agreement) (xs ys : List ℕ) → b ≡ compared-all ns a xs → r ≡ compared-all ns b ys →
@@ -104,7 +76,7 @@ joined ns a b r xs ys e h = h ∙ ap (λ (q : Agreement). compared-all ns q ys) 
 abbrev parts-compared : List ℕ → Agreement → Game → List ℕ → Agreement
 parts-compared ns b g ms =
     let end = games-after g ms in
-    compared-all ns (compared-all ns (compared-all ns (compared-all ns b ms) (answers g ms)) (reached-numbers end))
+    compared-all ns (compared-all ns (compared-all ns (compared-all ns b ms) (answers-each g ms)) (reached-numbers end))
     (moves-numbers (position-of end))
 
 play-compared : (ns : List ℕ) (a : Agreement) (g : Game) (ms : List ℕ) →
@@ -113,8 +85,8 @@ play-compared ns a g ms =
     let end = games-after g ms in
     let last = moves-numbers (position-of end) in
     let two = reached-numbers end ++ last in
-    sym (compared-append ns (compared ns a (length ms)) ms (answers g ms ++ two)
-    ∙ compared-append ns (compared-all ns (compared ns a (length ms)) ms) (answers g ms) two
+    sym (compared-append ns (compared ns a (length ms)) ms (answers-each g ms ++ two)
+    ∙ compared-append ns (compared-all ns (compared ns a (length ms)) ms) (answers-each g ms) two
     ∙ compared-append ns _ (reached-numbers end) last)
 
 pub play-joined : (ns : List ℕ) (a counted asked there all : Agreement) (run : Run) (g : Game) (i k : ℕ) →

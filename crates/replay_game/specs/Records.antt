@@ -9,7 +9,6 @@ use lib.ListN.{length, getD}
 use Rattle.base.specs.Branch.{if_then_else_}
 use Rattle.base.specs.Bits.{digits}
 use Rattle.base.specs.Lists.{from}
-use Rattle.rules.specs.declared.Player.{Player}
 use Rattle.rules.specs.declared.Player.the-variants.{X, O}
 use Rattle.rules.specs.declared.CellState.{CellState}
 use Rattle.rules.specs.declared.CellState.the-variants.{Empty, Played}
@@ -17,7 +16,7 @@ use Rattle.rules.specs.declared.GameState.{GameState}
 use Rattle.rules.specs.declared.GameState.the-variants.{InPlay, Drawn, Won}
 use Rattle.rules.specs.declared.NextBoard.{NextBoard}
 use Rattle.rules.specs.declared.NextBoard.the-variants.{Any, Only}
-use Rattle.rules.specs.Board.{side-number, state-number, drawn, nine}
+use Rattle.rules.specs.Board.{side-number, side-from, state-number, drawn, nine}
 use Rattle.rules.specs.Position.{Position, unfinished}
 use Rattle.rules.specs.Play.{play, move-of}
 use Rattle.rules.specs.Moves.{moves}
@@ -28,7 +27,7 @@ use Rattle.boards.specs.declared.local.LocalBoards.{LocalBoards}
 use Rattle.boards.specs.Packed.{row-of}
 use Rattle.game.specs.declared.Game.{Game}
 use Rattle.game.specs.Meaning.{position-of}
-use Rattle.game.specs.After.{game-after, games-after, refusal}
+use Rattle.game.specs.After.{games-after, answers-each}
 use Rattle.game.specs.Built.{new-game, packed}
 use Rattle.decimals.specs.Lists.{list-of}
 use Rattle.replay.specs.declared.totals.Comparison.{Comparison}
@@ -39,9 +38,6 @@ use Rattle.replay.specs.Totals.{comparison}
 use Rattle.replay_game.specs.declared.Run.{Run}
 
 -- ---- the question, whatever the numbers are
-unfoldable pub player-of : ℕ → Player
-player-of n = if eqb n 0 then (λ _. X) else λ _. O
-
 unfoldable pub state-of : ℕ → GameState
 state-of n =
     if eqb n 0 then (λ _. InPlay) else
@@ -59,7 +55,7 @@ row-in ns i = record { x = getD ns i 0 % 2 ^ 32; o = getD ns (i + 1) 0 % 2 ^ 32 
 unfoldable pub game-in : List ℕ → ℕ → Game
 game-in ns i =
     packed
-    (player-of (getD ns i 0))
+    (side-from (getD ns i 0))
     (next-of (getD ns (i + 1) 0))
     (record { rows = row-in ns (i + 2) ∷ row-in ns (i + 4) ∷ row-in ns (i + 6) ∷ [] })
     (record { x = getD ns (i + 8) 0 % 2 ^ 16; o = getD ns (i + 9) 0 % 2 ^ 16 })
@@ -87,11 +83,7 @@ position-numbers g =
     (g .«global_states» .x ∷ g .«global_states» .o ∷ state-number (g .«game_state») ∷ []))
 
 -- ---- a play: how many moves, the moves, what each is answered, and the game after them
-unfoldable pub answers : Game → List ℕ → List ℕ
-answers g [] = []
-answers g (m ∷ ms) = refusal (play (position-of g) m) ∷ answers (game-after g m) ms
-
--- the last number: whether document 01's list of moves, which is none, differs from the Rust's
+-- of that game; the last number: whether document 01's list of moves, which is none, differs from the Rust's
 unfoldable pub reached-numbers : Game → List ℕ
 reached-numbers g =
     let p = position-of g in
@@ -105,7 +97,7 @@ moves-numbers p = length (moves p) ∷ moves p
 abbrev pub play-numbers : Game → List ℕ → List ℕ
 play-numbers g ms =
     let end = games-after g ms in
-    length ms ∷ (ms ++ (answers g ms ++ (reached-numbers end ++ moves-numbers (position-of end))))
+    length ms ∷ (ms ++ (answers-each g ms ++ (reached-numbers end ++ moves-numbers (position-of end))))
 
 -- ---- the cells, the states and the drawn boards of a position
 abbrev pub cell-number : CellState → ℕ
@@ -130,8 +122,8 @@ equivalence-record g h =
     let q = position-of h in
     3 ∷ (position-numbers g ++ (position-numbers h ++ (cond (equivalent p q) 1 0 ∷ cond (equivalent q p) 1 0 ∷ [])))
 
-abbrev pub move-record : ℕ → ℕ → List ℕ
-move-record b c = 11 ∷ b ∷ c ∷ move-of b c ∷ []
+abbrev pub coordinates-record : ℕ → ℕ → List ℕ
+coordinates-record b c = 11 ∷ b ∷ c ∷ move-of b c ∷ []
 
 -- ---- what is found of a record
 -- of a play from g: its moves stand from place i on, and `first` before them
@@ -151,7 +143,7 @@ comparison-of ns =
     λ _. if eqb kind 2 then (λ _. of-play ns (2 ∷ position-numbers (game-in ns 1)) (game-in ns 1) 12) else
     λ _. if eqb kind 3 then (λ _. of-record ns (equivalence-record (game-in ns 1) (game-in ns 12))) else
     λ _. if eqb kind 10 then (λ _. of-record ns (10 ∷ looked-numbers (game-in ns 1))) else
-    λ _. if eqb kind 11 then (λ _. of-record ns (move-record (getD ns 1 0 % 9) (getD ns 2 0 % 9))) else
+    λ _. if eqb kind 11 then (λ _. of-record ns (coordinates-record (getD ns 1 0 % 9) (getD ns 2 0 % 9))) else
     λ _. Differs
 
 -- a line that is no list of numbers differs
@@ -165,4 +157,4 @@ outcome-of line = comparison-for (list-of 1024 line)
 -- ---- what is promised of the moves that are tried
 pub record Runs (ns : List ℕ) (begun : Agreement) (g : Game) (ms : List ℕ) (r : Run) : Type 0 where
   pub game-is : r .game ≡ games-after g ms
-  pub compared-is : r .compared ≡ compared-all ns begun (answers g ms)
+  pub compared-is : r .compared ≡ compared-all ns begun (answers-each g ms)

@@ -6,6 +6,7 @@ ghost use mathlib.Core.List.{[], _∷_};
 ghost use mathlib.Core.Bool.{not, cond};
 ghost use Prim.Native.Nat.{_+_, _%_, _<_};
 ghost use lib.ListN.{getD};
+ghost use Rattle.rules.specs.Board.{side-from};
 ghost use Rattle.rules.specs.Hash.{hash};
 ghost use Rattle.rules.specs.Position.{unfinished};
 ghost use Rattle.boards.specs.Cursor.{moves-left};
@@ -14,10 +15,11 @@ ghost use Rattle.game.specs.After.{games-after};
 ghost use Rattle.game.specs.Built.{new-game};
 ghost use Rattle.replay.specs.Agreement.{compared-all, wholly-agrees};
 ghost use Rattle.replay.specs.Totals.{comparison, RecordCounted};
-ghost use Rattle.replay_game.specs.Records.{player-of, state-of, next-of, row-in, game-in, moves-from, moves-in};
+ghost use Rattle.replay_game.specs.Records.{state-of, next-of, row-in, game-in, moves-from, moves-in};
 ghost use Rattle.replay_game.specs.Records.{next-number, boards-numbers, position-numbers, reached-numbers, moves-numbers};
 ghost use Rattle.replay_game.specs.Records.{play-numbers, cell-number, cells-numbers, states-numbers, looked-numbers};
-ghost use Rattle.replay_game.specs.Records.{equivalence-record, move-record, Runs, of-play, of-record, comparison-of, outcome-of};
+ghost use Rattle.replay_game.specs.Records.{equivalence-record, coordinates-record, of-play, of-record, comparison-of};
+ghost use Rattle.replay_game.specs.Records.{outcome-of, Runs};
 use boards::GlobalStates;
 use boards::Listed;
 use boards::LocalBoards;
@@ -38,8 +40,8 @@ use rules::Player;
 // The most numbers of a record.
 const MOST: usize = 1024;
 
-fn player_of(n: u64) -> Player
-    ensures { λ r. ⌜ r ≡ player-of n ⌝ }
+fn side_from(n: u64) -> Player
+    ensures { λ r. ⌜ r ≡ side-from n ⌝ }
 {
     if n == 0 { Player::X } else { Player::O }
 }
@@ -90,7 +92,7 @@ fn game_in(words: &[u64], i: usize) -> Game
         o: (decimals::at(words, i + 9) % 65536) as u16,
     };
     Game::pack(
-        player_of(decimals::at(words, i)),
+        side_from(decimals::at(words, i)),
         next_of(decimals::at(words, i + 1)),
         LocalBoards { rows },
         states,
@@ -142,7 +144,7 @@ fn boards_numbers(boards: LocalBoards) -> [u64; 6]
 }
 
 // The numbers of a position.
-fn position(words: &[u64], begun: Agreement, g: Game) -> Agreement
+fn position(begun: Agreement, words: &[u64], g: Game) -> Agreement
     ensures { λ r. ⌜ r ≡ compared-all (now (words .entry)) begun (position-numbers g) ⌝ }
 {
     let player = g.next_player;
@@ -159,7 +161,7 @@ fn position(words: &[u64], begun: Agreement, g: Game) -> Agreement
 }
 
 // The moves that a record asks.
-fn asked(words: &[u64], begun: Agreement, from: usize, count: usize) -> Agreement
+fn asked(begun: Agreement, words: &[u64], from: usize, count: usize) -> Agreement
     requires { ⌜ from + count < 1000 ⌝ }
     ensures { λ r. ⌜ r ≡ compared-all (now (words .entry)) begun (moves-from (now (words .entry)) from count) ⌝ }
 {
@@ -181,7 +183,7 @@ struct Run {
 }
 
 // A move tried, and its answer.
-fn tried(words: &[u64], run: Run, n: u64) -> Run
+fn tried(run: Run, words: &[u64], n: u64) -> Run
     ensures { λ r. ⌜ Runs (now (words .entry)) (run .compared) (run .game) (n % 256 ∷ []) r ⌝ }
 {
     let before = run.game;
@@ -197,7 +199,7 @@ fn tried(words: &[u64], run: Run, n: u64) -> Run
     }
 }
 
-fn run_moves(words: &[u64], begun: Agreement, from: usize, count: usize, start: Game) -> Run
+fn run_moves(begun: Agreement, words: &[u64], from: usize, count: usize, start: Game) -> Run
     requires { ⌜ from + count < 1000 ⌝ }
     ensures { λ r. ⌜ Runs (now (words .entry)) begun start (moves-from (now (words .entry)) from count) r ⌝ }
 {
@@ -208,7 +210,7 @@ fn run_moves(words: &[u64], begun: Agreement, from: usize, count: usize, start: 
     let mut at = from;
     let mut left = count;
     while left > 0 {
-        run = tried(words, run, decimals::at(words, at));
+        run = tried(run, words, decimals::at(words, at));
         at += 1;
         left -= 1;
     }
@@ -228,7 +230,7 @@ fn fresh_hash(g: Game) -> u64
 }
 
 // The numbers of the game after a play.
-fn reached(words: &[u64], begun: Agreement, g: Game) -> Agreement
+fn reached(begun: Agreement, words: &[u64], g: Game) -> Agreement
     ensures { λ r. ⌜ r ≡ compared-all (now (words .entry)) begun (reached-numbers g) ⌝ }
 {
     let boards = boards_numbers(g.local_boards);
@@ -251,7 +253,7 @@ fn reached(words: &[u64], begun: Agreement, g: Game) -> Agreement
 }
 
 // The moves that a cursor has left.
-fn listed(words: &[u64], begun: Agreement, list: MoveIterator) -> Agreement
+fn listed(begun: Agreement, words: &[u64], list: MoveIterator) -> Agreement
     ensures { λ r. ⌜ r ≡ compared-all (now (words .entry)) begun (moves-left list) ⌝ }
 {
     let mut compared = begun;
@@ -269,15 +271,15 @@ fn listed(words: &[u64], begun: Agreement, list: MoveIterator) -> Agreement
     }
 }
 
-fn moves(words: &[u64], begun: Agreement, g: Game) -> Agreement
+fn moves(begun: Agreement, words: &[u64], g: Game) -> Agreement
     ensures { λ r. ⌜ r ≡ compared-all (now (words .entry)) begun (moves-numbers (position-of g)) ⌝ }
 {
     let counted = begun.number(words, g.legal_moves() as u64);
-    listed(words, counted, g.all_moves())
+    listed(counted, words, g.all_moves())
 }
 
 // Moves tried from a game: the numbers at `i` are k, the moves, their answers, and those of the game at the end.
-fn play(words: &[u64], begun: Agreement, i: usize, start: Game) -> Comparison
+fn play(begun: Agreement, words: &[u64], i: usize, start: Game) -> Comparison
     requires { ⌜ i < 100 ⌝ }
     ensures { λ r. ⌜ r ≡ comparison
         (wholly-agrees (now (words .entry))
@@ -286,10 +288,10 @@ fn play(words: &[u64], begun: Agreement, i: usize, start: Game) -> Comparison
 {
     let count = (decimals::at(words, i) % 512) as usize;
     let counted = begun.number(words, count as u64);
-    let asked = asked(words, counted, i + 1, count);
-    let run = run_moves(words, asked, i + 1, count, start);
+    let asked = asked(counted, words, i + 1, count);
+    let run = run_moves(asked, words, i + 1, count, start);
     let end = run.game;
-    let all = moves(words, reached(words, run.compared, end), end);
+    let all = moves(reached(run.compared, words, end), words, end);
     Comparison::of(all.is_whole(words), end.game_over())
 }
 
@@ -297,7 +299,7 @@ fn play(words: &[u64], begun: Agreement, i: usize, start: Game) -> Comparison
 fn play_from_start(words: &[u64]) -> Comparison
     ensures { λ r. ⌜ r ≡ of-play (now (words .entry)) (1 ∷ []) new-game 1 ⌝ }
 {
-    play(words, Agreement::NEW.number(words, 1), 1, Game::new())
+    play(Agreement::NEW.number(words, 1), words, 1, Game::new())
 }
 
 // Kind 2: a play from a position.
@@ -307,7 +309,7 @@ fn play_from_position(words: &[u64]) -> Comparison
 {
     let start = game_in(words, 1);
     let kind = Agreement::NEW.number(words, 2);
-    play(words, position(words, kind, start), 12, start)
+    play(position(kind, words, start), words, 12, start)
 }
 
 // Kind 3: whether each of two positions is equivalent to the other.
@@ -318,14 +320,14 @@ fn equivalence(words: &[u64]) -> Comparison
     let a = game_in(words, 1);
     let b = game_in(words, 12);
     let kind = Agreement::NEW.number(words, 3);
-    let positions = position(words, position(words, kind, a), b);
+    let positions = position(position(kind, words, a), words, b);
     let both = [number_of(a.equivalent(b)), number_of(b.equivalent(a))];
     let all = positions.numbers(words, &both);
     Comparison::of(all.is_whole(words), false)
 }
 
 // Each cell of each board.
-fn cells(words: &[u64], begun: Agreement, g: Game) -> Agreement
+fn cells(begun: Agreement, words: &[u64], g: Game) -> Agreement
     ensures { λ r. ⌜ r ≡ compared-all (now (words .entry)) begun (cells-numbers (position-of g)) ⌝ }
 {
     let mut compared = begun;
@@ -338,7 +340,7 @@ fn cells(words: &[u64], begun: Agreement, g: Game) -> Agreement
 }
 
 // The state of each board.
-fn states(words: &[u64], begun: Agreement, g: Game) -> Agreement
+fn states(begun: Agreement, words: &[u64], g: Game) -> Agreement
     ensures { λ r. ⌜ r ≡ compared-all (now (words .entry)) begun (states-numbers (position-of g)) ⌝ }
 {
     let mut compared = begun;
@@ -356,7 +358,7 @@ fn look(words: &[u64]) -> Comparison
 {
     let g = game_in(words, 1);
     let kind = Agreement::NEW.number(words, 10);
-    let looked = states(words, cells(words, position(words, kind, g), g), g);
+    let looked = states(cells(position(kind, words, g), words, g), words, g);
     let overall = g.global_states;
     let all = looked.number(words, overall.drawbits() as u64);
     Comparison::of(all.is_whole(words), false)
@@ -365,7 +367,7 @@ fn look(words: &[u64]) -> Comparison
 // Kind 11: the move of a board and a cell.
 fn coordinates(words: &[u64]) -> Comparison
     ensures { λ r. ⌜ r ≡ of-record (now (words .entry))
-        (move-record (getD (now (words .entry)) 1 0 % 9) (getD (now (words .entry)) 2 0 % 9)) ⌝ }
+        (coordinates-record (getD (now (words .entry)) 1 0 % 9) (getD (now (words .entry)) 2 0 % 9)) ⌝ }
 {
     let board = decimals::at(words, 1) % 9;
     let cell = decimals::at(words, 2) % 9;
@@ -410,8 +412,8 @@ fn step(totals: Totals, line: &[u8]) -> Totals
 fn main() {
     let mut buffer = io::large_buffer();
     let mut kept = io::buffer();
-    let mut input = Input::NEW;
-    let mut totals = Totals::NEW;
+    let mut input = Input::new();
+    let mut totals = Totals::new();
     while totals.may_go_on() {
         input = input.next_line(&mut buffer, &mut kept);
         if input.is_end() {

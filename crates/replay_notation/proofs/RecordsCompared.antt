@@ -21,7 +21,7 @@ use Rattle.notation.specs.Parsed.{move-reading-of, move-number, Parses-move}
 use Rattle.replay.specs.declared.agreement.Agreement.{Agreement}
 use Rattle.replay.specs.Agreement.{new-agreement, compared, compared-all, wholly-agrees, same-numbers}
 use Rattle.replay.proofs.AgreementCompared.{compared-append, compared-is-same}
-use Rattle.replay_notation.specs.Records.{with-bytes, game-numbers, named-byte, move-numbers, move-record, won-record}
+use Rattle.replay_notation.specs.Records.{with-bytes, game-numbers, named-byte, move-reading-numbers, move-record, won-record}
 
 truth-number : (b : Bool) → boolByte b ≡ cond b 1 0
 truth-number true = refl
@@ -64,7 +64,7 @@ module _ (ns : List ℕ) where
   -- a move's text
   module _ (text : List ℕ) (m : ParsedMove) (p : Parses-move text m) (n c : ℕ) (n-is : n ≡ move-number (m .answer))
       (c-is : c ≡ named-byte (move-reading-of (m .answer) (m .m .bits))) where
-    numbers-are : n ∷ c ∷ m .m .bits ∷ [] ≡ move-numbers (read-move text)
+    numbers-are : n ∷ c ∷ m .m .bits ∷ [] ≡ move-reading-numbers (read-move text)
     numbers-are = cc (n-is ∙ p .number, c-is ∙ ap named-byte (p .says), p .move-is)
 
     pub move-compared : (q a b d : Agreement) (r : Bool) → q ≡ compared-all ns new-agreement (6 ∷ length text ∷ text) →

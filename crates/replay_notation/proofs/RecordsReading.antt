@@ -19,7 +19,7 @@ use Rattle.notation.specs.declared.ParseAnswer.{ParseAnswer}
 use Rattle.notation.specs.declared.ParseAnswer.the-variants.{Accepted, Refused}
 use Rattle.notation.specs.declared.Parsed.{Parsed}
 use Rattle.notation.specs.Parsed.{kind-number, reading-of, game-for, Parses}
-use Rattle.replay_notation.specs.Records.{with-bytes, position-numbers, reading-record, game-numbers, apart, alike, reads-back}
+use Rattle.replay_notation.specs.Records.{with-bytes, read-position-numbers, reading-record, game-numbers, apart, alike, reads-back}
 use Rattle.replay.specs.Agreement.{same-numbers}
 
 -- ---- a text
@@ -63,7 +63,7 @@ module _ (ns text : List ℕ) (r : Parsed) (p : Parses text r) where
     fresh : r .game .hash ≡ hash reached-by
     fresh = ap (λ (g : Game). g .hash) (p .game-is ∙ ap game-for (accepted-reads text r p e))
 
-    numbers-fresh : game-numbers (r .game) ≡ position-numbers reached-by
+    numbers-fresh : game-numbers (r .game) ≡ read-position-numbers reached-by
     unfolding zobrist
     numbers-fresh = ap (λ (h : ℕ). text-of reached-by ++ (h ∷ with-turn reached-by h ∷ state-number (reached-by .state) ∷
         bound-depth reached-by ∷ [])) fresh

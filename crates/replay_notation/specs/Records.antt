@@ -52,13 +52,13 @@ bytes-in ns = take (count-in ns) (bytes-from-2 ns)
 abbrev pub with-bytes : ℕ → List ℕ → List ℕ → List ℕ
 with-bytes kind bytes answer = kind ∷ length bytes ∷ (bytes ++ answer)
 
-abbrev pub position-numbers : Position → List ℕ
-position-numbers p = text-of p ++ (hash p ∷ zobrist p ∷ state-number (p .state) ∷ bound-depth p ∷ [])
+abbrev pub read-position-numbers : Position → List ℕ
+read-position-numbers p = text-of p ++ (hash p ∷ zobrist p ∷ state-number (p .state) ∷ bound-depth p ∷ [])
 
 -- a text that is refused is of kind 4, one that is read of kind 5
 abbrev pub reading-record : List ℕ → Reading → List ℕ
 reading-record text (refuses n offset size) = with-bytes 4 text (n ∷ offset ∷ size ∷ [])
-reading-record text (reads p) = with-bytes 5 text (position-numbers p)
+reading-record text (reads p) = with-bytes 5 text (read-position-numbers p)
 
 -- the byte that refusal 8 names, 0 else
 abbrev pub named-byte : MoveReading → ℕ
@@ -66,11 +66,11 @@ named-byte (reads-move m) = 0
 named-byte bad-length = 0
 named-byte (bad-character c) = c
 
-abbrev pub move-numbers : MoveReading → List ℕ
-move-numbers r = move-refusal r ∷ named-byte r ∷ move-for r ∷ []
+abbrev pub move-reading-numbers : MoveReading → List ℕ
+move-reading-numbers r = move-refusal r ∷ named-byte r ∷ move-for r ∷ []
 
 abbrev pub move-record : List ℕ → List ℕ
-move-record text = with-bytes 6 text (move-numbers (read-move text))
+move-record text = with-bytes 6 text (move-reading-numbers (read-move text))
 
 -- the byte of a set, 0 for none
 abbrev pub set-number : Read → ℕ
@@ -91,8 +91,8 @@ abbrev pub won-record : ℕ → List ℕ
 won-record b = 12 ∷ b ∷ cond (eqb b (won-byte X)) 1 0 ∷ cond (eqb b (won-byte O)) 1 0 ∷ as-byte only-draw ∷ []
 
 -- by the kind; what is of no other kind is held to the record of its text, which is of kind 4 or 5
-unfoldable pub record-of : List ℕ → List ℕ
-record-of ns =
+unfoldable pub expected-record : List ℕ → List ℕ
+expected-record ns =
     let kind = getD ns 0 0 in
     if eqb kind 6 then (λ _. move-record (bytes-in ns)) else
     λ _. if eqb kind 7 then (λ _. byte-record (byte-in ns 1)) else
@@ -111,7 +111,7 @@ abbrev pub is-apart : List ℕ → Bool
 is-apart ns = eqb (getD ns 0 0) 4 && apart (bytes-in ns) (read (bytes-in ns))
 
 abbrev pub comparison-of : List ℕ → Comparison
-comparison-of ns = comparison (same-numbers ns (record-of ns)) (is-apart ns)
+comparison-of ns = comparison (same-numbers ns (expected-record ns)) (is-apart ns)
 
 -- a line that is no list of numbers differs
 abbrev pub comparison-for : Option (List ℕ) → Comparison

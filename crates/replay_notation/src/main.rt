@@ -11,7 +11,7 @@ ghost use Rattle.replay.specs.Agreement.{new-agreement, compared-all, same-numb
 ghost use Rattle.replay.specs.Totals.{RecordCounted};
 ghost use Rattle.replay_notation.specs.Records.{byte-in, count-in, bytes-from-2, game-numbers, reading-record, named-byte};
 ghost use Rattle.replay_notation.specs.Records.{move-record, set-number, byte-record, merge-record, play-record, won-record};
-ghost use Rattle.replay_notation.specs.Records.{reads-back, record-of, apart, is-apart, comparison-of, outcome-of};
+ghost use Rattle.replay_notation.specs.Records.{reads-back, expected-record, apart, is-apart, comparison-of, outcome-of};
 use decimals::Count;
 use game::Game;
 use input::Input;
@@ -69,7 +69,7 @@ fn question(words: &[u64], kind: u64, bytes: &[u8]) -> Agreement
 }
 
 // A game's text, hash, key, state and bound.
-fn add_game(words: &[u64], begun: Agreement, g: Game) -> Agreement
+fn add_game(begun: Agreement, words: &[u64], g: Game) -> Agreement
     ensures { λ r. ⌜ r ≡ compared-all (now (words .entry)) begun (game-numbers g) ⌝ }
 {
     let text = notation::render(g);
@@ -98,7 +98,7 @@ fn same_reading(words: &[u64], text: &[u8]) -> bool
         }
         ParseAnswer::Accepted => {
             let begun = question(words, 5, text);
-            add_game(words, begun, parsed.game).is_whole(words)
+            add_game(begun, words, parsed.game).is_whole(words)
         }
     }
 }
@@ -209,7 +209,7 @@ fn same_play(words: &[u64], moves: &[u8]) -> bool
 // ---- a record, a line, all lines
 
 fn agrees(words: &[u64]) -> bool
-    ensures { λ r. ⌜ r ≡ same-numbers (now (words .entry)) (record-of (now (words .entry))) ⌝ }
+    ensures { λ r. ⌜ r ≡ same-numbers (now (words .entry)) (expected-record (now (words .entry))) ⌝ }
 {
     let n = count_in(words);
     let bytes = bytes_from_2(words);
@@ -288,8 +288,8 @@ fn step(totals: Totals, line: &[u8]) -> Totals
 fn main() {
     let mut buffer = io::large_buffer();
     let mut kept = io::buffer();
-    let mut input = Input::NEW;
-    let mut totals = Totals::NEW;
+    let mut input = Input::new();
+    let mut totals = Totals::new();
     while totals.may_go_on() {
         input = input.next_line(&mut buffer, &mut kept);
         if input.is_end() {

@@ -9,6 +9,7 @@ use lib.Dec.{eqb, leb}
 use lib.ListN.{length, getD, take, drop, set, replicate, length-drop}
 use lib.Seq.{drop-cons, drop-length, take-at}
 use borrow.Author.Tests.{eq-eqb, ne-eqb, leb-true}
+use Rattle.rules.specs.Board.{side-from}
 use Rattle.base.specs.Branch.{if_then_else_}
 use Rattle.theory.specs.Memory.{Responses, no-responses, with-response}
 use Rattle.boards.specs.declared.moves.Move.{Move}
@@ -17,8 +18,8 @@ use Rattle.minimax.specs.declared.Minimax.{Minimax}
 use Rattle.minimax.specs.Report.{bytes-of, responses-of, empty-responses}
 use Rattle.decimals.specs.declared.list.Count.{Count}
 use Rattle.decimals.specs.declared.list.Count.the-variants.{Of, Bad}
-use Rattle.decimals.specs.Lists.{at-most, list-of, count-of, ListRead, parts, numbers-of}
-use Rattle.replay_search.specs.Chains.{most, side-of, with-responses, from-triples, start-of, begun-of}
+use Rattle.decimals.specs.Lists.{at-most, list-of, count-of, ListRead, text-parts, numbers-of}
+use Rattle.replay_search.specs.Chains.{most-numbers, with-responses, from-triples, start-of, begun-of}
 
 -- ---- one response more
 bytes-set : (ms : List Move) (i b : ℕ) → bytes-of (set ms i (record { bits = b })) ≡ set (bytes-of ms) i b
@@ -28,13 +29,13 @@ bytes-set (m ∷ ms) (suc i) b = ap (λ (ns : List ℕ). m .bits ∷ ns) (bytes-
 
 module _ (t : ResponseTables) (side prev m : ℕ) where
   pub with-x : side ≡ 0 → responses-of (record { x = set (t .x) prev (record { bits = m }); o = t .o })
-      ≡ with-response (responses-of t) (side-of side) prev m
+      ≡ with-response (responses-of t) (side-from side) prev m
   with-x h =
       rw (eq-eqb side 0 h)
       (ap (λ (ns : List ℕ). record { to-x = ns; to-o = bytes-of (t .o) }) (bytes-set (t .x) prev m))
 
   pub with-o : (side ≡ 0 → ⊥) → responses-of (record { x = t .x; o = set (t .o) prev (record { bits = m }) })
-      ≡ with-response (responses-of t) (side-of side) prev m
+      ≡ with-response (responses-of t) (side-from side) prev m
   with-o h =
       rw (ne-eqb side 0 h)
       (ap (λ (ns : List ℕ). record { to-x = bytes-of (t .x); to-o = ns }) (bytes-set (t .o) prev m))
@@ -45,7 +46,7 @@ empty-is = refl
 
 module _ (ns : List ℕ) (i : ℕ) where
   pub triple-next : (rs r : Responses) → 2 < length ns - i →
-      r ≡ with-response rs (side-of (getD ns i 0)) (getD ns (i + 1) 0 % 256) (getD ns (i + 2) 0 % 256) →
+      r ≡ with-response rs (side-from (getD ns i 0)) (getD ns (i + 1) 0 % 256) (getD ns (i + 2) 0 % 256) →
       with-responses r (drop (i + 3) ns) ≡ with-responses rs (drop i ns)
   unfolding with-responses
   triple-next rs r h e =
@@ -96,12 +97,12 @@ within room none ns e = absurd (let z : _≡_ {A = ℕ} 0 1 = cc in omega arith)
 within room (some ms) ns e = within-if room ms ns (leb (length ms) room) refl e
 
 module _ (text words : List ℕ) (r : Count) (after : List ℕ) (h : ListRead text words r after) (room : length words ≡ 1024) where
-  is-count : r ≡ count-of (list-of most text)
+  is-count : r ≡ count-of (list-of most-numbers text)
   is-count = h .count-is ∙ ap (λ (n : ℕ). count-of (list-of n text)) room
 
   pub record Numbers (n : ℕ) : Type 0 where
     pub numbers : List ℕ
-    pub are-read : list-of most text ≡ some numbers
+    pub are-read : list-of most-numbers text ≡ some numbers
     pub stand-first : take n after ≡ numbers
     pub as-many : n ≡ length numbers
     pub first-are : n ≡ length (take n after)
@@ -109,7 +110,7 @@ module _ (text words : List ℕ) (r : Count) (after : List ℕ) (h : ListRead te
 
   pub numbers-read : (n : ℕ) → r ≡ Of n → Numbers n
   numbers-read n e =
-      let s = some-of (list-of most text) n (sym e ∙ is-count) in
+      let s = some-of (list-of most-numbers text) n (sym e ∙ is-count) in
       let w = h .written (s .0) (ap (λ (k : ℕ). list-of k text) room ∙ s .1) in
       let first = ap (take n) w ∙ take-at (s .0) (drop (length (s .0)) words) n (sym (s .2)) in record {
         numbers = s .0;
@@ -117,14 +118,14 @@ module _ (text words : List ℕ) (r : Count) (after : List ℕ) (h : ListRead te
         stand-first = first;
         as-many = s .2;
         first-are = s .2 ∙ sym (ap length first);
-        fit = omega (arith, s .2, within 1024 (numbers-of (parts text)) (s .0) (s .1));
+        fit = omega (arith, s .2, within 1024 (numbers-of (text-parts text)) (s .0) (s .1));
       }
 
-  pub none-read : r ≡ Bad → list-of most text ≡ none
-  none-read e = none-of (list-of most text) (sym e ∙ is-count)
+  pub none-read : r ≡ Bad → list-of most-numbers text ≡ none
+  none-read e = none-of (list-of most-numbers text) (sym e ∙ is-count)
 
 -- ---- the responses at the start
-start-read : (text : List ℕ) → (length text ≡ 0 → ⊥) → start-of text ≡ from-triples (list-of most text)
+start-read : (text : List ℕ) → (length text ≡ 0 → ⊥) → start-of text ≡ from-triples (list-of most-numbers text)
 unfolding start-of
 start-read [] h = absurd (h refl)
 start-read (b ∷ bs) h = refl
@@ -135,7 +136,7 @@ unfolding start-of if_then_else_
 begun-none [] m h e = ap (λ (q : Minimax). some (responses-of (q .responses))) e ∙ ap some empty-is
 begun-none (b ∷ bs) m h e = absurd (omega arith)
 
-pub begun-bad : (text : List ℕ) (m : Minimax) → (length text ≡ 0 → ⊥) → list-of most text ≡ none →
+pub begun-bad : (text : List ℕ) (m : Minimax) → (length text ≡ 0 → ⊥) → list-of most-numbers text ≡ none →
     begun-of (record { good = false; state = m }) ≡ start-of text
 unfolding if_then_else_
 begun-bad text m h e = sym (start-read text h ∙ ap from-triples e)
@@ -147,7 +148,7 @@ begun-if ns m true f t = rw t (ap some f)
 begun-if ns m false f t = rw t
 
 pub begun-read : (text ns : List ℕ) (n : ℕ) (m : Minimax) → (length text ≡ 0 → ⊥) →
-    list-of most text ≡ some ns → n ≡ length ns →
+    list-of most-numbers text ≡ some ns → n ≡ length ns →
     responses-of (m .responses) ≡ with-responses no-responses ns →
     begun-of (record { good = eqb (n % 3) 0; state = m }) ≡ start-of text
 begun-read text ns n m h e l f =

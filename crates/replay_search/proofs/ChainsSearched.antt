@@ -36,7 +36,7 @@ use Rattle.replay.specs.Fields.{field}
 use Rattle.replay.specs.Agreement.{same-numbers}
 use Rattle.replay_search.specs.declared.chain.ChainStep.{ChainStep}
 use Rattle.replay_search.specs.Records.{search-numbers}
-use Rattle.replay_search.specs.Chains.{most, matching, matching-search, search-of, Searched}
+use Rattle.replay_search.specs.Chains.{most-numbers, matching, matching-search, search-of, Searched}
 
 -- ---- what was read
 module _ (text : List ℕ) (r : Parsed) (h : Parses text r) where
@@ -102,37 +102,39 @@ module _ (line : List ℕ) (w : DrawWinner) (allowance k : ℕ) (m : Minimax) (w
     no-position step after e a f =
         let q = refused-reading text r h e a in
         not-searched found step m after (ap (λ (x : Reading). matching-search x (read-number (field (3 * k + 5) line))
-        (list-of most (field (3 * k + 6) line)) search) (ap read (sym at-text) ∙ q .3)) f
+        (list-of most-numbers (field (3 * k + 6) line)) search) (ap read (sym at-text) ∙ q .3)) f
 
     module _ (a : r .answer ≡ Accepted) where
       has-position : found ≡ matching-search (reads (position-of (r .game))) (read-number (field (3 * k + 5) line))
-          (list-of most (field (3 * k + 6) line)) search
+          (list-of most-numbers (field (3 * k + 6) line)) search
       unfolding search-of
       has-position =
-          ap (λ (x : Reading). matching-search x (read-number (field (3 * k + 5) line)) (list-of most (field (3 * k + 6) line)) search)
+          ap (λ (x : Reading). matching-search x (read-number (field (3 * k + 5) line))
+          (list-of most-numbers (field (3 * k + 6) line)) search)
           (ap read (sym at-text) ∙ accepted-reading text r h a)
 
       pub no-depth : (step : ChainStep) (after text' : List ℕ) → text' ≡ field (3 * k + 5) line → read-number text' ≡ Bad →
           step ≡ record { agrees = false; refused = false; state = m } → Searched found step after
       no-depth step after text' t e f =
           not-searched found step m after (has-position ∙ ap (λ (x : Number). matching-search (reads (position-of (r .game))) x
-          (list-of most (field (3 * k + 6) line)) search) (ap read-number (sym t) ∙ e)) f
+          (list-of most-numbers (field (3 * k + 6) line)) search) (ap read-number (sym t) ∙ e)) f
 
       module _ (depth : ℕ) (text' : List ℕ) (at-depth : text' ≡ field (3 * k + 5) line) (d : read-number text' ≡ Is depth) where
-        has-depth : found ≡ matching-search (reads (position-of (r .game))) (Is depth) (list-of most (field (3 * k + 6) line)) search
+        has-depth : found ≡ matching-search (reads (position-of (r .game))) (Is depth)
+            (list-of most-numbers (field (3 * k + 6) line)) search
         has-depth =
             has-position ∙ ap (λ (x : Number). matching-search (reads (position-of (r .game))) x
-            (list-of most (field (3 * k + 6) line)) search) (ap read-number (sym at-depth) ∙ d)
+            (list-of most-numbers (field (3 * k + 6) line)) search) (ap read-number (sym at-depth) ∙ d)
 
         module _ (text'' : List ℕ) (at-numbers : text'' ≡ field (3 * k + 6) line) where
-          pub new-agreement : (step : ChainStep) (after : List ℕ) → list-of most text'' ≡ none →
+          pub no-numbers : (step : ChainStep) (after : List ℕ) → list-of most-numbers text'' ≡ none →
               step ≡ record { agrees = false; refused = false; state = m } → Searched found step after
-          new-agreement step after e f =
+          no-numbers step after e f =
               not-searched found step m after (has-depth ∙ ap (λ (x : Option (List ℕ)). matching-search (reads (position-of (r .game)))
-              (Is depth) x search) (ap (list-of most) (sym at-numbers) ∙ e)) f
+              (Is depth) x search) (ap (list-of most-numbers) (sym at-numbers) ∙ e)) f
 
           pub is-searched : (ns after : List ℕ) (report : Report) (agrees refused : Bool) (number : ℕ) →
-              list-of most text'' ≡ some ns →
+              list-of most-numbers text'' ≡ some ns →
               report-of report after
               ≡ reported-of m (r .game) (record { «max_depth» = depth; allowance = allowance; «draw_winner» = w }) words →
               agrees ≡ same-numbers ns (search-numbers (report-of report after)) → number ≡ ending-number (report .ending) →
@@ -141,7 +143,7 @@ module _ (line : List ℕ) (w : DrawWinner) (allowance k : ℕ) (m : Minimax) (w
           is-searched ns after report agrees refused number e is-report same is-number is-refused =
               let p = position-of (r .game) in
               let made : found ≡ matching ns (search p depth) = has-depth ∙ ap (λ (x : Option (List ℕ)).
-              matching-search (reads p) (Is depth) x search) (ap (list-of most) (sym at-numbers) ∙ e) in
+              matching-search (reads p) (Is depth) x search) (ap (list-of most-numbers) (sym at-numbers) ∙ e) in
               let by-rules : report-of report after ≡ search p depth = is-report
               ∙ reported-rules (scoring-with w) (record { max-depth = depth; allowance = allowance }) (r .game) (is-neat text r h a)
               (is-fresh text r h a) (responses-of (m .responses)) words in record {

@@ -24,7 +24,7 @@ use Rattle.minimax.specs.Report.{search-error-number, ending-number, is-spent, 
 use Rattle.replay.specs.declared.agreement.Agreement.{Agreement}
 use Rattle.replay.specs.Agreement.{same-numbers, new-agreement, compared-all, wholly-agrees}
 use Rattle.replay.proofs.AgreementCompared.{compared-append, compared-is-same}
-use Rattle.replay_search.specs.Records.{sign, ending, head-numbers, depth-numbers, stats-numbers, search-numbers}
+use Rattle.replay_search.specs.Records.{sign, ending, head-numbers, depth-numbers, depths-numbers, search-numbers}
 
 -- ---- scores
 module _ (z : ℤ) (f : SFits w64 z) where
@@ -61,31 +61,31 @@ pub nine : (count depth a b c d e f g a' b' c' d' e' f' g' : ℕ) →
 nine count depth a b c d e f g a' b' c' d' e' f' g' p q r s t u v = cc
 
 -- ---- a depth more
-stats-append : (xs ys : List Meant) → stats-numbers (xs ++ ys) ≡ stats-numbers xs ++ stats-numbers ys
-unfolding stats-numbers
-stats-append [] ys = refl
-stats-append (x ∷ xs) ys =
-    ap (λ (ns : List ℕ). depth-numbers x ++ ns) (stats-append xs ys)
-    ∙ sym (append-assoc (depth-numbers x) (stats-numbers xs) (stats-numbers ys))
+depths-append : (xs ys : List Meant) → depths-numbers (xs ++ ys) ≡ depths-numbers xs ++ depths-numbers ys
+unfolding depths-numbers
+depths-append [] ys = refl
+depths-append (x ∷ xs) ys =
+    ap (λ (ns : List ℕ). depth-numbers x ++ ns) (depths-append xs ys)
+    ∙ sym (append-assoc (depth-numbers x) (depths-numbers xs) (depths-numbers ys))
 
-stats-one : (s : Meant) → stats-numbers (s ∷ []) ≡ depth-numbers s
-unfolding stats-numbers
-stats-one s = refl
+depths-one : (s : Meant) → depths-numbers (s ∷ []) ≡ depth-numbers s
+unfolding depths-numbers
+depths-one s = refl
 
-pub stats-next : (ns : List ℕ) (a b r : Agreement) (ss : List Stats) (i : ℕ) (d : Stats) → i < length ss →
-    b ≡ compared-all ns a (stats-numbers (take i (map stats-of ss))) →
+pub depths-next : (ns : List ℕ) (a b r : Agreement) (ss : List Stats) (i : ℕ) (d : Stats) → i < length ss →
+    b ≡ compared-all ns a (depths-numbers (take i (map stats-of ss))) →
     r ≡ compared-all ns b (depth-numbers (stats-of (getD ss i d))) →
-    r ≡ compared-all ns a (stats-numbers (take (i + 1) (map stats-of ss)))
-stats-next ns a b r ss i d h e f =
+    r ≡ compared-all ns a (depths-numbers (take (i + 1) (map stats-of ss)))
+depths-next ns a b r ss i d h e f =
     let n : i < length (map stats-of ss) = omega (arith, length-map ss stats-of) in
     let t : take (i + 1) (map stats-of ss) ≡ take i (map stats-of ss) ++ (stats-of (getD ss i d) ∷ []) = rw (add-one i)
     (take-suc (map stats-of ss) i (stats-of d) n
     ∙ ap (λ (s : Meant). take i (map stats-of ss) ++ (s ∷ [])) (List·getD-map stats-of ss i d)) in
     f ∙ ap (λ (q : Agreement). compared-all ns q (depth-numbers (stats-of (getD ss i d)))) e
-    ∙ sym (ap (λ (xs : List Meant). compared-all ns a (stats-numbers xs)) t
-    ∙ ap (compared-all ns a) (stats-append (take i (map stats-of ss)) (stats-of (getD ss i d) ∷ [])
-    ∙ ap (λ (xs : List ℕ). stats-numbers (take i (map stats-of ss)) ++ xs) (stats-one (stats-of (getD ss i d))))
-    ∙ compared-append ns a (stats-numbers (take i (map stats-of ss))) (depth-numbers (stats-of (getD ss i d))))
+    ∙ sym (ap (λ (xs : List Meant). compared-all ns a (depths-numbers xs)) t
+    ∙ ap (compared-all ns a) (depths-append (take i (map stats-of ss)) (stats-of (getD ss i d) ∷ [])
+    ∙ ap (λ (xs : List ℕ). depths-numbers (take i (map stats-of ss)) ++ xs) (depths-one (stats-of (getD ss i d))))
+    ∙ compared-append ns a (depths-numbers (take i (map stats-of ss))) (depth-numbers (stats-of (getD ss i d))))
 
 -- all places, or as many as the depth
 pub taken-all : {A : Type 0} (xs : List A) (i depth : ℕ) → length xs ≤ i → i ≤ depth → take i xs ≡ take depth xs
@@ -94,12 +94,12 @@ taken-all xs i depth h l = let m : length xs ≤ depth = omega arith in take-all
 -- ---- a whole search
 pub whole-agrees : (ns : List ℕ) (r : Reported) (head : List ℕ) (a b c : Agreement) (t : Bool) →
     head ≡ head-numbers r → a ≡ compared-all ns new-agreement head → b ≡ compared-all ns a (take (r .depth) (r .pv)) →
-    c ≡ compared-all ns b (stats-numbers (take (r .depth) (r .stats))) → t ≡ wholly-agrees ns c →
+    c ≡ compared-all ns b (depths-numbers (take (r .depth) (r .stats))) → t ≡ wholly-agrees ns c →
     t ≡ same-numbers ns (search-numbers r)
 unfolding search-numbers
 whole-agrees ns r head a b c t e ea eb ec et =
     let pv = take (r .depth) (r .pv) in
-    let stats = stats-numbers (take (r .depth) (r .stats)) in
+    let stats = depths-numbers (take (r .depth) (r .stats)) in
     let first = ea ∙ ap (compared-all ns new-agreement) e in
     let second : b ≡ compared-all ns new-agreement (head-numbers r ++ pv) = eb ∙ ap (λ (q : Agreement). compared-all ns q pv) first
     ∙ sym (compared-append ns new-agreement (head-numbers r) pv) in

@@ -8,8 +8,8 @@ use Prim.Native.Nat.{ℕ, zero, suc, _+_, _-_, _*_, _/_, _%_}
 use lib.Dec.{eqb, leb}
 use lib.ListN.{length, replicate}
 use Rattle.base.specs.Branch.{if_then_else_}
-use Rattle.rules.specs.declared.Player.{Player}
-use Rattle.rules.specs.declared.Player.the-variants.{X, O}
+use Rattle.rules.specs.Board.{side-from}
+use Rattle.rules.specs.declared.Player.the-variants.{X}
 use Rattle.rules.specs.declared.DrawWinner.{DrawWinner}
 use Rattle.rules.specs.Position.{Position}
 use Rattle.rules.specs.Evaluation.{scoring-with}
@@ -34,18 +34,15 @@ use Rattle.replay_search.specs.declared.chain.ChainStep.{ChainStep}
 use Rattle.replay_search.specs.Records.{search-numbers}
 
 -- the most numbers of a field
-abbrev pub most : ℕ
-most = 1024
+abbrev pub most-numbers : ℕ
+most-numbers = 1024
 
 -- ---- the responses at the start, three numbers each: the side that made the previous move (X 0), that move, the response
-abbrev pub side-of : ℕ → Player
-side-of n = cond (eqb n 0) X O
-
 unfoldable pub with-responses : Responses → List ℕ → Responses
 with-responses rs [] = rs
 with-responses rs (side ∷ []) = rs
 with-responses rs (side ∷ prev ∷ []) = rs
-with-responses rs (side ∷ prev ∷ m ∷ ns) = with-responses (with-response rs (side-of side) (prev % 256) (m % 256)) ns
+with-responses rs (side ∷ prev ∷ m ∷ ns) = with-responses (with-response rs (side-from side) (prev % 256) (m % 256)) ns
 
 abbrev pub from-triples : Option (List ℕ) → Option Responses
 from-triples none = none
@@ -54,7 +51,7 @@ from-triples (some ns) = if eqb (length ns % 3) 0 then (λ _. some (with-respons
 -- none are given by an empty field
 unfoldable pub start-of : List ℕ → Option Responses
 start-of [] = some no-responses
-start-of (b ∷ bs) = from-triples (list-of most (b ∷ bs))
+start-of (b ∷ bs) = from-triples (list-of most-numbers (b ∷ bs))
 
 abbrev pub begun-of : Begun → Option Responses
 begun-of b = if b .good then (λ _. some (responses-of (b .state .responses))) else λ _. none
@@ -74,7 +71,7 @@ module _ (line : List ℕ) (w : DrawWinner) (allowance : ℕ) where
   -- search k, from the memory before it: what is reported, if all can be read and the record says the same
   unfoldable pub search-of : ℕ → Responses → List ℕ → Option Reported
   search-of k rs words =
-      matching-search (read (field (3 * k + 4) line)) (read-number (field (3 * k + 5) line)) (list-of most (field (3 * k + 6) line))
+      matching-search (read (field (3 * k + 4) line)) (read-number (field (3 * k + 5) line)) (list-of most-numbers (field (3 * k + 6) line))
       (λ p depth. reported (game (scoring-with w)) (record { max-depth = depth; allowance = allowance }) p rs words)
 
   abbrev pub going-on : Option Reported → (Reported → Comparison) → Comparison

@@ -30,10 +30,10 @@ depth-numbers s =
     let t = s .tally in
     s .depth ∷ sign (s .score) ∷ natAbs (s .score) ∷ t .visited ∷ t .terminal ∷ t .cuts ∷ t .tt-hit ∷ t .tt-suffice ∷ []
 
-unfoldable pub stats-numbers : List Stats → List ℕ
-stats-numbers [] = []
-stats-numbers (s ∷ ss) = depth-numbers s ++ stats-numbers ss
+unfoldable pub depths-numbers : List Stats → List ℕ
+depths-numbers [] = []
+depths-numbers (s ∷ ss) = depth-numbers s ++ depths-numbers ss
 
 -- the variation and the stats have as many places as the completed depth says
 unfoldable pub search-numbers : Reported → List ℕ
-search-numbers r = (head-numbers r ++ take (r .depth) (r .pv)) ++ stats-numbers (take (r .depth) (r .stats))
+search-numbers r = (head-numbers r ++ take (r .depth) (r .pv)) ++ depths-numbers (take (r .depth) (r .stats))

@@ -3,9 +3,10 @@ ghost use mathlib.Core.Path.{_≡_};
 ghost use mathlib.Core.Bool.{false, _||_};
 ghost use Prim.Native.Nat.{_≤_, _%_};
 ghost use lib.ListN.{length, replicate};
+ghost use Rattle.rules.specs.Board.{side-from};
 ghost use Rattle.theory.specs.Memory.{no-responses, with-response};
 ghost use Rattle.minimax.specs.Report.{responses-of};
-ghost use Rattle.replay_search.specs.Chains.{side-of, with-responses, start-of, begun-of, search-of, chain-of, Searched};
+ghost use Rattle.replay_search.specs.Chains.{with-responses, start-of, begun-of, search-of, chain-of, Searched};
 ghost use Rattle.replay_search.specs.Chains.{run-of, outcome-of};
 use crate::expected;
 use boards::Move;
@@ -38,7 +39,7 @@ pub struct Begun {
 // With one response more.
 fn with_response(state: Minimax, side: u64, prev: u64, response: u64) -> Minimax
     ensures { λ r. ⌜ responses-of (r .responses)
-        ≡ with-response (responses-of (state .responses)) (side-of side) (prev % 256) (response % 256) ⌝ }
+        ≡ with-response (responses-of (state .responses)) (side-from side) (prev % 256) (response % 256) ⌝ }
 {
     let responses = state.responses;
     let mut x = responses.x;

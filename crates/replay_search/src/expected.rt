@@ -6,7 +6,7 @@ ghost use lib.IntN.{natAbs};
 ghost use lib.ListN.{take};
 ghost use Rattle.minimax.specs.Report.{ending-number, ending-stopped, bytes-of, stats-of, report-of};
 ghost use Rattle.replay.specs.Agreement.{same-numbers, compared-all};
-ghost use Rattle.replay_search.specs.Records.{sign, ending, head-numbers, depth-numbers, stats-numbers, search-numbers};
+ghost use Rattle.replay_search.specs.Records.{sign, ending, head-numbers, depth-numbers, depths-numbers, search-numbers};
 use crate::digest;
 use boards::Move;
 use boards::PLACES;
@@ -96,7 +96,7 @@ fn with_line(begun: Agreement, numbers: &[u64], depth: u64, line: [Move; PLACES]
 
 // The stats of the first depths, as many as the depth.
 fn with_stats(begun: Agreement, numbers: &[u64], depth: u64, stats: [Stats; PLACES]) -> Agreement
-    ensures { λ r. ⌜ r ≡ compared-all (now (numbers .entry)) begun (stats-numbers (take depth (map stats-of stats))) ⌝ }
+    ensures { λ r. ⌜ r ≡ compared-all (now (numbers .entry)) begun (depths-numbers (take depth (map stats-of stats))) ⌝ }
 {
     let mut so_far = begun;
     let mut i: usize = 0;

@@ -24,8 +24,8 @@ fn main() {
     let mut buffer = io::large_buffer();
     let mut kept = io::buffer();
     let mut words = [0u64; ROOM];
-    let mut input = Input::NEW;
-    let mut totals = Totals::NEW;
+    let mut input = Input::new();
+    let mut totals = Totals::new();
     while totals.may_go_on() {
         input = input.next_line(&mut buffer, &mut kept);
         if input.is_end() {

@@ -5,7 +5,7 @@ use lib.Seq.{length-take-le}
 use borrow.Author.Tests.{eq-eqb, ne-eqb}
 use Rattle.decimals.specs.Lists.{list-of}
 use Rattle.decimals.proofs.ListsHeld.{none-read, some-read, read-fits}
-use Rattle.replay_endgame.proofs.Records.{first-few, not-two-differ, no-numbers-differ, two-found}
+use Rattle.replay_endgame.proofs.Records.{not-two-differ, no-numbers-differ, two-found}
 use borrow.Author.Needs.{needs}
 use Rattle.replay_endgame.proofs.outcome.Statement.{statement}
 use Rattle.replay_endgame.proofs.outcome.Tie as tie
@@ -50,8 +50,7 @@ slice-aggregate-comparison : tie.Need-slice-aggregate-comparison
 slice-aggregate-comparison c = sym (length-take-le _ _ (array-share-prefix-words (c .before)))
 
 comparison-requires : tie.Need-comparison-requires
-comparison-requires c κs =
-    first-few (c .before .before .before .n .given .0 .0) _ (omega (arith, array-share-prefix-words (c .before)))
+comparison-requires c κs = search needs
 
 returns-3 : tie.Need-returns-3
 returns-3 c =

@@ -43,8 +43,8 @@ cast-t16 c = search needs
 at-requires-3 : tie.Need-at-requires-3
 at-requires-3 c κs = search needs
 
-player-of-requires : tie.Need-player-of-requires
-player-of-requires c κs = search needs
+side-from-requires : tie.Need-side-from-requires
+side-from-requires c κs = search needs
 
 add-at-3 : tie.Need-add-at-3
 add-at-3 c = search needs
@@ -81,7 +81,7 @@ returns c =
       at-at5 .at5 .ensures,
       at-at5 .before .next-of .ensures,
       at-at4 .at4 .ensures,
-      at-at4 .before .player-of .ensures,
+      at-at4 .before .side-from .ensures,
       at-at3 .at3 .ensures,
       at-at3 .before .at2 .ensures,
       at-at .at .ensures,
@@ -107,7 +107,7 @@ game-in-spec =
     at-requires-2
     cast-t16
     at-requires-3
-    player-of-requires
+    side-from-requires
     add-at-3
     at-requires-4
     next-of-requires

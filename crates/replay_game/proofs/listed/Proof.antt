@@ -5,7 +5,7 @@ use lib.ListN.{length}
 use Rattle.replay.specs.Agreement.{compared-all}
 use Rattle.replay.specs.declared.agreement.Agreement.{Agreement}
 use Rattle.boards.specs.Cursor.{moves-left}
-use Rattle.replay_game.proofs.Records.{next-left, none-left}
+use Rattle.boards.proofs.CursorRest.{next-left, none-left}
 use borrow.Author.Needs.{needs}
 use Rattle.replay_game.proofs.listed.Statement.{statement}
 use Rattle.replay_game.proofs.listed.Tie as tie

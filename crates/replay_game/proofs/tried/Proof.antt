@@ -1,6 +1,5 @@
 -- One move: its answer, and the game after it.
-use Rattle.game.specs.After.{games-after}
-use Rattle.replay_game.specs.Records.{answers}
+use Rattle.game.specs.After.{games-after, answers-each}
 use borrow.Author.Needs.{needs}
 use Rattle.replay_game.proofs.tried.Statement.{statement}
 use Rattle.replay_game.proofs.tried.Tie as tie
@@ -18,7 +17,7 @@ number-requires-2 : tie.Need-number-requires-2
 number-requires-2 c κs = search needs
 
 returns : tie.Need-returns
-unfolding answers games-after
+unfolding answers-each games-after
 returns c =
     let made = c .before .before .before .make-move .ensures in
     record { game-is = made .exact; compared-is = rw (c .number2 .ensures, c .before .number .ensures, made .number) }

@@ -15,7 +15,7 @@ is-whole-requires c κs = search needs
 
 returns : tie.Need-returns
 returns c =
-    whole-is-record _ _ _ (c .before .before .with-analysis .ensures) (c .before .with-moves .ensures) (c .is-whole .ensures)
+    whole-is-record _ _ (c .before .before .with-analysis .ensures) (c .before .with-moves .ensures) (c .is-whole .ensures)
 
 pub is-met-spec : {M : Type 1} → statement M
 is-met-spec =

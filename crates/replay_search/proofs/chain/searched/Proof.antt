@@ -9,7 +9,7 @@ use Rattle.minimax.specs.Report.{report-of}
 use Rattle.replay.specs.Agreement.{same-numbers}
 use Rattle.replay_search.specs.Records.{search-numbers}
 use Rattle.replay_search.proofs.Chains.{numbers-read, none-read}
-use Rattle.replay_search.proofs.ChainsSearched.{no-position, no-depth, new-agreement, is-searched}
+use Rattle.replay_search.proofs.ChainsSearched.{no-position, no-depth, no-numbers, is-searched}
 use borrow.Author.Needs.{needs}
 use Rattle.replay_search.proofs.chain.searched.Statement.{statement}
 use Rattle.replay_search.proofs.chain.searched.Tie as tie
@@ -106,7 +106,7 @@ returns-3 c =
     let at-answer = at-depth .before .before in
     let at-parse = at-answer .before .before in
     let a = at-parse .before .before .before .before .args in
-    new-agreement (now (a .line)) (a .draw-winner) (a .allowance) (a .k) (a .state) (now (a .table)) (now (at-parse .before .field .result))
+    no-numbers (now (a .line)) (a .draw-winner) (a .allowance) (a .k) (a .state) (now (a .table)) (now (at-parse .before .field .result))
     (at-parse .before .field .ensures) (at-parse .parse .result) (at-parse .parse .ensures) (at-answer .enum-told .given .1) _ _
     (at-depth .before .field2 .ensures)
     (sym (at-depth .read-number .ensures) ∙ c .before .before .before .before .before .before .before .before .max-depth .given .1)

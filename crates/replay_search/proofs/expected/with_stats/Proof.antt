@@ -8,21 +8,21 @@ use denote.Ref.{now}
 use Rattle.theory.specs.Deepening.{Stats as Meant}
 use Rattle.minimax.specs.Report.{stats-of}
 use Rattle.replay.specs.Agreement.{compared-all}
-use Rattle.replay_search.specs.Records.{stats-numbers}
-use Rattle.replay_search.proofs.Records.{stats-next, taken-all}
+use Rattle.replay_search.specs.Records.{depths-numbers}
+use Rattle.replay_search.proofs.Records.{depths-next, taken-all}
 use borrow.Author.Needs.{needs}
 use Rattle.replay_search.proofs.expected.with_stats.Statement.{statement}
 use Rattle.replay_search.proofs.expected.with_stats.Tie as tie
 
 abbrev Inv-loop : tie.InvT-loop
 Inv-loop numbers depth stats so-far₀ i₀ so-far i =
-    (i ≤ 81) × (i ≤ depth) × (so-far ≡ compared-all numbers so-far₀ (stats-numbers (take i (map stats-of stats))))
+    (i ≤ 81) × (i ≤ depth) × (so-far ≡ compared-all numbers so-far₀ (depths-numbers (take i (map stats-of stats))))
 
 abbrev μ-loop : tie.MeasureT-loop
 μ-loop numbers depth stats so-far₀ i₀ so-far i = 81 - i
 
 loop-holds : tie.Need-loop-holds Inv-loop μ-loop
-unfolding stats-numbers
+unfolding depths-numbers
 loop-holds c = (search needs, search needs, refl)
 
 returns : tie.Need-returns Inv-loop μ-loop
@@ -31,7 +31,7 @@ returns c =
     let l = c .before .before .loop in
     let n : l .i ≡ start .args .depth = omega (arith, c .if1 .taken, l .inv .1) in
     l .inv .2 ∙ ap (λ (k : ℕ). compared-all (now (start .args .numbers)) (start .args .begun)
-    (stats-numbers (take k (map stats-of (start .args .t4))))) n
+    (depths-numbers (take k (map stats-of (start .args .t4))))) n
 
 mul-depth-numbers : tie.Need-mul-depth-numbers Inv-loop μ-loop
 mul-depth-numbers c = search needs
@@ -63,7 +63,7 @@ loop-again c =
     let n : length (start .args .t4) ≡ 81 = start .good .1 .1 .1 .0 .1 .0 .1 in (
       omega arith,
       omega (arith, c .before .before .before .before .if1 .left),
-      stats-next ns (start .args .begun) (l .so-far) _ (start .args .t4) (l .i) _
+      depths-next ns (start .args .begun) (l .so-far) _ (start .args .t4) (l .i) _
           (omega (arith, c .before .before .before .before .before .loop-test .taken)) (l .inv .2)
           (c .numbers .ensures ∙ ap (compared-all ns (l .so-far)) (c .before .before .depth-numbers .ensures)),
     )
@@ -74,7 +74,7 @@ returns-2 c =
     let l = c .before .loop in
     let n : length (start .args .t4) ≡ 81 = start .good .1 .1 .1 .0 .1 .0 .1 in
     let h : length (map stats-of (start .args .t4)) ≤ l .i = simp length-map (omega (arith, c .loop-test .left)) in
-    l .inv .2 ∙ ap (λ (ss : List Meant). compared-all (now (start .args .numbers)) (start .args .begun) (stats-numbers ss))
+    l .inv .2 ∙ ap (λ (ss : List Meant). compared-all (now (start .args .numbers)) (start .args .begun) (depths-numbers ss))
     (taken-all (map stats-of (start .args .t4)) (l .i) (start .args .depth) h (l .inv .1))
 
 pub with-stats-spec : {M : Type 1} → statement M

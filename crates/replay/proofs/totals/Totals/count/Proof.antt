@@ -1,25 +1,27 @@
--- What is printed changes the mark alone.
-use mathlib.Core.Path.{sym}
-use mathlib.Core.Bool.{true≢false}
+-- What is printed changes the mark alone, and that only of a record that differs.
+use mathlib.Core.Path.{sym, ap}
 use native.Mathlib.Omega.{arith}
 use lib.Seq.{length-take-le}
-use Rattle.replay.specs.Totals.{with-record}
-use Rattle.replay.proofs.TotalsText.{text-room, counted-by}
+use Rattle.replay.specs.declared.totals.CountedRecord.{CountedRecord}
+use Rattle.answer_text.proofs.AnswerBytes.{text-room}
+use Rattle.replay.proofs.TotalsCount.{counted-unprinted, counted-printed}
 use borrow.Author.Needs.{needs}
 use Rattle.replay.proofs.totals.Totals.count.Statement.{statement}
 use Rattle.replay.proofs.totals.Totals.count.Tie as tie
 
-with-record-requires : tie.Need-with-record-requires
-with-record-requires c κs = search needs
-
-record-text-requires : tie.Need-record-text-requires
-record-text-requires c κs = search needs
+counted-requires : tie.Need-counted-requires
+counted-requires c κs = search needs
 
 written-requires : tie.Need-written-requires
 written-requires c κs = search needs
 
+returns : tie.Need-returns
+returns c = counted-unprinted _ _ _ (c .before .before .before .before .before .counted .ensures)
+
 array-share-prefix-bytes : tie.Need-array-share-prefix-bytes
-array-share-prefix-bytes c = omega (arith, text-room _ _ (c .before .before .record-text .ensures), c .written .ensures)
+array-share-prefix-bytes c =
+    let text-is = ap (λ (z : CountedRecord). z .text) (c .before .before .before .before .before .counted .ensures) in
+    omega (arith, text-room _ _ text-is, c .before .written .ensures)
 
 slice-aggregate-write-all : tie.Need-slice-aggregate-write-all
 slice-aggregate-write-all c = sym (length-take-le _ _ (array-share-prefix-bytes (c .before)))
@@ -27,22 +29,25 @@ slice-aggregate-write-all c = sym (length-take-le _ _ (array-share-prefix-bytes 
 write-all-requires : tie.Need-write-all-requires
 write-all-requires c κs = search needs
 
-returns : tie.Need-returns
-returns c = counted-by _ _ _ _ (c .before .before .before .before .before .before .with-record .ensures) (λ e. e)
+printed-requires : tie.Need-printed-requires
+printed-requires c κs = search needs
 
 returns-2 : tie.Need-returns-2
 returns-2 c =
-    counted-by _ _ _ _ (c .before .before .before .before .before .before .with-record .ensures) (λ e. absurd (true≢false (sym e)))
+    let at-if = c .before .before .before in
+    let at-counted = at-if .before .before .before .before .before in
+    counted-printed _ _ _ _ _ _ (at-counted .counted .ensures) (at-if .before .written .ensures) (at-if .if1 .left)
+    (c .printed .ensures)
 
 pub count-spec : {M : Type 1} → statement M
 count-spec =
     tie.close
     (tie.spec
-    with-record-requires
-    record-text-requires
+    counted-requires
     written-requires
+    returns
     array-share-prefix-bytes
     slice-aggregate-write-all
     write-all-requires
-    returns
+    printed-requires
     returns-2)

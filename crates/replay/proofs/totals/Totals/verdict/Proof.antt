@@ -1,6 +1,5 @@
 -- The parts one after another.
 use mathlib.Core.List.{[]}
-use Rattle.base.specs.Branch.{if_then_else_}
 use Rattle.text.specs.Bytes.{quoted}
 use Rattle.text.specs.ProgramLine.{decimal}
 use Rattle.replay.proofs.TotalsText.{then-text, then-byte, verdict-without, verdict-with}
