@@ -1,6 +1,5 @@
 -- What a cursor has given, and what it has left.
 use mathlib.Core.Path.{_≡_, refl, sym, ap, ap₂, _∙_, subst}
-use mathlib.Core.Bool.{Bool}
 use mathlib.Core.List.{List, [], _∷_, _++_}
 use Prim.Native.Nat.{ℕ, zero, suc, _+_, _-_, _≤_, _<_}
 use native.Mathlib.Omega.{arith}
@@ -8,7 +7,7 @@ use lib.ListN.{length, set, take, drop, replicate, length-append, length-map}
 use lib.Seq.{set-at, take-all}
 use Rattle.base.specs.Lists.{filter, from}
 use Rattle.base.specs.Bits.{bit}
-use Rattle.base.proofs.Branch.{if-ind}
+use Rattle.base.proofs.Lists.{filter-short}
 use Rattle.rules.specs.Play.{no-move}
 use Rattle.theory.specs.Reported.{filled}
 use Rattle.boards.specs.declared.moves.Move.{Move}
@@ -16,7 +15,7 @@ use Rattle.boards.specs.declared.moves.MoveIterator.{MoveIterator}
 use Rattle.boards.specs.declared.moves.Listed.{Listed}
 use Rattle.boards.specs.declared.moves.Listed.the-variants.{Next, End}
 use Rattle.boards.specs.Cursor.{move-at, row-moves, moves-left, cursor-over, listed}
-use Rattle.order.proofs.OrderCursor.{rest-left}
+use Rattle.boards.proofs.CursorRest.{rest-left}
 use Rattle.minimax.specs.Report.{byte-of, bytes-of}
 use Rattle.minimax.proofs.ReportAnswers.{bytes-empty}
 use Rattle.minimax.proofs.ReportPlaces.{drop-next, take-next, rest-next}
@@ -53,13 +52,6 @@ all-given (m ∷ ms) zero e = absurd (let z : _≡_ {A = ℕ} 0 1 = cc in omega 
 all-given (m ∷ ms) (suc i) e = let p = all-given ms i e in (p .0, ap (λ (l : List ℕ). m ∷ l) (p .1))
 
 -- ---- a cursor has 81 moves at most
-filter-short : (f : ℕ → Bool) (xs : List ℕ) → length (filter f xs) ≤ length xs
-unfolding filter
-filter-short f [] = omega arith
-filter-short f (x ∷ xs) =
-    if-ind (λ (l : List ℕ). length l ≤ suc (length xs)) (f x) _ _ (λ _. omega (arith, filter-short f xs))
-    (λ _. omega (arith, filter-short f xs))
-
 row-short : (r n : ℕ) → length (row-moves r n) ≤ 27
 unfolding row-moves
 row-short r n = omega (arith, length-map (filter (bit n) (from 0 27)) (move-at r), filter-short (bit n) (from 0 27))

@@ -1,9 +1,9 @@
 -- Demand 3: what is claimed of a search with the table off, and of the endgame status, at an unfinished position.
 use mathlib.Core.Path.{_≡_}
 use mathlib.Core.Bool.{not}
-use mathlib.Core.List.{List, []}
+use mathlib.Core.List.{[]}
 use mathlib.Core.Logic.{_⊎_}
-use Prim.Native.Nat.{ℕ, _-_, _≤_}
+use Prim.Native.Nat.{_-_, _≤_}
 use lib.Dec.{T}
 use lib.IntN.{negℤ}
 use lib.ListN.{getD}

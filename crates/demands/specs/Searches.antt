@@ -1,13 +1,12 @@
 -- What is claimed of every search's report: the stats of its depths, what a stop leaves, and a position without a move.
 use mathlib.Core.Path.{_≡_}
 use mathlib.Core.Bool.{not}
-use mathlib.Core.List.{List, [], map}
+use mathlib.Core.List.{List, []}
 use mathlib.Core.Option.{none}
 use Prim.Native.Nat.{ℕ, suc, _≤_, _<_}
 use lib.Dec.{T}
 use lib.IntN.{negℤ, pos}
 use lib.ListN.{length, getD, replicate}
-use Rattle.base.specs.Lists.{total}
 use Rattle.rules.specs.Position.{unfinished}
 use Rattle.rules.specs.Play.{no-move}
 use Rattle.rules.specs.Moves.{moves}
@@ -16,7 +15,7 @@ use Rattle.theory.specs.Limits.{console}
 use Rattle.theory.specs.Table.{look-up}
 use Rattle.theory.specs.Memory.{fresh-memory}
 use Rattle.theory.specs.OrderedSearch.{unlimited}
-use Rattle.theory.specs.Deepening.{Stats, analyze}
+use Rattle.theory.specs.Deepening.{visited-in, analyze}
 use Rattle.theory.specs.Reported.{Reported, entry-refusal, no-stats, report}
 use Rattle.game.specs.declared.Game.{Game}
 use Rattle.game.specs.Meaning.{position-of}
@@ -27,10 +26,6 @@ use Rattle.minimax.specs.Structs.{structs}
 use Rattle.minimax.specs.Report.{responses-of, scoring-of, settings-of, report-of, reported-of}
 
 -- ---- the stats, of which the first place is depth 1's
--- the positions entered, over a list of depths
-abbrev pub visited-in : List Stats → ℕ
-visited-in ss = total (λ n. n) (map (λ (s : Stats). s .tally .visited) ss)
-
 -- x is what is reported
 pub record StatsByDepth (x : Reported) : Type 0 where
   -- one for each completed depth, in order, and then empty places

@@ -1,11 +1,11 @@
 -- Each call, from what its parts give: asked wrongly it keeps all, asked rightly it leaves what was stored.
 use mathlib.Core.Path.{_≡_, refl, sym, ap, _∙_}
 use mathlib.Core.Bool.{Bool, true, false, _&&_}
-use mathlib.Core.List.{List, [], _++_}
+use mathlib.Core.List.{List, []}
 use Prim.Native.Nat.{ℕ, _≤_, _<_, min}
 use native.Mathlib.Omega.{arith}
 use lib.Dec.{leb}
-use lib.ListN.{length, take, drop, length-take}
+use lib.ListN.{length, take, length-take}
 use lib.Seq.{sets}
 use borrow.Author.Tests.{le-leb, lt-leb}
 use Rattle.base.specs.Branch.{if_then_else_}
@@ -22,7 +22,7 @@ use Rattle.status.specs.declared.Status.{Status}
 use Rattle.game.specs.declared.Game.{Game}
 use Rattle.game.specs.Meaning.{position-of}
 use Rattle.game.specs.Built.{new-game}
-use Rattle.game.specs.After.{games-after}
+use Rattle.game.specs.After.{games-after, answers-each}
 use Rattle.notation.specs.declared.ParseAnswer.{ParseAnswer}
 use Rattle.notation.specs.declared.ParseAnswer.the-variants.{Accepted, Refused}
 use Rattle.notation.specs.declared.Parsed.{Parsed}
@@ -42,7 +42,7 @@ use Rattle.program_line.proofs.Answered.{line-is-answered}
 use Rattle.line_buffer.specs.declared.LineBuffer.{LineBuffer}
 use Rattle.interface.specs.Lent.{Puts}
 use Rattle.interface.specs.Position.{words-of, game-from, is-position}
-use Rattle.interface.specs.Calls.{Answers, Starts, reading-number, read-place, ReadsPosition, Renders, answers-each, PlaysAll}
+use Rattle.interface.specs.Calls.{Answers, Starts, reading-number, read-place, ReadsPosition, Renders, PlaysAll}
 use Rattle.interface.specs.Calls.{draws-from, scoring-from, responses-from, responses-bytes, report-words, found, Analyzes}
 use Rattle.interface.proofs.LentPlaces.{left-written, left-kept, returned-bad, returned-well}
 use Rattle.interface.proofs.CallsPlay.{answers-length}

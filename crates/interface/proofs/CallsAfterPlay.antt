@@ -1,11 +1,10 @@
 -- Demand 3 of a report with the table off: its list is what was tried by calls of ultimattt_play since the empty board, then the report's
 -- own moves.
-use mathlib.Core.Path.{_≡_, refl, sym, ap, _∙_, subst}
+use mathlib.Core.Path.{_≡_, sym, ap, _∙_, subst}
 use mathlib.Core.List.{List, [], _++_}
 use Prim.Native.Nat.{ℕ}
 use native.Mathlib.Omega.{arith}
 use lib.Dec.{T, ltb→lt}
-use lib.ListN.{take, drop}
 use Rattle.rules.specs.Position.{Position, start, unfinished}
 use Rattle.rules.specs.Play.{reached}
 use Rattle.rules.specs.Endgame.{Analysis as Ends, analysis}

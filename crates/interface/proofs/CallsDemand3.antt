@@ -3,7 +3,6 @@ use mathlib.Core.Path.{_≡_, sym, ap, _∙_}
 use mathlib.Core.Bool.{Bool}
 use mathlib.Core.List.{List, []}
 use Prim.Native.Nat.{ℕ}
-use lib.ListN.{take, drop}
 use Rattle.interface.proofs.CallsAfterPlay.{reached-is, reported-is}
 use Rattle.rules.specs.declared.DrawWinner.{DrawWinner}
 use Rattle.rules.specs.Position.{Position, start}
@@ -26,7 +25,7 @@ use Rattle.demands.specs.declared.AfterMoves.{AfterMoves}
 use Rattle.demands.specs.Demand3.{Demand3}
 use Rattle.interface.specs.Lent.{left}
 use Rattle.interface.specs.Position.{game-from}
-use Rattle.interface.specs.Calls.{draws-from, scoring-from, responses-from, report-words, analyze-ok, found, Analyzes}
+use Rattle.interface.specs.Calls.{draws-from, responses-from, report-words, analyze-ok, found, Analyzes}
 
 module _ (p ms : List ℕ) (m : Minimax) (c : Config) (draws : ℕ) (answers report : List ℕ)
     (new : game-from p ≡ new-game) (w-is : c .«draw_winner» ≡ draws-from draws)

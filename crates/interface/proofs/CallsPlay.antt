@@ -8,8 +8,7 @@ use lib.Seq.{drop-cons, sets}
 use Rattle.rules.specs.Play.{play}
 use Rattle.game.specs.declared.Game.{Game}
 use Rattle.game.specs.Meaning.{position-of}
-use Rattle.game.specs.After.{refusal, game-after}
-use Rattle.interface.specs.Calls.{answers-each}
+use Rattle.game.specs.After.{refusal, game-after, answers-each}
 
 pub answers-next : (l ms : List ℕ) (g h : Game) (i n : ℕ) → i < length ms → n ≡ refusal (play (position-of g) (getD ms i 0)) →
     h ≡ game-after g (getD ms i 0) → sets (set l i n) (i + 1) (answers-each h (drop (i + 1) ms))

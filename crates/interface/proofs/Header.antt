@@ -1,30 +1,40 @@
--- A report's words stand where the header says: of every report, and of one whose words are all written out; and a position's words.
+-- A report's words stand where the header says: of every report, of what a call of ultimattt_analyze leaves, and of one whose words are
+-- all written out; and a position's words.
 use mathlib.Core.Path.{_≡_, refl, sym, ap, _∙_, subst}
-use mathlib.Core.Bool.{true}
-use mathlib.Core.List.{List, [], _∷_, _++_}
+use mathlib.Core.Bool.{Bool, true}
+use mathlib.Core.List.{List, [], _∷_, _++_, append-assoc}
 use Prim.Native.Nat.{ℕ, zero, suc, _+_, _*_, _<_}
 use native.Mathlib.Omega.{arith}
 use lib.IntN.{pos, negsuc}
 use lib.ListN.{length, getD, drop, replicate, List·getD-append}
 use lib.Seq.{drop-append-add, getD-append-add}
+use Rattle.base.specs.Branch.{if_then_else_}
 use Rattle.rules.specs.declared.Player.the-variants.{O}
 use Rattle.rules.specs.declared.NextBoard.the-variants.{Only}
 use Rattle.rules.specs.declared.GameState.the-variants.{Won}
 use Rattle.rules.specs.Play.{no-move}
+use Rattle.rules.specs.Status.{as-byte}
+use Rattle.rules.specs.Endgame.{analysis}
 use Rattle.theory.specs.Memory.{counts, no-responses}
 use Rattle.theory.specs.Deepening.{Stats}
-use Rattle.theory.specs.Reported.{Reported, no-stats}
+use Rattle.theory.specs.Reported.{Settings, Reported, no-stats}
+use Rattle.theory.proofs.ReportedPlaces.{reported-places}
 use Rattle.game.specs.declared.Game.{Game}
+use Rattle.game.specs.Meaning.{position-of}
+use Rattle.minimax.specs.Structs.{structs}
+use Rattle.interface.specs.Lent.{left}
 use Rattle.interface.specs.Position.{words-of}
-use Rattle.interface.specs.Calls.{stats-words, all-stats, head-words, report-words}
+use Rattle.interface.specs.Calls.{scoring-from, responses-from, stats-words, all-stats, head-words, report-words}
+use Rattle.interface.specs.Calls.{analyze-ok, analysed, found, Analyzes}
 use Rattle.interface.specs.Header.{STATS, STATS-WORDS, StatsLayout, ReportLayout}
 
--- ---- of every report
+-- ---- of every report, whatever follows it
 -- the words of depth i begin after those of the depths before it
-depth-words : (ss : List Stats) (i : ℕ) → i < length ss → StatsLayout (drop (7 * i) (all-stats ss)) (getD ss i no-stats)
+depth-words : (ss : List Stats) (rest : List ℕ) (i : ℕ) → i < length ss →
+    StatsLayout (drop (7 * i) (all-stats ss ++ rest)) (getD ss i no-stats)
 unfolding all-stats
-depth-words [] i h = absurd (omega arith)
-depth-words (s ∷ ss) zero h = record {
+depth-words [] rest i h = absurd (omega arith)
+depth-words (s ∷ ss) rest zero h = record {
   depth-is = refl;
   score-is = refl;
   visited-is = refl;
@@ -33,22 +43,29 @@ depth-words (s ∷ ss) zero h = record {
   hits-is = refl;
   suffice-is = refl;
 }
-depth-words (s ∷ ss) (suc i) h =
+depth-words (s ∷ ss) rest (suc i) h =
     let e : 7 * suc i ≡ length (stats-words s) + 7 * i = omega arith in
     subst (λ (l : List ℕ). StatsLayout l (getD ss i no-stats))
-    (sym (ap (λ (n : ℕ). drop n (all-stats (s ∷ ss))) e ∙ drop-append-add (stats-words s) (all-stats ss) (7 * i)))
-    (depth-words ss i (omega arith))
+    (sym (ap (λ (n : ℕ). drop n (all-stats (s ∷ ss) ++ rest)) e ∙ drop-append-add (stats-words s) (all-stats ss ++ rest) (7 * i)))
+    (depth-words ss rest i (omega arith))
 
-module _ (x : Reported) (refusal status : ℕ) (moves : length (x .pv) ≡ 81) (depths : length (x .stats) ≡ 81) where
-  after-moves : (i : ℕ) → drop (STATS + STATS-WORDS * i) (report-words x refusal status) ≡ drop (7 * i) (all-stats (x .stats))
+module _ (x : Reported) (refusal status : ℕ) (rest : List ℕ) (moves : length (x .pv) ≡ 81) (depths : length (x .stats) ≡ 81) where
+  abbrev after-head : List ℕ
+  after-head = x .pv ++ (all-stats (x .stats) ++ rest)
+
+  parted : report-words x refusal status ++ rest ≡ head-words x refusal status ++ after-head
+  parted = ap (λ (l : List ℕ). head-words x refusal status ++ l) (append-assoc (x .pv) (all-stats (x .stats)) rest)
+
+  after-moves : (i : ℕ) → drop (STATS + STATS-WORDS * i) (head-words x refusal status ++ after-head)
+      ≡ drop (7 * i) (all-stats (x .stats) ++ rest)
   after-moves i =
       let e : STATS + STATS-WORDS * i ≡ length (head-words x refusal status) + (length (x .pv) + 7 * i) = omega arith in
-      ap (λ (n : ℕ). drop n (report-words x refusal status)) e
-      ∙ drop-append-add (head-words x refusal status) (x .pv ++ all-stats (x .stats)) (length (x .pv) + 7 * i)
-      ∙ drop-append-add (x .pv) (all-stats (x .stats)) (7 * i)
+      ap (λ (n : ℕ). drop n (head-words x refusal status ++ after-head)) e
+      ∙ drop-append-add (head-words x refusal status) after-head (length (x .pv) + 7 * i)
+      ∙ drop-append-add (x .pv) (all-stats (x .stats) ++ rest) (7 * i)
 
-  pub laid-out : ReportLayout (report-words x refusal status) x refusal status
-  laid-out = record {
+  pub laid-out : ReportLayout (report-words x refusal status ++ rest) x refusal status
+  laid-out = subst (λ (ws : List ℕ). ReportLayout ws x refusal status) (sym parted) (record {
     number-is = refl;
     stopped-is = refl;
     depth-is = refl;
@@ -57,11 +74,37 @@ module _ (x : Reported) (refusal status : ℕ) (moves : length (x .pv) ≡ 81) (
     endgame-number-is = refl;
     status-is = refl;
     line-is = λ i h.
-        getD-append-add (head-words x refusal status) (x .pv ++ all-stats (x .stats)) i 0
-        ∙ List·getD-append (x .pv) (all-stats (x .stats)) 0 i (omega arith);
+        getD-append-add (head-words x refusal status) after-head i 0
+        ∙ List·getD-append (x .pv) (all-stats (x .stats) ++ rest) 0 i (omega arith);
     stats-are = λ i h. subst (λ (l : List ℕ). StatsLayout l (getD (x .stats) i no-stats)) (sym (after-moves i))
-        (depth-words (x .stats) i (omega arith));
-  }
+        (depth-words (x .stats) rest i (omega arith));
+  })
+
+-- ---- of what a call leaves
+module _ (position moves : List ℕ) (depth allowance draws : ℕ) (responses words report : List ℕ) where
+  abbrev g : Game
+  g = analysed position moves depth allowance draws responses words report
+
+  abbrev x : Reported
+  x = found position moves depth allowance draws responses words report
+
+  abbrev refusal : ℕ
+  refusal = analysis (position-of g) .refusal
+
+  abbrev status : ℕ
+  status = as-byte (analysis (position-of g) .status)
+
+  -- asked rightly: the search's report, and the endgame analysis by its number and its status byte
+  pub report-laid-out : (responses-after words-after report-after : List ℕ) (r : ℕ) →
+      Analyzes position moves depth allowance draws responses words report responses-after words-after report-after r →
+      analyze-ok position moves depth allowance draws responses words report ≡ true → ReportLayout report-after x refusal status
+  unfolding left if_then_else_
+  report-laid-out responses-after words-after report-after r a ok =
+      let all = report-words x refusal status in
+      let settings : Settings = record { max-depth = depth; allowance = allowance } in
+      let long = reported-places (structs (scoring-from draws)) settings g (responses-from responses) words in
+      subst (λ (ws : List ℕ). ReportLayout ws x refusal status) (sym (a .report-is ∙ ap (λ (b : Bool). left b all report) ok))
+      (laid-out x refusal status (drop (length all) report) (long .0) (long .1))
 
 -- ---- of one, in which no two fields are alike
 abbrev sample : Reported

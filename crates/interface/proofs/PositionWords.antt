@@ -17,12 +17,12 @@ use Rattle.rules.specs.declared.Player.{Player}
 use Rattle.rules.specs.declared.Player.the-variants.{X, O}
 use Rattle.rules.specs.declared.GameState.{GameState}
 use Rattle.rules.specs.declared.GameState.the-variants.{InPlay, Drawn, Won}
-use Rattle.rules.specs.Board.{side-number, state-number}
+use Rattle.rules.specs.Board.{side-number, side-from, state-number}
 use Rattle.boards.specs.declared.local.Row.{Row}
 use Rattle.rules.specs.declared.NextBoard.{NextBoard}
 use Rattle.rules.specs.declared.NextBoard.the-variants.{Any, Only}
 use Rattle.game.specs.declared.Game.{Game}
-use Rattle.interface.specs.Position.{next-board-word, row-words, words-of, side-from, next-board-from, state-from, row-from}
+use Rattle.interface.specs.Position.{next-board-word, row-words, words-of, next-board-from, state-from, row-from}
 use Rattle.interface.specs.Position.{game-from, most, all-within, is-position}
 
 pub within-short : (bs ws : List ℕ) → length ws < length bs → false ≡ all-within bs ws

@@ -8,7 +8,7 @@ use lib.ListN.{length, take, drop}
 use Rattle.base.specs.Branch.{if_then_else_}
 use Rattle.rules.specs.declared.DrawWinner.{DrawWinner}
 use Rattle.rules.specs.declared.DrawWinner.the-variants.{Nobody, Side}
-use Rattle.rules.specs.Play.{play}
+use Rattle.rules.specs.Board.{side-from}
 use Rattle.rules.specs.Status.{as-byte}
 use Rattle.rules.specs.Endgame.{analysis}
 use Rattle.rules.specs.Evaluation.{Scoring, scoring-with}
@@ -21,12 +21,12 @@ use Rattle.text.specs.Writing.{text-of}
 use Rattle.game.specs.declared.Game.{Game}
 use Rattle.game.specs.Meaning.{position-of}
 use Rattle.game.specs.Built.{new-game}
-use Rattle.game.specs.After.{refusal, game-after, games-after}
+use Rattle.game.specs.After.{games-after, answers-each}
 use Rattle.notation.specs.Parsed.{game-for}
 use Rattle.minimax.specs.Structs.{structs}
 use Rattle.program_line.specs.Answered.{answer-line}
 use Rattle.interface.specs.Lent.{returned, left}
-use Rattle.interface.specs.Position.{words-of, game-from, is-position, side-from}
+use Rattle.interface.specs.Position.{words-of, game-from, is-position}
 
 -- ---- ultimattt_answer: the program's answer to a line
 module _ (line out : List ℕ) where
@@ -66,12 +66,7 @@ module _ (position out : List ℕ) where
     pub returns : r ≡ returned render-ok 0
     pub out-is : out-after ≡ left render-ok (text-of (position-of (game-from position))) out
 
--- ---- ultimattt_play: moves, tried one after the other
--- what each is answered: 9 to 13, or 0 where it is played
-unfoldable pub answers-each : Game → List ℕ → List ℕ
-answers-each g [] = []
-answers-each g (m ∷ ms) = refusal (play (position-of g) m) ∷ answers-each (game-after g m) ms
-
+-- ---- ultimattt_play: moves, tried one after the other; each is answered by 9 to 13, or by 0 where it is played
 module _ (position moves answers : List ℕ) where
   abbrev pub play-ok : Bool
   play-ok = is-position position && leb (length moves) (length answers)

@@ -4,11 +4,10 @@ use mathlib.Core.List.{List, [], _∷_, _++_}
 use Prim.Native.Nat.{ℕ, _+_, _-_}
 use lib.Dec.{eqb, leb}
 use lib.ListN.{getD}
-use Rattle.rules.specs.declared.Player.{Player}
 use Rattle.rules.specs.declared.Player.the-variants.{X, O}
 use Rattle.rules.specs.declared.GameState.{GameState}
 use Rattle.rules.specs.declared.GameState.the-variants.{InPlay, Drawn, Won}
-use Rattle.rules.specs.Board.{side-number, state-number}
+use Rattle.rules.specs.Board.{side-number, side-from, state-number}
 use Rattle.boards.specs.declared.local.Row.{Row}
 use Rattle.rules.specs.declared.NextBoard.{NextBoard}
 use Rattle.rules.specs.declared.NextBoard.the-variants.{Any, Only}
@@ -31,9 +30,6 @@ words-of g =
     side-number (g .«next_player») ∷ next-board-word (g .«next_board») ∷ state-number (g .«game_state») ∷ g .hash ∷ [])
 
 -- ---- back
-abbrev pub side-from : ℕ → Player
-side-from w = cond (eqb w 0) X O
-
 abbrev pub next-board-from : ℕ → NextBoard
 next-board-from w = cond (eqb w 256) Any (Only w)
 

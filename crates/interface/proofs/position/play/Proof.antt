@@ -6,10 +6,9 @@ use lib.ListN.{length, drop, length-set}
 use lib.Seq.{sets}
 use denote.Ref.{now}
 use Rattle.game.specs.declared.Game.{Game}
-use Rattle.game.specs.After.{games-after}
+use Rattle.game.specs.After.{games-after, answers-each}
 use Rattle.boards.proofs.Answers.{answer-most}
 use Rattle.game.proofs.AfterList.{games-more, games-all}
-use Rattle.interface.specs.Calls.{answers-each}
 use Rattle.interface.proofs.CallsPlay.{answers-next, answers-end}
 use borrow.Author.Needs.{needs}
 use Rattle.interface.proofs.position.play.Statement.{statement}
