@@ -1,6 +1,6 @@
 -- The bytes of a read, by the sign of what `read` returned.
 use mathlib.Core.Path.{_≡_, refl}
-use mathlib.Core.Bool.{Bool, true, false, not, _&&_, _||_}
+use mathlib.Core.Bool.{true, false, not, and-false, or-true}
 use mathlib.Core.Logic.{_⊎_, inl, inr}
 use Prim.Native.Nat.{ℕ, _≤_, _<_, min}
 use native.Mathlib.Omega.{arith}
@@ -38,15 +38,7 @@ failed-is-end i e = rw e
 
 pub line-is-no-end : (i : Input) → i .failed ≡ false → (i .found ≡ true) ⊎ (0 < i .line .length) → ended i ≡ false
 line-is-no-end i e (inl f) = rw (e, f)
-line-is-no-end i e (inr h) = rw (e, ne-eqb (i .line .length) 0 (omega arith)) (both (i .found))
-  where
-    both : (b : Bool) → (not b && false) ≡ false
-    both true = refl
-    both false = refl
+line-is-no-end i e (inr h) = rw (e, ne-eqb (i .line .length) 0 (omega arith)) (and-false (not (i .found)))
 
 pub nothing-is-end : (i : Input) → i .found ≡ false → i .line .length ≡ 0 → ended i ≡ true
-nothing-is-end i e z = rw (e, eq-eqb (i .line .length) 0 z) (either (i .failed))
-  where
-    either : (b : Bool) → (b || true) ≡ true
-    either true = refl
-    either false = refl
+nothing-is-end i e z = rw (e, eq-eqb (i .line .length) 0 z) (or-true (i .failed))

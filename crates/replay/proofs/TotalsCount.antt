@@ -1,6 +1,6 @@
 -- A record counted, printed or not; and that it is one record more, as long as records may go on.
 use mathlib.Core.Path.{_≡_, refl, ap, _∙_}
-use mathlib.Core.Bool.{Bool, true, false, _&&_, and-true}
+use mathlib.Core.Bool.{Bool, true, false, _&&_, _||_, and-true, or-true}
 use mathlib.Core.List.{List}
 use Prim.Native.Nat.{ℕ, _+_, _-_, _<_, min}
 use native.Mathlib.Omega.{arith}
@@ -46,10 +46,13 @@ module _ (t : Totals) (k : CountedRecord) where
   counted-printed Differs n all r e f h g = (all, g ∙ ap (λ (z : CountedRecord). printed (z .totals) all) e)
 
 pub concluded : (t : Totals) (said : List ℕ) (failed all : Bool) (x : AnswerText) (w : Totals) (y : AnswerText) →
-    x ≡ text-of-bytes (last-text t said failed) → w ≡ printed t all → y ≡ text-of-bytes (told-text failed (w .written)) →
+    x ≡ text-of-bytes (last-text t said failed) → w ≡ printed t (all || failed) → y ≡ text-of-bytes (told-text failed (w .written)) →
     Concludes t said failed (record { text = x; totals = w; told = y })
-concluded t said failed all x w y e f g =
-    (all, λ i. record { text = e i; totals = f i; told = (g ∙ ap (λ (z : Totals). text-of-bytes (told-text failed (z .written))) f) i })
+concluded t said failed all x w y e f g = (
+  all || failed,
+  λ i. record { text = e i; totals = f i; told = (g ∙ ap (λ (z : Totals). text-of-bytes (told-text failed (z .written))) f) i },
+  λ k. rw k (or-true all),
+)
 
 -- ---- one record more
 second : (a b : Bool) → (a && b) ≡ true → b ≡ true

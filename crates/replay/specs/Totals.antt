@@ -87,6 +87,6 @@ conclusion t said failed all = record {
   told = text-of-bytes (told-text failed (t .written && all));
 }
 
--- for some return of the write
+-- for some return of the write; after a failed read there is nothing to write
 abbrev pub Concludes : Totals → List ℕ → Bool → Conclusion → Type 0
-Concludes t said failed r = (all : Bool) × (r ≡ conclusion t said failed all)
+Concludes t said failed r = (all : Bool) × (r ≡ conclusion t said failed all) × (failed ≡ true → all ≡ true)

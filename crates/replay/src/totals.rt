@@ -202,7 +202,8 @@ impl Totals {
         let text = self.last_text(said, failed);
         let bytes = text.bytes;
         let n = text.written();
-        let totals = self.printed(io::write_all(STDOUT_FILENO, &bytes[..n]));
+        // After a failed read there is nothing to print.
+        let totals = self.printed(io::write_all(STDOUT_FILENO, &bytes[..n]) | failed);
         let told = totals.told(failed);
         let bytes = told.bytes;
         let n = told.written();

@@ -1,14 +1,14 @@
 -- A run, read by read; and what its program holds where the input ended: the last line of all that came.
 use mathlib.Core.Path.{_≡_, refl, sym, ap, _∙_, subst}
-use mathlib.Core.Bool.{Bool, true, false, cond, _&&_, true≢false}
+use mathlib.Core.Bool.{Bool, true, false, cond, _&&_, _||_, true≢false, or-true}
 use mathlib.Core.List.{List, [], _∷_, map}
-use Prim.Native.Nat.{ℕ, _-_, _<_, _≤_}
+use Prim.Native.Nat.{ℕ, _-_, _<_, _≤_, min}
 use native.Mathlib.Omega.{arith}
-use lib.Dec.{ltb}
+use lib.Dec.{eqb, ltb}
 use lib.IntN.{ℤ, pos, negsuc}
 use lib.ListN.{length, take}
 use lib.Signed.{ltZ}
-use borrow.Author.Tests.{ltb-true, ltb-false, le-ltb}
+use borrow.Author.Tests.{ltb-true, ltb-false, le-ltb, eq-eqb}
 use Rattle.io.specs.Counts.{clamped}
 use Rattle.line_buffer.specs.Buffer.{buffer-of}
 use Rattle.line_buffer.specs.Taking.{buffered}
@@ -214,9 +214,10 @@ pub reads-used-up : (s : ProgramRun) (steps : List ReadStep) → RunsTo new-run 
 reads-used-up s steps w q = sym (reads-counted new-run s steps w q)
 
 -- ---- what is written and told at the end
-pub concluded : (r : ProgramRun) (x y : AnswerText) (written : Bool) → x ≡ last-of-run (r .progress) (r .program) →
-    y ≡ text-of-bytes (told-of-run (r .progress) written) → Concluded r (record { text = x; told = y })
-concluded r x y written e f = (written, λ i. record { text = e i; told = f i })
+pub concluded : (r : ProgramRun) (x y : AnswerText) (n : ℕ) (w : Bool) → x ≡ last-of-run (r .progress) (r .program) →
+    n ≡ min (x .len) 224 → y ≡ text-of-bytes (told-of-run (r .progress) (w || eqb n 0)) → Concluded r (record { text = x; told = y })
+concluded r x y n w e k f =
+    (w || eqb n 0, λ i. record { text = e i; told = f i }, λ z. rw (eq-eqb n 0 (omega (arith, k, z))) (or-true w))
 
 -- the last text stands in a row of 224 bytes
 pub last-of-run-room : (x : Progress) (p : Program) (o : AnswerText) → o ≡ last-of-run x p → length (o .bytes) ≡ 224

@@ -105,6 +105,6 @@ run-end r written = record {
   told = text-of-bytes (told-of-run (r .progress) written);
 }
 
--- for some return of the write
+-- for some return of the write, if there is anything to write
 abbrev pub Concluded : ProgramRun → RunEnd → Type 0
-Concluded r e = (written : Bool) × (e ≡ run-end r written)
+Concluded r e = (written : Bool) × (e ≡ run-end r written) × (e .text .len ≡ 0 → written ≡ true)

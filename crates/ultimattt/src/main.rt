@@ -163,7 +163,7 @@ fn conclude(run: ProgramRun) -> RunEnd
     let n = text.written();
     let written = io::write_all(STDOUT_FILENO, &answer[..n]);
     let progress = run.progress;
-    let told = progress.told(written);
+    let told = progress.told(written | (n == 0));
     let said = told.bytes;
     let m = told.written();
     io::write_all(STDERR_FILENO, &said[..m]);

@@ -44,7 +44,8 @@ returns : tie.Need-returns
 returns c =
     let at-told = c .before .before .before .before in
     let at-last = at-told .before .before .before .before .before in
-    concluded (at-last .before .args .run) _ _ (at-told .before .write-all .result) (at-last .last .ensures) (at-told .told .ensures)
+    concluded (at-last .before .args .run) _ _ _ (at-told .before .write-all .result) (at-last .last .ensures)
+    (at-told .before .before .before .written .ensures) (at-told .told .ensures)
 
 pub conclude-spec : {M : Type 1} → statement M
 conclude-spec =
