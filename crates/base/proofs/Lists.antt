@@ -38,6 +38,10 @@ module _ {A : Type 0} where
   each-all f [] h = tt
   each-all f (x ∷ xs) h = →and (f x) _ (h x (inl refl)) (each-all f xs (λ y i. h y (inr i)))
 
+  pub no-member : (xs : List A) → ((x : A) → In x xs → ⊥) → xs ≡ []
+  no-member [] h = refl
+  no-member (x ∷ xs) h = absurd (h x (inl refl))
+
   -- where the list has a place, what `getD` would answer past its end does not matter
   pub default-unused : (xs : List A) (i : ℕ) (d e : A) → i < length xs → getD xs i d ≡ getD xs i e
   default-unused [] i d e h = absurd (omega arith)

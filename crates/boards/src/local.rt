@@ -3,7 +3,7 @@
 // by value, a cell with both bits is X's, bits beyond the boards count for nothing, and a board or cell over 8 reads as empty.
 ghost use mathlib.Core.Path.{_≡_};
 ghost use mathlib.Core.Bool.{not};
-ghost use Prim.Native.Nat.{ℕ, _/_, _<_};
+ghost use Prim.Native.Nat.{_/_, _<_};
 ghost use Rattle.base.specs.Bits.{bit, digits};
 ghost use Rattle.rules.specs.Board.{blank, mine, result};
 ghost use Rattle.rules.specs.Hash.{cells-hash, board-hash};

@@ -12,9 +12,9 @@ use Rattle.decimals.specs.declared.list.Count.{Count}
 use Rattle.decimals.specs.declared.list.Count.the-variants.{Of, Bad}
 use Rattle.decimals.specs.Lists.{text-parts, numbers-of, at-most, list-of, count-of, ListRead}
 
-fits : (room : ℕ) (o : Option (List ℕ)) (ns : List ℕ) → at-most room o ≡ some ns → length ns ≤ room
-fits room none ns = λ e. let z : _≡_ {A = ℕ} 0 1 = cc in absurd (omega arith)
-fits room (some ms) ns =
+pub at-most-fits : (room : ℕ) (o : Option (List ℕ)) (ns : List ℕ) → at-most room o ≡ some ns → length ns ≤ room
+at-most-fits room none ns = λ e. let z : _≡_ {A = ℕ} 0 1 = cc in absurd (omega arith)
+at-most-fits room (some ms) ns =
     if-ind (λ (o : Option (List ℕ)). o ≡ some ns → length ns ≤ room) (leb (length ms) room) _ _
     (λ t e. let q : ms ≡ ns = cc in omega (arith, leb→le (length ms) room t, ap length q))
     (λ t e. let z : _≡_ {A = ℕ} 0 1 = cc in absurd (omega arith))
@@ -45,4 +45,4 @@ module _ (text words after : List ℕ) (r : Count) (p : ListRead text words r af
       where
         go : (o : Option (List ℕ)) → list-of (length words) text ≡ o → count-of o ≡ Of n → n ≤ length words
         go none q h = let z : _≡_ {A = ℕ} 0 1 = cc in absurd (omega arith)
-        go (some ns) q h = let l : length ns ≡ n = cc in omega (arith, fits (length words) (numbers-of (text-parts text)) ns q)
+        go (some ns) q h = let l : length ns ≡ n = cc in omega (arith, at-most-fits (length words) (numbers-of (text-parts text)) ns q)

@@ -13,13 +13,14 @@ use borrow.Author.Tests.{lt-ltb, le-ltb, le-leb, lt-leb}
 use Rattle.base.specs.Branch.{if_then_else_}
 use Rattle.base.proofs.Branch.{if-ind}
 use Rattle.text.specs.Bytes.{space}
+use Rattle.text.specs.Reading.{first-longer}
 use Rattle.decimals.specs.declared.number.Number.{Number}
 use Rattle.decimals.specs.declared.number.Number.the-variants.{Is, Bad}
 use Rattle.decimals.specs.declared.list.Scan.{Scan}
 use Rattle.decimals.specs.declared.list.Count.{Count}
 use Rattle.decimals.specs.declared.list.Count.the-variants.{Of}
 use Rattle.decimals.specs.Numbers.{with-digit, and-then, digits-after, read-number}
-use Rattle.decimals.specs.Lists.{with-first, text-parts, number-before, numbers-of, at-most, count-of}
+use Rattle.decimals.specs.Lists.{text-parts, number-before, numbers-of, at-most, count-of}
 use Rattle.decimals.specs.Lists.{new-scan, with-number, ends, scanned, words-after, Scanned, scanned-all, counted, ListRead}
 
 -- ---- options of lists
@@ -114,12 +115,12 @@ part-ends true value done (w ∷ rest) said next bad more =
 digit-read : (any : Bool) (value b : ℕ) (bs done rest : List ℕ) → (any ≡ false → value ≡ 0) → (n : Number) →
     with-digit value b ≡ n →
     ((more : ℕ) → Outcome done rest (numbers-from true more (text-parts bs)) (scanned-all (state true more done) (done ++ rest) bs)) →
-    Outcome done rest (numbers-from any value (with-first b (text-parts bs)))
+    Outcome done rest (numbers-from any value (first-longer b (text-parts bs)))
     (scanned-all (with-number (state any value done) n) (done ++ rest) bs)
 digit-read any value b bs done rest z n e more = let f = first-part bs in go n e f
   where
     go : (n : Number) → with-digit value b ≡ n → (p : List ℕ) × (ps : List (List ℕ)) × (text-parts bs ≡ p ∷ ps) →
-        Outcome done rest (numbers-from any value (with-first b (text-parts bs)))
+        Outcome done rest (numbers-from any value (first-longer b (text-parts bs)))
         (scanned-all (with-number (state any value done) n) (done ++ rest) bs)
     go (Is m) e f = rw (f .2, longer-part any value b (f .0) z, e) (rw (f .2) at (more m))
     go Bad e f =
@@ -133,7 +134,7 @@ TextRead text any value done rest =
 byte-read : (any : Bool) (value b : ℕ) (bs done rest : List ℕ) → (any ≡ false → value ≡ 0) →
     ((any : Bool) (value : ℕ) (done rest : List ℕ) → (any ≡ false → value ≡ 0) → TextRead bs any value done rest) →
     (c : Bool) → eqb b space ≡ c →
-    Outcome done rest (numbers-from any value (if c then (λ _. [] ∷ text-parts bs) else λ _. with-first b (text-parts bs)))
+    Outcome done rest (numbers-from any value (if c then (λ _. [] ∷ text-parts bs) else λ _. first-longer b (text-parts bs)))
     (scanned-all (scanned (state any value done) b (length (done ++ rest))) (words-after (state any value done) b (done ++ rest)) bs)
 unfolding if_then_else_ scanned words-after
 byte-read any value b bs done rest z more true e =

@@ -8,6 +8,7 @@ use lib.Dec.{eqb, leb, ltb}
 use lib.ListN.{length, set, drop}
 use Rattle.base.specs.Branch.{if_then_else_}
 use Rattle.text.specs.Bytes.{space}
+use Rattle.text.specs.Reading.{first-longer}
 use Rattle.text.specs.ProgramLine.{decimal, spaced}
 use Rattle.decimals.specs.declared.number.Number.{Number}
 use Rattle.decimals.specs.declared.number.Number.the-variants.{Is, Bad}
@@ -17,14 +18,10 @@ use Rattle.decimals.specs.declared.list.Count.the-variants.{Of, Bad as B
 use Rattle.decimals.specs.Numbers.{with-digit, read-number}
 
 -- ---- what a text says
-abbrev pub with-first : ℕ → List (List ℕ) → List (List ℕ)
-with-first b [] = (b ∷ []) ∷ []
-with-first b (p ∷ ps) = (b ∷ p) ∷ ps
-
 -- a text cut at each blank; one without a blank is its only part
 unfoldable pub text-parts : List ℕ → List (List ℕ)
 text-parts [] = [] ∷ []
-text-parts (b ∷ bs) = if eqb b space then (λ _. [] ∷ text-parts bs) else λ _. with-first b (text-parts bs)
+text-parts (b ∷ bs) = if eqb b space then (λ _. [] ∷ text-parts bs) else λ _. first-longer b (text-parts bs)
 
 abbrev pub number-before : Number → Option (List ℕ) → Option (List ℕ)
 number-before Bad ns = none

@@ -21,7 +21,7 @@ use Rattle.rules.specs.Moves.{moves}
 use Rattle.rules.specs.Hash.{hash}
 use Rattle.rules.specs.Evaluation.{no-draw-winner}
 use Rattle.rules.specs.Endgame.{analysis}
-use Rattle.text.specs.Reading.{Reading, reads, refuses, sections, read}
+use Rattle.text.specs.Reading.{Reading, reads, refuses, text-refusal, sections, read}
 use Rattle.text.specs.ProgramLine.{Parted, no-blank, around, parted, parted-with, depth-of, Question, no-depth, asks}
 use Rattle.text.specs.ProgramLine.{asks-with, asked-by, is-digit, refusal-text}
 use Rattle.text.proofs.Reading.{refusal-is-1-to-6}
@@ -43,7 +43,6 @@ use Rattle.program_line.specs.Answered.{settings, program-search, report-text, 
 use Rattle.program_line.proofs.Answered.{line-is-answered}
 use Rattle.demands.specs.Demand1.{depth-1-enters, searching, analysing, cell-checks, text-checks, numbers, digit, one-or-two-digits}
 use Rattle.demands.specs.Demand1.{digits-say, program-config, answering, Answered, AnsweringLine}
-use Rattle.demands.specs.Twelve.{text-refusal}
 use Rattle.demands.proofs.Demand1Calls.{analysis-number-is, reported-holds}
 use Rattle.demands.proofs.Demand1Texts.{refusal-is-first-failed}
 

@@ -20,7 +20,7 @@ use Rattle.rules.specs.declared.GameState.the-variants.{InPlay, Drawn}
 use Rattle.rules.specs.Position.{Position}
 use Rattle.rules.specs.Play.{no-move, move-of}
 use Rattle.text.specs.Reading.{Reading, reads, refuses, side-of, won-mark, overall-mark, played-mark, cell-mark, known, sections, one-on}
-use Rattle.text.specs.Reading.{first-bad, fault-at, first-fault, lone-side, read}
+use Rattle.text.specs.Reading.{text-refusal, first-bad, fault-at, first-fault, lone-side, read}
 use Rattle.text.specs.MoveText.{MoveReading, reads-move, bad-length, bad-character, move-refusal, coordinate, read-letters, read-move}
 use Rattle.text.proofs.Reading.{Parted, Sided, Marked, Answer as Answered, too-long, not-three, bad-side, not-nine, bad-mark, bad-cells}
 use Rattle.text.proofs.Reading.{good, read-answers}
@@ -34,7 +34,6 @@ use Rattle.notation.specs.declared.MoveTextAnswer.{MoveTextAnswer}
 use Rattle.notation.specs.declared.MoveTextAnswer.the-variants.{Read, BadLength, BadCharacter}
 use Rattle.notation.specs.declared.ParsedMove.{ParsedMove}
 use Rattle.notation.specs.Parsed.{parse-number, reading-of, game-for, Parses, move-reading-of, move-for, move-number, Parses-move}
-use Rattle.demands.specs.Twelve.{text-refusal}
 use Rattle.demands.specs.Demand1.{letters, ReadingMove, side-letter, good-mark, good-cell, marks-from, cell-checks, text-checks}
 use Rattle.demands.specs.Demand1.{numbers, offsets, lengths, ReadingPosition}
 

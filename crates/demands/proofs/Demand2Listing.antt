@@ -18,14 +18,9 @@ use Rattle.boards.specs.Cursor.{move-at, row-moves, moves-left, cursor-over, li
 use Rattle.boards.proofs.CursorRest.{rest-left}
 use Rattle.minimax.specs.Report.{byte-of, bytes-of}
 use Rattle.minimax.proofs.ReportAnswers.{bytes-empty}
-use Rattle.minimax.proofs.ReportPlaces.{drop-next, take-next, rest-next}
+use Rattle.minimax.proofs.ReportPlaces.{bytes-set, drop-next, take-next, rest-next}
 
 -- ---- lists
-bytes-set : (ms : List Move) (i : ℕ) (m : Move) → bytes-of (set ms i m) ≡ set (bytes-of ms) i (byte-of m)
-bytes-set [] i m = refl
-bytes-set (x ∷ ms) zero m = refl
-bytes-set (x ∷ ms) (suc i) m = ap (λ (l : List ℕ). x .bits ∷ l) (bytes-set ms i m)
-
 snoc-append : (xs : List ℕ) (n : ℕ) (ys : List ℕ) → (xs ++ (n ∷ [])) ++ ys ≡ xs ++ (n ∷ ys)
 snoc-append [] n ys = refl
 snoc-append (x ∷ xs) n ys = ap (λ (l : List ℕ). x ∷ l) (snoc-append xs n ys)

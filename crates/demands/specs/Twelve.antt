@@ -9,14 +9,9 @@ use Rattle.rules.specs.Play.{tried}
 use Rattle.rules.specs.Hash.{zobrist}
 use Rattle.rules.specs.Evaluation.{no-draw-winner, evaluate}
 use Rattle.text.specs.Bytes.{quoted}
-use Rattle.text.specs.Reading.{Reading, reads, refuses, read}
+use Rattle.text.specs.Reading.{text-refusal, read}
 use Rattle.text.specs.MoveText.{reads-move, move-refusal, read-move}
 use Rattle.program_line.specs.Answered.{answer-line}
-
--- the number of a refused text, 0 where it reads
-abbrev pub text-refusal : Reading → ℕ
-text-refusal (reads p) = 0
-text-refusal (refuses n offset size) = n
 
 -- nine empty boards, and three with eight of X's cells and six empty ones
 unfoldable pub e9 : List ℕ

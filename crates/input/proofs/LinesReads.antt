@@ -8,7 +8,7 @@ use lib.IntN.{ℤ, pos, negsuc}
 use borrow.Author.Tests.{le-ltb, eq-eqb, ne-eqb}
 use Rattle.io.specs.Counts.{clamped}
 use Rattle.input.specs.declared.Input.{Input}
-use Rattle.input.specs.Lines.{ended, refilled}
+use Rattle.input.specs.Lines.{no-line-came, refilled}
 
 pub within-room : (got : ℤ) (room : ℕ) → clamped got room ≤ room
 within-room (pos n) room = omega arith
@@ -33,12 +33,12 @@ module _ (i : Input) (n room : ℕ) where
   unfolding refilled
   good-read = (le-ltb n 0 (omega arith), refl)
 
-pub failed-is-end : (i : Input) → i .failed ≡ true → ended i ≡ true
-failed-is-end i e = rw e
+pub failed-no-line : (i : Input) → i .failed ≡ true → no-line-came i ≡ true
+failed-no-line i e = rw e
 
-pub line-is-no-end : (i : Input) → i .failed ≡ false → (i .found ≡ true) ⊎ (0 < i .line .length) → ended i ≡ false
-line-is-no-end i e (inl f) = rw (e, f)
-line-is-no-end i e (inr h) = rw (e, ne-eqb (i .line .length) 0 (omega arith)) (and-false (not (i .found)))
+pub some-line-came : (i : Input) → i .failed ≡ false → (i .found ≡ true) ⊎ (0 < i .line .length) → no-line-came i ≡ false
+some-line-came i e (inl f) = rw (e, f)
+some-line-came i e (inr h) = rw (e, ne-eqb (i .line .length) 0 (omega arith)) (and-false (not (i .found)))
 
-pub nothing-is-end : (i : Input) → i .found ≡ false → i .line .length ≡ 0 → ended i ≡ true
-nothing-is-end i e z = rw (e, eq-eqb (i .line .length) 0 z) (or-true (i .failed))
+pub nothing-no-line : (i : Input) → i .found ≡ false → i .line .length ≡ 0 → no-line-came i ≡ true
+nothing-no-line i e z = rw (e, eq-eqb (i .line .length) 0 z) (or-true (i .failed))

@@ -49,8 +49,8 @@ abbrev pub unused : Input → List ℕ → List ℕ
 unused i buffer = drop (i .at) (take (i .end) buffer)
 
 -- no line came: a read failed, or the input ended with nothing on its last line
-abbrev pub ended : Input → Bool
-ended i = i .failed || (not (i .found) && eqb (i .line .length) 0)
+abbrev pub no-line-came : Input → Bool
+no-line-came i = i .failed || (not (i .found) && eqb (i .line .length) 0)
 
 -- nothing was read yet
 abbrev pub new-input : Input

@@ -2,7 +2,7 @@
 ghost use mathlib.Core.Path.{_≡_};
 ghost use Prim.Native.Nat.{min};
 ghost use lib.ListN.{length, set};
-ghost use Rattle.input.specs.Lines.{one-longer, count-on, complete-line, new-input, ended, begun, refilled, TakesLine, ReadsLine};
+ghost use Rattle.input.specs.Lines.{one-longer, count-on, complete-line, new-input, no-line-came, begun, refilled, TakesLine, ReadsLine};
 use libc::STDIN_FILENO;
 
 const LONGEST: usize = 18446744073709551615;
@@ -80,8 +80,8 @@ impl Input {
     }
 
     // Whether no line came: a read failed, or the input ended with nothing on its last line.
-    pub fn is_end(self) -> bool
-        ensures { λ r. ⌜ r ≡ ended self ⌝ }
+    pub fn no_line_came(self) -> bool
+        ensures { λ r. ⌜ r ≡ no-line-came self ⌝ }
     {
         if self.failed {
             return true;

@@ -15,7 +15,7 @@ use Rattle.rules.specs.Status.{as-byte}
 use Rattle.rules.specs.Evaluation.{Scoring, scoring-with}
 use Rattle.theory.specs.Memory.{Responses}
 use Rattle.theory.specs.Reported.{Reported, reported}
-use Rattle.text.specs.Reading.{Reading, reads, refuses, read}
+use Rattle.text.specs.Reading.{Reading, reads, refuses, text-refusal, read}
 use Rattle.text.specs.Writing.{text-of}
 use Rattle.text.proofs.Writing.{text-has-101-bytes}
 use Rattle.status.specs.declared.Status.{Status}
@@ -42,7 +42,7 @@ use Rattle.program_line.proofs.Answered.{line-is-answered}
 use Rattle.line_buffer.specs.declared.LineBuffer.{LineBuffer}
 use Rattle.interface.specs.Lent.{Puts}
 use Rattle.interface.specs.Position.{words-of, game-from, is-position}
-use Rattle.interface.specs.Calls.{Answers, Starts, reading-number, read-place, ReadsPosition, Renders, PlaysAll}
+use Rattle.interface.specs.Calls.{Answers, Starts, read-place, ReadsPosition, Renders, PlaysAll}
 use Rattle.interface.specs.Calls.{draws-from, scoring-from, responses-from, responses-bytes, report-words, found, Analyzes}
 use Rattle.interface.proofs.LentPlaces.{left-written, left-kept, returned-bad, returned-well}
 use Rattle.interface.proofs.CallsPlay.{answers-length}
@@ -107,7 +107,7 @@ place-length (reads p) = refl
 place-length (refuses n offset size) = refl
 
 -- the number in the answer's code is the reading's
-answer-reads : (a : ParseAnswer) (g : Game) → parse-number a ≡ reading-number (reading-of a g)
+answer-reads : (a : ParseAnswer) (g : Game) → parse-number a ≡ text-refusal (reading-of a g)
 answer-reads Accepted g = refl
 answer-reads (Refused e) g = refl
 
@@ -128,7 +128,7 @@ module _ (text p q : List ℕ) where
       let ok = both _ _ (le-leb 12 (length p) h) (le-leb 2 (length q) k) in
       record {
         returns =
-            returned-well n (reading-number (read text)) _ ok (g ∙ answer-reads (r .answer) (r .game) ∙ ap reading-number (is .says));
+            returned-well n (text-refusal (read text)) _ ok (g ∙ answer-reads (r .answer) (r .game) ∙ ap text-refusal (is .says));
         position-is =
             left-written (words-of (game-for (read text))) p p-after _ ok
             (omega (arith, sym (ap (λ (x : Game). length (words-of x)) (is .game-is)) ∙ e .many))

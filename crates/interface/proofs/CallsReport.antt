@@ -1,7 +1,7 @@
 -- The moves and stats of a report, place by place.
 use mathlib.Core.Path.{_≡_, refl, sym, ap, _∙_, subst}
 use mathlib.Core.List.{List, [], _∷_, _++_, map}
-use Prim.Native.Nat.{ℕ, zero, suc, _+_, _*_, _≤_, _<_}
+use Prim.Native.Nat.{ℕ, suc, _+_, _*_, _≤_, _<_}
 use native.Mathlib.Omega.{arith}
 use native.Mathlib.Numerals.{add-one}
 use lib.ListN.{length, getD, take, drop, set, drop-of-length-le, length-map, length-drop, length-append}
@@ -10,23 +10,19 @@ use Rattle.theory.specs.Deepening.{Stats as Meant}
 use Rattle.theory.specs.Reported.{Reported}
 use Rattle.boards.specs.declared.moves.Move.{Move}
 use Rattle.minimax.specs.declared.Stats.{Stats}
-use Rattle.minimax.specs.Report.{stats-of, byte-of, bytes-of}
+use Rattle.minimax.specs.Report.{stats-of, bytes-of}
+use Rattle.minimax.proofs.ReportPlaces.{bytes-set}
 use Rattle.interface.specs.Lent.{Puts}
 use Rattle.interface.specs.Calls.{stats-words, all-stats, head-words, report-words}
 use Rattle.interface.proofs.LentPlaces.{sets-join}
 
 -- ---- moves read from bytes, one by one
-map-set : (ms : List Move) (i : ℕ) (m : Move) → bytes-of (set ms i m) ≡ set (bytes-of ms) i (byte-of m)
-map-set [] i m = refl
-map-set (x ∷ ms) zero m = refl
-map-set (x ∷ ms) (suc i) m = ap (λ (l : List ℕ). x .bits ∷ l) (map-set ms i m)
-
 pub moves-next : (ms : List Move) (bs : List ℕ) (at i : ℕ) → i < length ms → at + i < length bs →
     take i (bytes-of ms) ≡ take i (drop at bs) → take (i + 1) (bytes-of (set ms i (record { bits = getD bs (at + i) 0 })))
     ≡ take (i + 1) (drop at bs)
 moves-next ms bs at i h k e =
     ap (λ (n : ℕ). take n (bytes-of (set ms i (record { bits = getD bs (at + i) 0 })))) (add-one i)
-    ∙ ap (take (suc i)) (map-set ms i (record { bits = getD bs (at + i) 0 }))
+    ∙ ap (take (suc i)) (bytes-set ms i (record { bits = getD bs (at + i) 0 }))
     ∙ take-suc-set (bytes-of ms) i (getD bs (at + i) 0) (simp length-map h)
     ∙ ap (λ (l : List ℕ). l ++ (getD bs (at + i) 0 ∷ [])) e
     ∙ ap (λ (x : ℕ). take i (drop at bs) ++ (x ∷ [])) (sym (getD-drop at bs i 0))

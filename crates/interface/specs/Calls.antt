@@ -16,7 +16,7 @@ use Rattle.theory.specs.Table.{to-word}
 use Rattle.theory.specs.Memory.{Responses}
 use Rattle.theory.specs.Deepening.{Stats}
 use Rattle.theory.specs.Reported.{Reported, reported}
-use Rattle.text.specs.Reading.{Reading, reads, refuses, read}
+use Rattle.text.specs.Reading.{Reading, reads, refuses, text-refusal, read}
 use Rattle.text.specs.Writing.{text-of}
 use Rattle.game.specs.declared.Game.{Game}
 use Rattle.game.specs.Meaning.{position-of}
@@ -40,10 +40,6 @@ pub record Starts (position position-after : List ℕ) (r : ℕ) : Type 0 where
   pub position-is : position-after ≡ left (leb 12 (length position)) (words-of new-game) position
 
 -- ---- ultimattt_read: a text, as a position
-abbrev pub reading-number : Reading → ℕ
-reading-number (reads p) = 0
-reading-number (refuses n offset size) = n
-
 abbrev pub read-place : Reading → List ℕ
 read-place (reads p) = 0 ∷ 0 ∷ []
 read-place (refuses n offset size) = offset ∷ size ∷ []
@@ -53,7 +49,7 @@ module _ (text position place : List ℕ) where
   read-ok = leb 12 (length position) && leb 2 (length place)
 
   pub record ReadsPosition (position-after place-after : List ℕ) (r : ℕ) : Type 0 where
-    pub returns : r ≡ returned read-ok (reading-number (read text))
+    pub returns : r ≡ returned read-ok (text-refusal (read text))
     pub position-is : position-after ≡ left read-ok (words-of (game-for (read text))) position
     pub place-is : place-after ≡ left read-ok (read-place (read text)) place
 

@@ -1,7 +1,7 @@
 // The search's memory and report in lent slices.
 ghost use mathlib.Core.Path.{_≡_};
 ghost use mathlib.Core.Bool.{cond};
-ghost use mathlib.Core.List.{[], _++_, map};
+ghost use mathlib.Core.List.{[], map};
 ghost use Prim.Native.Nat.{_+_, _≤_};
 ghost use lib.ListN.{length, take, drop};
 ghost use lib.Seq.{sets};

@@ -41,6 +41,6 @@ taken-append h (b ∷ line) bs t =
     byte-taken pushed h b (line ++ bs) (λ e. rw (eq-eqb b line-feed e) at (u .0)) ∙ taken-append (pushed h b) line bs (u .1)
 
 -- a line feed ends it
-pub line-taken : (h : LineBuffer) (line bs : List ℕ) → Plain line → buffered h (line ++ (line-feed ∷ bs))
+pub whole-line-taken : (h : LineBuffer) (line bs : List ℕ) → Plain line → buffered h (line ++ (line-feed ∷ bs))
     ≡ record { line = pushed-all h line; left = bs; found = true }
-line-taken h line bs t = taken-append h line (line-feed ∷ bs) t ∙ feed-found pushed (pushed-all h line) line-feed bs refl
+whole-line-taken h line bs t = taken-append h line (line-feed ∷ bs) t ∙ feed-found pushed (pushed-all h line) line-feed bs refl

@@ -4,6 +4,8 @@ use mathlib.Core.List.{List, [], _∷_, _++_}
 use Prim.Native.Nat.{ℕ, zero, suc, _+_, _-_, _≤_, _<_}
 use native.Mathlib.Omega.{arith}
 use lib.ListN.{length, set, take, drop, replicate}
+use Rattle.boards.specs.declared.moves.Move.{Move}
+use Rattle.minimax.specs.Report.{byte-of, bytes-of}
 
 -- ---- lists of 81 places, empty from d on
 module _ {A : Type 0} where
@@ -46,3 +48,9 @@ rest-next {A} d y h = ap (λ (n : ℕ). replicate n y) e
   where
     e : 81 - d ≡ suc (81 - (d + 1))
     e = omega arith
+
+-- ---- moves as bytes, one of them changed
+pub bytes-set : (ms : List Move) (i : ℕ) (m : Move) → bytes-of (set ms i m) ≡ set (bytes-of ms) i (byte-of m)
+bytes-set [] i m = refl
+bytes-set (x ∷ ms) zero m = refl
+bytes-set (x ∷ ms) (suc i) m = ap (λ (l : List ℕ). x .bits ∷ l) (bytes-set ms i m)

@@ -9,7 +9,7 @@ use mir.Syntax.{w64}
 use mir.Val.{SFits, hbits}
 use mir.Facts.{toZ-ofZ}
 use Rattle.base.proofs.Integers.{hi, lo, zarith, ng, hi-le, lo-le}
-use Rattle.base.proofs.Signed.{reads, back}
+use Rattle.base.proofs.Signed.{reads}
 use Rattle.minimax.specs.State.{Within}
 
 pub neg-within : (z : ℤ) → Within z → Within (negℤ z)

@@ -32,13 +32,14 @@ use Rattle.game.proofs.AfterHash.{Fresh, packed-hash, recalculated-hash}
 use Rattle.game.proofs.Neat.{→neat, recalculated-neat, neat-is-fixed}
 use Rattle.notation.specs.declared.ErrorKind.{ErrorKind}
 use Rattle.notation.specs.declared.ErrorKind.the-variants.{TooLong, MissingSection, BadPlayer, TooFewSquares, BadBoard, TooShort}
+use Rattle.notation.specs.declared.ParseAnswer.{ParseAnswer}
 use Rattle.notation.specs.declared.ParseAnswer.the-variants.{Accepted}
 use Rattle.notation.specs.declared.Parsed.{Parsed}
 use Rattle.notation.specs.declared.OverallRead.{OverallRead}
 use Rattle.notation.specs.declared.OverallRead.the-variants.{Marks, Bad as BadAt}
 use Rattle.notation.specs.declared.CellsAnswer.the-variants.{Right, Wrong}
 use Rattle.notation.specs.declared.CellsRead.{CellsRead}
-use Rattle.notation.specs.Parsed.{kind-number, game-for, Parses}
+use Rattle.notation.specs.Parsed.{kind-number, reading-of, game-for, Parses}
 use Rattle.notation.specs.Parts.{refused, AnswersReading, Finds, Marks-say, Reads-overall, Cells-say, Answers-cells, Reads-cells}
 
 -- ---- a refusal
@@ -212,3 +213,7 @@ module _ (t : List ℕ) (r : Parsed) where
           AnswersReading (read-side (lone-side (take i t)) (take i t) (part t (i + 1) j) (part t (j + 1) (length t))) r → Parses t r
       unfolding read if_then_else_
       parses-three l = gives-parses t _ r (rw (le-ltb 256 (length t) short, three l))
+
+-- ---- a text that is accepted
+pub accepted-reads : (text : List ℕ) (r : Parsed) → Parses text r → r .answer ≡ Accepted → read text ≡ reads (position-of (r .game))
+accepted-reads text r h e = sym (h .says) ∙ ap (λ (a : ParseAnswer). reading-of a (r .game)) e

@@ -3,3 +3,4 @@ pub mod FieldsJoined
 pub mod AgreementCompared
 pub mod TotalsText
 pub mod TotalsCount
+pub mod TotalsFailures

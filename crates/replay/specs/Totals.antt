@@ -1,6 +1,6 @@
 -- How many records agree, and what is printed of them.
 use mathlib.Core.Path.{_≡_}
-use mathlib.Core.Bool.{Bool, true, false, cond, _&&_}
+use mathlib.Core.Bool.{Bool, true, false, cond, not, _&&_, _||_}
 use mathlib.Core.List.{List, [], _∷_, _++_}
 use Prim.Native.Nat.{ℕ}
 use lib.Dec.{eqb, ltb}
@@ -11,7 +11,7 @@ use Rattle.text.specs.ProgramLine.{decimal}
 use Rattle.answer_text.specs.AnswerBytes.{text-of-bytes}
 use Rattle.input.specs.Lines.{count-on}
 use Rattle.replay.specs.declared.totals.Totals.{Totals}
-use Rattle.replay.specs.declared.totals.CountedRecord.{CountedRecord}
+use Rattle.replay.specs.declared.totals.RecordTotals.{RecordTotals}
 use Rattle.replay.specs.declared.totals.Conclusion.{Conclusion}
 use Rattle.replay.specs.declared.totals.Comparison.{Comparison}
 use Rattle.replay.specs.declared.totals.Comparison.the-variants.{Agrees, Apart, Differs}
@@ -57,8 +57,8 @@ record-text n Apart = []
 record-text n Differs = (quoted "differs: record " ++ decimal n) ++ (line-feed ∷ [])
 
 -- the totals with a record more, and what is printed of it
-abbrev pub counted-record : Totals → Comparison → CountedRecord
-counted-record t o = record { totals = with-record t o; text = text-of-bytes (record-text (count-on (t .records)) o) }
+abbrev pub record-totals : Totals → Comparison → RecordTotals
+record-totals t o = record { totals = with-record t o; text = text-of-bytes (record-text (count-on (t .records)) o) }
 
 abbrev pub agreed-text : Totals → List ℕ
 agreed-text t = ((decimal (t .agreed) ++ quoted " of ") ++ decimal (t .records)) ++ quoted " records agree"
@@ -69,9 +69,9 @@ verdict-text t said =
     if eqb (t .apart) 0 then (λ _. agreed-text t ++ (line-feed ∷ [])) else
     λ _. ((((agreed-text t ++ quoted ", ") ++ decimal (t .apart)) ++ quoted " of them ") ++ said) ++ (line-feed ∷ [])
 
--- at the end of a list: nothing if not all could be read
+-- at the end of a list: nothing if not all could be read, or not all be printed so far
 abbrev pub last-text : Totals → List ℕ → Bool → List ℕ
-last-text t said failed = cond failed [] (verdict-text t said)
+last-text t said failed = cond (failed || not (t .written)) [] (verdict-text t said)
 
 -- on standard error, by whether reading failed and whether all was written
 abbrev pub told-text : Bool → Bool → List ℕ
@@ -87,6 +87,6 @@ conclusion t said failed all = record {
   told = text-of-bytes (told-text failed (t .written && all));
 }
 
--- for some return of the write; after a failed read there is nothing to write
+-- for some return of the write, if there is anything to write
 abbrev pub Concludes : Totals → List ℕ → Bool → Conclusion → Type 0
-Concludes t said failed r = (all : Bool) × (r ≡ conclusion t said failed all) × (failed ≡ true → all ≡ true)
+Concludes t said failed r = (all : Bool) × (r ≡ conclusion t said failed all) × (r .text .len ≡ 0 → all ≡ true)

@@ -1,9 +1,10 @@
 // How many records agree, and what is printed of them.
 ghost use mathlib.Core.Path.{_≡_};
 ghost use Rattle.answer_text.specs.AnswerBytes.{text-of-bytes};
-ghost use Rattle.replay.specs.Totals.{comparison, new-totals, with-record, counted-record, printed, RecordCounted, may-go-on};
+ghost use Rattle.replay.specs.Totals.{comparison, new-totals, with-record, record-totals, printed, RecordCounted, may-go-on};
 ghost use Rattle.replay.specs.Totals.{record-text, verdict-text, last-text, told-text, Concludes};
 use answer_text::AnswerText;
+use input::Input;
 use input::one_more;
 use libc::STDERR_FILENO;
 use libc::STDOUT_FILENO;
@@ -41,12 +42,12 @@ pub struct Totals {
 }
 
 // The totals with a record more, and what is printed of it.
-struct CountedRecord {
+struct RecordTotals {
     totals: Totals,
     text: AnswerText,
 }
 
-// The end of a list: what was printed, the totals after it, and what was told.
+// The end of a list: what is to be printed, the totals after it, and what is to be told on standard error.
 pub struct Conclusion {
     pub text: AnswerText,
     pub totals: Totals,
@@ -108,12 +109,12 @@ impl Totals {
     }
 
     // One record more, with what is printed of it.
-    fn counted(self, outcome: Comparison) -> CountedRecord
-        ensures { λ r. ⌜ r ≡ counted-record self outcome ⌝ }
+    fn counted(self, outcome: Comparison) -> RecordTotals
+        ensures { λ r. ⌜ r ≡ record-totals self outcome ⌝ }
     {
         let totals = self.with_record(outcome);
         let text = record_text(totals.records, outcome);
-        CountedRecord { totals, text }
+        RecordTotals { totals, text }
     }
 
     // The totals after a print: `all` says whether all of it was written.
@@ -135,7 +136,6 @@ impl Totals {
         let text = counted.text;
         let bytes = text.bytes;
         let n = text.written();
-        // Nothing to print, and nothing to mark.
         if n == 0 {
             return totals;
         }
@@ -167,14 +167,17 @@ impl Totals {
         apart.text(b" of them ").text(said).push(b'\n')
     }
 
-    // What is printed at the end of a list: nothing if not all could be read.
+    // What is printed at the end of a list: nothing if not all could be read, or not all be printed so far.
     fn last_text(self, said: &[u8], failed: bool) -> AnswerText
         ensures { λ r. ⌜ r ≡ text-of-bytes (last-text self (now (said .entry)) failed) ⌝ }
     {
         if failed {
-            AnswerText::new()
-        } else {
+            return AnswerText::new();
+        }
+        if self.written {
             self.verdict(said)
+        } else {
+            AnswerText::new()
         }
     }
 
@@ -195,15 +198,15 @@ impl Totals {
             .push(b'\n')
     }
 
-    // The end of a list: the last text is printed, and what failed is told on standard error.
-    pub fn conclude(self, said: &[u8], failed: bool) -> Conclusion
-        ensures { λ r. ⌜ Concludes self (now (said .entry)) failed r ⌝ }
+    // The end of a list that was read from an input: the last text is printed, and what failed is told on standard error.
+    pub fn conclude(self, said: &[u8], input: Input) -> Conclusion
+        ensures { λ r. ⌜ Concludes self (now (said .entry)) (input .failed) r ⌝ }
     {
+        let failed = input.failed;
         let text = self.last_text(said, failed);
         let bytes = text.bytes;
         let n = text.written();
-        // After a failed read there is nothing to print.
-        let totals = self.printed(io::write_all(STDOUT_FILENO, &bytes[..n]) | failed);
+        let totals = self.printed(io::write_all(STDOUT_FILENO, &bytes[..n]) | (n == 0));
         let told = totals.told(failed);
         let bytes = told.bytes;
         let n = told.written();

@@ -15,6 +15,7 @@ use Rattle.notation.specs.declared.ParseAnswer.{ParseAnswer}
 use Rattle.notation.specs.declared.ParseAnswer.the-variants.{Accepted, Refused}
 use Rattle.notation.specs.declared.Parsed.{Parsed}
 use Rattle.notation.specs.Parsed.{reading-of, Parses}
+use Rattle.notation.proofs.ParsedAnswers.{accepted-reads}
 use Rattle.replay.specs.declared.totals.Comparison.the-variants.{Differs}
 use Rattle.replay.specs.Fields.{field}
 use Rattle.replay_endgame.specs.Records.{comparison-of, comparison-for, outcome-of}
@@ -23,11 +24,8 @@ module _ (text ns : List ℕ) (r : Parsed) (parses : Parses text r) where
   pub refused-differs : {e : ParseError} → r .answer ≡ Refused e → Differs ≡ comparison-for (read text) (some ns)
   refused-differs q = rw (sym (parses .says) ∙ ap (λ (a : ParseAnswer). reading-of a (r .game)) q)
 
-  read-as : r .answer ≡ Accepted → read text ≡ reads (position-of (r .game))
-  read-as q = sym (parses .says) ∙ ap (λ (a : ParseAnswer). reading-of a (r .game)) q
-
   pub position-found : r .answer ≡ Accepted → comparison-of (position-of (r .game)) ns ≡ comparison-for (read text) (some ns)
-  position-found q = rw (read-as q)
+  position-found q = rw (accepted-reads text r parses q)
 
 none-differs : (r : Reading) → comparison-for r none ≡ Differs
 none-differs (refuses n offset size) = refl

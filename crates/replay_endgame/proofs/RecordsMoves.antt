@@ -24,29 +24,29 @@ use Rattle.rules.proofs.Sound.{sound→}
 use Rattle.boards.specs.declared.moves.MoveIterator.{MoveIterator}
 use Rattle.boards.specs.Cursor.{row-moves, moves-left, cursor-over}
 use Rattle.boards.proofs.Cursor.{cursor-kept}
-use Rattle.replay_endgame.specs.Records.{is-lined, reopened, listed-moves, or-first, expected-moves}
+use Rattle.replay_endgame.specs.Records.{has-line-of-boards, reopened, listed-moves, or-first, expected-moves}
 
 module _ (p : Position) where
   -- ---- a line of boards
-  pub lined-over : unfinished p ≡ false → false ≡ is-lined p
+  pub lined-over : unfinished p ≡ false → false ≡ has-line-of-boards p
   lined-over e = rw e
 
   module _ (e : unfinished p ≡ true) where
-    pub lined-by-x : has-line (won-boards p X) ≡ true → true ≡ is-lined p
+    pub lined-by-x : has-line (won-boards p X) ≡ true → true ≡ has-line-of-boards p
     unfolding any
     lined-by-x x = rw (e, x)
 
-    pub lined-by-o : has-line (won-boards p X) ≡ false → (o : Bool) → has-line (won-boards p O) ≡ o → o ≡ is-lined p
+    pub lined-by-o : has-line (won-boards p X) ≡ false → (o : Bool) → has-line (won-boards p O) ≡ o → o ≡ has-line-of-boards p
     unfolding any
     lined-by-o x true h = rw (e, x, h)
     lined-by-o x false h = rw (e, x, h)
 
   -- ---- the cursor over the list
-  pub none-listed : is-lined p ≡ true → moves-left (record { top = 0; middle = 0; bottom = 0 }) ≡ listed-moves p
+  pub none-listed : has-line-of-boards p ≡ true → moves-left (record { top = 0; middle = 0; bottom = 0 }) ≡ listed-moves p
   unfolding listed-moves if_then_else_ moves-left row-moves filter bit
   none-listed e = rw e
 
-  pub all-listed : is-lined p ≡ false → (q : Position) → q ≡ reopened p → (it : MoveIterator) → it ≡ cursor-over (moves q) →
+  pub all-listed : has-line-of-boards p ≡ false → (q : Position) → q ≡ reopened p → (it : MoveIterator) → it ≡ cursor-over (moves q) →
       moves-left it ≡ listed-moves p
   unfolding listed-moves if_then_else_ moves
   all-listed e q f it h = ap moves-left h ∙ cursor-kept (accepts q) ∙ ap moves f ∙ rw e

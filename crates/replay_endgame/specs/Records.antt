@@ -24,8 +24,8 @@ use Rattle.replay.specs.Totals.{comparison}
 
 -- ---- the moves that a record lists, by its position alone
 -- an unfinished position in which a side has a line of boards
-abbrev pub is-lined : Position → Bool
-is-lined p = unfinished p && any (λ w. has-line (won-boards p w)) sides
+abbrev pub has-line-of-boards : Position → Bool
+has-line-of-boards p = unfinished p && any (λ w. has-line (won-boards p w)) sides
 
 -- the position as if the game went on
 abbrev pub reopened : Position → Position
@@ -33,14 +33,14 @@ reopened p = record { turn = p .turn; next-board = p .next-board; cells = p .cel
 
 -- what the Rust lists: the rules' moves, of a finished game as if it went on; none where its analysis panics on a line of boards
 unfoldable pub listed-moves : Position → List ℕ
-listed-moves p = if is-lined p then (λ _. []) else λ _. moves (reopened p)
+listed-moves p = if has-line-of-boards p then (λ _. []) else λ _. moves (reopened p)
 
 -- where none is listed, the first cell of the first board
 abbrev pub or-first : List ℕ → List ℕ
 or-first [] = 0 ∷ []
 or-first (m ∷ ms) = m ∷ ms
 
--- just these, in this order
+-- the moves that a record must list, in this order
 abbrev pub expected-moves : Position → List ℕ
 expected-moves p = or-first (listed-moves p)
 

@@ -6,7 +6,7 @@ ghost use Rattle.boards.specs.Cursor.{moves-left};
 ghost use Rattle.game.specs.Meaning.{position-of};
 ghost use Rattle.endgame.specs.Means.{endgame-stats-of};
 ghost use Rattle.replay.specs.Agreement.{compared-all, same-numbers};
-ghost use Rattle.replay_endgame.specs.Records.{is-lined, reopened, listed-moves, expected-moves};
+ghost use Rattle.replay_endgame.specs.Records.{has-line-of-boards, reopened, listed-moves, expected-moves};
 ghost use Rattle.replay_endgame.specs.Records.{stats-numbers, analysis-numbers, move-numbers, record-of, is-apart};
 use boards::Listed;
 use boards::Move;
@@ -22,8 +22,8 @@ use rules::GameState;
 const FIRST: Move = Move { bits: 0 };
 
 // Whether the game is unfinished and a side has a line of boards: the Rust's analysis panics there, and lists nothing.
-fn is_lined(game: Game) -> bool
-    ensures { λ r. ⌜ r ≡ is-lined (position-of game) ⌝ }
+fn has_line_of_boards(game: Game) -> bool
+    ensures { λ r. ⌜ r ≡ has-line-of-boards (position-of game) ⌝ }
 {
     let states = game.global_states;
     if game.game_over() {
@@ -49,7 +49,7 @@ fn reopened(game: Game) -> Game
 fn listed(game: Game) -> MoveIterator
     ensures { λ r. ⌜ moves-left r ≡ listed-moves (position-of game) ⌝ }
 {
-    if is_lined(game) {
+    if has_line_of_boards(game) {
         return MoveIterator {
             top: 0,
             middle: 0,
@@ -96,7 +96,7 @@ fn with_move(begun: Agreement, words: &[u64], game: Game, m: Move) -> Agreement
         .number(words, status.as_byte() as u64)
 }
 
-// The moves that a cursor has left.
+// Compared with the moves that a cursor has left.
 fn with_left(begun: Agreement, words: &[u64], game: Game, list: MoveIterator) -> Agreement
     ensures { λ r. ⌜ r ≡ compared-all (now (words .entry)) begun
         (concat-map (move-numbers (position-of game)) (moves-left list)) ⌝ }
@@ -116,7 +116,7 @@ fn with_left(begun: Agreement, words: &[u64], game: Game, list: MoveIterator) ->
     }
 }
 
-// The expected moves.
+// Compared with the expected moves.
 fn with_moves(begun: Agreement, words: &[u64], game: Game) -> Agreement
     ensures { λ r. ⌜ r ≡ compared-all (now (words .entry)) begun
         (concat-map (move-numbers (position-of game)) (expected-moves (position-of game))) ⌝ }

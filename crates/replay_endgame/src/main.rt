@@ -45,7 +45,7 @@ fn outcome(line: &[u8]) -> Comparison
     comparison(replay::field(line, 0), &words[..n])
 }
 
-// The totals with a line's record.
+// The totals with a line's record more.
 fn step(totals: Totals, line: &[u8]) -> Totals
     ensures { λ r. ⌜ RecordCounted totals (outcome-of (now (line .entry))) r ⌝ }
 {
@@ -59,14 +59,11 @@ fn main() {
     let mut totals = Totals::new();
     while totals.may_go_on() {
         input = input.next_line(&mut buffer, &mut kept);
-        if input.is_end() {
+        if input.no_line_came() {
             break;
         }
         let line = input.line;
         totals = step(totals, line.whole(&kept));
     }
-    totals.conclude(
-        b"with document 01's refusal for the Rust's answer",
-        input.failed,
-    );
+    totals.conclude(b"with document 01's refusal for the Rust's answer", input);
 }

@@ -18,7 +18,7 @@ use Rattle.rules.specs.declared.NextBoard.{NextBoard}
 use Rattle.rules.specs.declared.NextBoard.the-variants.{Any, Only}
 use Rattle.rules.specs.Board.{side-number, side-from, state-number, drawn, nine}
 use Rattle.rules.specs.Position.{Position, unfinished}
-use Rattle.rules.specs.Play.{play, move-of}
+use Rattle.rules.specs.Play.{move-of}
 use Rattle.rules.specs.Moves.{moves}
 use Rattle.rules.specs.Hash.{hash, with-turn}
 use Rattle.rules.specs.Compare.{bound-depth, open-boards, equivalent}

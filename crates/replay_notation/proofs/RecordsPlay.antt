@@ -6,7 +6,6 @@ use Prim.Native.Nat.{ℕ}
 use lib.Dec.{T}
 use lib.ListN.{length}
 use borrow.Author.Tests.{eq-eqb}
-use Rattle.rules.specs.Play.{reached}
 use Rattle.rules.specs.Compare.{equivalent}
 use Rattle.rules.proofs.Compare.{equivalent-self}
 use Rattle.text.specs.Writing.{text-of}

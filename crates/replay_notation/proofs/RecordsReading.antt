@@ -10,7 +10,7 @@ use Rattle.rules.specs.Board.{state-number}
 use Rattle.rules.specs.Position.{Position}
 use Rattle.rules.specs.Compare.{bound-depth, equivalent}
 use Rattle.rules.specs.Hash.{hash, with-turn, zobrist}
-use Rattle.text.specs.Reading.{Reading, reads, refuses, read}
+use Rattle.text.specs.Reading.{Reading, refuses, read}
 use Rattle.text.specs.Writing.{text-of}
 use Rattle.game.specs.declared.Game.{Game}
 use Rattle.game.specs.Meaning.{position-of}
@@ -19,16 +19,14 @@ use Rattle.notation.specs.declared.ParseAnswer.{ParseAnswer}
 use Rattle.notation.specs.declared.ParseAnswer.the-variants.{Accepted, Refused}
 use Rattle.notation.specs.declared.Parsed.{Parsed}
 use Rattle.notation.specs.Parsed.{kind-number, reading-of, game-for, Parses}
+use Rattle.notation.proofs.ParsedAnswers.{accepted-reads}
 use Rattle.replay_notation.specs.Records.{with-bytes, read-position-numbers, reading-record, game-numbers, apart, alike, reads-back}
 use Rattle.replay.specs.Agreement.{same-numbers}
 
 -- ---- a text
 module _ (text : List ℕ) (r : Parsed) (p : Parses text r) where
-  pub accepted-reads : r .answer ≡ Accepted → read text ≡ reads (position-of (r .game))
-  accepted-reads e = sym (p .says) ∙ ap (λ (a : ParseAnswer). reading-of a (r .game)) e
-
   pub accepted-not-apart : r .answer ≡ Accepted → false ≡ apart text (read text)
-  accepted-not-apart e = sym (ap (apart text) (accepted-reads e))
+  accepted-not-apart e = sym (ap (apart text) (accepted-reads text r p e))
 
   module _ (why : ParseError) (e : r .answer ≡ Refused why) where
     pub refused-reads : read text ≡ refuses (kind-number (why .why)) (why .offset) (why .length)

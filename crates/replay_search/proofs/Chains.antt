@@ -3,42 +3,38 @@ use mathlib.Core.Path.{_≡_, refl, sym, ap, _∙_}
 use mathlib.Core.Bool.{Bool, true, false}
 use mathlib.Core.List.{List, [], _∷_, _++_, append-nil}
 use mathlib.Core.Option.{Option, none, some}
-use Prim.Native.Nat.{ℕ, zero, suc, _+_, _-_, _%_, _<_, _≤_}
+use Prim.Native.Nat.{ℕ, suc, _+_, _-_, _%_, _<_, _≤_}
 use native.Mathlib.Omega.{arith}
-use lib.Dec.{eqb, leb}
+use lib.Dec.{eqb}
 use lib.ListN.{length, getD, take, drop, set, replicate, length-drop}
 use lib.Seq.{drop-cons, drop-length, take-at}
-use borrow.Author.Tests.{eq-eqb, ne-eqb, leb-true}
+use borrow.Author.Tests.{eq-eqb, ne-eqb}
 use Rattle.rules.specs.Board.{side-from}
 use Rattle.base.specs.Branch.{if_then_else_}
 use Rattle.theory.specs.Memory.{Responses, no-responses, with-response}
-use Rattle.boards.specs.declared.moves.Move.{Move}
 use Rattle.minimax.specs.declared.ResponseTables.{ResponseTables}
 use Rattle.minimax.specs.declared.Minimax.{Minimax}
 use Rattle.minimax.specs.Report.{bytes-of, responses-of, empty-responses}
+use Rattle.minimax.proofs.ReportPlaces.{bytes-set}
 use Rattle.decimals.specs.declared.list.Count.{Count}
 use Rattle.decimals.specs.declared.list.Count.the-variants.{Of, Bad}
-use Rattle.decimals.specs.Lists.{at-most, list-of, count-of, ListRead, text-parts, numbers-of}
+use Rattle.decimals.specs.Lists.{list-of, count-of, ListRead, text-parts, numbers-of}
+use Rattle.decimals.proofs.ListsHeld.{at-most-fits}
 use Rattle.replay_search.specs.Chains.{most-numbers, with-responses, from-triples, start-of, begun-of}
 
 -- ---- one response more
-bytes-set : (ms : List Move) (i b : ℕ) → bytes-of (set ms i (record { bits = b })) ≡ set (bytes-of ms) i b
-bytes-set [] i b = refl
-bytes-set (m ∷ ms) zero b = refl
-bytes-set (m ∷ ms) (suc i) b = ap (λ (ns : List ℕ). m .bits ∷ ns) (bytes-set ms i b)
-
 module _ (t : ResponseTables) (side prev m : ℕ) where
   pub with-x : side ≡ 0 → responses-of (record { x = set (t .x) prev (record { bits = m }); o = t .o })
       ≡ with-response (responses-of t) (side-from side) prev m
   with-x h =
       rw (eq-eqb side 0 h)
-      (ap (λ (ns : List ℕ). record { to-x = ns; to-o = bytes-of (t .o) }) (bytes-set (t .x) prev m))
+      (ap (λ (ns : List ℕ). record { to-x = ns; to-o = bytes-of (t .o) }) (bytes-set (t .x) prev (record { bits = m })))
 
   pub with-o : (side ≡ 0 → ⊥) → responses-of (record { x = t .x; o = set (t .o) prev (record { bits = m }) })
       ≡ with-response (responses-of t) (side-from side) prev m
   with-o h =
       rw (ne-eqb side 0 h)
-      (ap (λ (ns : List ℕ). record { to-x = bytes-of (t .x); to-o = ns }) (bytes-set (t .o) prev m))
+      (ap (λ (ns : List ℕ). record { to-x = bytes-of (t .x); to-o = ns }) (bytes-set (t .o) prev (record { bits = m })))
 
 -- ---- responses of triples
 pub empty-is : responses-of (empty-responses .responses) ≡ no-responses
@@ -86,16 +82,6 @@ none-of : (o : Option (List ℕ)) → Bad ≡ count-of o → o ≡ none
 none-of none e = refl
 none-of (some ns) e = absurd (let z : _≡_ {A = ℕ} 0 1 = cc in omega arith)
 
-within-if : (room : ℕ) (ms ns : List ℕ) (b : Bool) → leb (length ms) room ≡ b →
-    (if b then (λ _. some ms) else λ _. none) ≡ some ns → length ns ≤ room
-unfolding if_then_else_
-within-if room ms ns true t e = let s : ms ≡ ns = cc in omega (arith, leb-true (length ms) room t, ap length s)
-within-if room ms ns false t e = absurd (let z : _≡_ {A = ℕ} 0 1 = cc in omega arith)
-
-within : (room : ℕ) (o : Option (List ℕ)) (ns : List ℕ) → at-most room o ≡ some ns → length ns ≤ room
-within room none ns e = absurd (let z : _≡_ {A = ℕ} 0 1 = cc in omega arith)
-within room (some ms) ns e = within-if room ms ns (leb (length ms) room) refl e
-
 module _ (text words : List ℕ) (r : Count) (after : List ℕ) (h : ListRead text words r after) (room : length words ≡ 1024) where
   is-count : r ≡ count-of (list-of most-numbers text)
   is-count = h .count-is ∙ ap (λ (n : ℕ). count-of (list-of n text)) room
@@ -118,7 +104,7 @@ module _ (text words : List ℕ) (r : Count) (after : List ℕ) (h : ListRead te
         stand-first = first;
         as-many = s .2;
         first-are = s .2 ∙ sym (ap length first);
-        fit = omega (arith, s .2, within 1024 (numbers-of (text-parts text)) (s .0) (s .1));
+        fit = omega (arith, s .2, at-most-fits 1024 (numbers-of (text-parts text)) (s .0) (s .1));
       }
 
   pub none-read : r ≡ Bad → list-of most-numbers text ≡ none

@@ -23,6 +23,7 @@ use Rattle.notation.specs.declared.ParseAnswer.{ParseAnswer}
 use Rattle.notation.specs.declared.ParseAnswer.the-variants.{Accepted, Refused}
 use Rattle.notation.specs.declared.Parsed.{Parsed}
 use Rattle.notation.specs.Parsed.{reading-of, game-for, Parses}
+use Rattle.notation.proofs.ParsedAnswers.{accepted-reads}
 use Rattle.notation.proofs.ParsedGames.{read-gives-a-game}
 use Rattle.minimax.specs.declared.Minimax.{Minimax}
 use Rattle.minimax.specs.declared.Report.{Report}
@@ -44,21 +45,18 @@ module _ (text : List ℕ) (r : Parsed) (h : Parses text r) where
       (n : ℕ) × (o : ℕ) × (l : ℕ) × (read text ≡ refuses n o l)
   refused-reading e a = (_, _, _, sym (h .says) ∙ ap (λ (x : ParseAnswer). reading-of x (r .game)) a)
 
-  pub accepted-reading : r .answer ≡ Accepted → read text ≡ reads (position-of (r .game))
-  accepted-reading a = sym (h .says) ∙ ap (λ (x : ParseAnswer). reading-of x (r .game)) a
-
   module _ (a : r .answer ≡ Accepted) where
     abbrev p : Position
     p = position-of (r .game)
 
     is-game : r .game ≡ game-of p (hash p)
-    is-game = h .game-is ∙ ap game-for (accepted-reading a)
+    is-game = h .game-is ∙ ap game-for (accepted-reads text r h a)
 
     pub is-neat : T (neat (r .game))
-    is-neat = subst (λ (g : Game). T (neat g)) (sym is-game) (read-gives-a-game text p (accepted-reading a) .is-neat)
+    is-neat = subst (λ (g : Game). T (neat g)) (sym is-game) (read-gives-a-game text p (accepted-reads text r h a) .is-neat)
 
     pub is-fresh : Fresh (r .game)
-    is-fresh = subst Fresh (sym is-game) (read-gives-a-game text p (accepted-reading a) .fresh)
+    is-fresh = subst Fresh (sym is-game) (read-gives-a-game text p (accepted-reads text r h a) .fresh)
 
 -- ---- what matches
 known-if : (b : Bool) (r : Reported) → known (if b then (λ _. some r) else λ _. none) ≡ b
@@ -111,7 +109,7 @@ module _ (line : List ℕ) (w : DrawWinner) (allowance k : ℕ) (m : Minimax) (w
       has-position =
           ap (λ (x : Reading). matching-search x (read-number (field (3 * k + 5) line))
           (list-of most-numbers (field (3 * k + 6) line)) search)
-          (ap read (sym at-text) ∙ accepted-reading text r h a)
+          (ap read (sym at-text) ∙ accepted-reads text r h a)
 
       pub no-depth : (step : ChainStep) (after text' : List ℕ) → text' ≡ field (3 * k + 5) line → read-number text' ≡ Bad →
           step ≡ record { agrees = false; refused = false; state = m } → Searched found step after

@@ -9,7 +9,6 @@ use lib.Dec.{eqb, leb}
 use lib.ListN.{length, replicate}
 use Rattle.base.specs.Branch.{if_then_else_}
 use Rattle.rules.specs.Board.{side-from}
-use Rattle.rules.specs.declared.Player.the-variants.{X}
 use Rattle.rules.specs.declared.DrawWinner.{DrawWinner}
 use Rattle.rules.specs.Position.{Position}
 use Rattle.rules.specs.Evaluation.{scoring-with}

@@ -28,11 +28,11 @@ fn main() {
     let mut totals = Totals::new();
     while totals.may_go_on() {
         input = input.next_line(&mut buffer, &mut kept);
-        if input.is_end() {
+        if input.no_line_came() {
             break;
         }
         let line = input.line;
         totals = step(totals, line.whole(&kept), &mut words);
     }
-    totals.conclude(b"refused as document 01 says (15 to 18)", input.failed);
+    totals.conclude(b"refused as document 01 says (15 to 18)", input);
 }

@@ -2,7 +2,7 @@
 use mathlib.Core.Path.{_≡_, refl, sym, ap, _∙_}
 use mathlib.Core.Bool.{Bool, true, false, not, cond, _&&_}
 use mathlib.Core.Logic.{_⊎_, inl, inr}
-use Prim.Native.Nat.{ℕ, zero, suc, _+_, _*_, _^_, _≤_}
+use Prim.Native.Nat.{ℕ, zero, suc, _*_, _^_, _≤_}
 use native.Mathlib.Omega.{arith}
 use lib.Dec.{T, ltb}
 use lib.IntN.{ℤ, pos, negℤ, negℤ-negℤ, natAbs}
@@ -42,7 +42,7 @@ value-of-turned sc p InPlay = refl
 value-of-turned sc p Drawn = refl
 value-of-turned sc p (Won w) = refl
 
--- with the other side to move the evaluation is the exact negative
+-- the other side, to move, sees the negative
 pub other-side-negates : (sc : Scoring) (p : Position) → evaluate sc (turned p) ≡ negℤ (evaluate sc p)
 unfolding evaluate
 other-side-negates sc p =

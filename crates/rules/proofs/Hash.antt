@@ -76,7 +76,7 @@ module _ (p : Position) (b c : ℕ) (l : Legal p b c) where
   board-change Drawn h = closes before k h now _ row-hash
   board-change (Won w) h = closes before k h now _ row-hash
 
-  -- the hash kept by play equals the hash worked out afresh
+  -- a move changes the hash to that of the position after it
   pub hash-kept-is-fresh : hash (after p b c) ≡ hash-after p b c (hash p)
   unfolding hash hash-after after
   hash-kept-is-fresh =

@@ -1,5 +1,5 @@
 -- Laws of the list of moves: it is what play accepts of all 81 places, which stand there once each and rising.
-use mathlib.Core.Path.{_≡_, refl, subst}
+use mathlib.Core.Path.{_≡_, subst}
 use mathlib.Core.Bool.{Bool, true, not, _&&_}
 use mathlib.Core.List.{List, [], _∷_, map}
 use mathlib.Core.Logic.{_↔_, inl, inr}
@@ -9,7 +9,7 @@ use lib.Dec.{T, ltb, T-not}
 use Rattle.base.specs.Lists.{all, filter, In, elem, unique, concat-map}
 use Rattle.base.proofs.Bool.{and→, →and}
 use Rattle.base.proofs.Branch.{if-ind}
-use Rattle.base.proofs.Lists.{all-each, each-all, filter-in, in-filter, unique-filter, in-concat-map}
+use Rattle.base.proofs.Lists.{all-each, each-all, no-member, filter-in, in-filter, unique-filter, in-concat-map}
 use Rattle.rules.specs.Board.{nine}
 use Rattle.rules.specs.Position.{Position, unfinished}
 use Rattle.rules.specs.Play.{move-of, board-of, cell-of, accepts}
@@ -67,10 +67,6 @@ unfolding moves places concat-map rising all
 moves-rise p = rising-filter (accepts p) places tt
 
 -- ---- a finished game
-no-member : (xs : List ℕ) → ((m : ℕ) → In m xs → ⊥) → xs ≡ []
-no-member [] h = refl
-no-member (x ∷ xs) h = absurd (h x (inl refl))
-
 -- a finished game has no moves
 pub finished-has-no-moves : (p : Position) → T (not (unfinished p)) → moves p ≡ []
 finished-has-no-moves p t = no-member (moves p) (λ m i. T-not (unfinished p) t (accepts→ p m (moves-are-accepted p m .0 i) .unfinished))

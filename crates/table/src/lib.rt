@@ -1,4 +1,4 @@
-// The transposition table in lent words, three an entry: hash; value as two's complement; depth + 256 × bound + 65,536 × move.
+// The transposition table in lent words. An entry takes three: its hash, its value in two's complement, and depth, bound and move in one.
 // Ported from src/lib/table.rs and the entry of src/lib/minimax.rs of nelhage/ultimattt at commit 87ef0d9c7c (Apache-2.0, see NOTICE),
 // changed: one slot, lent words for a box of entries, no index bytes and no statistics.
 ghost use mathlib.Core.Path.{_≡_};

@@ -57,6 +57,6 @@ unfoldable pub quoted : String → List ℕ
 quoted String.[] = []
 quoted (String._∷_ c s) = code c ∷ quoted s
 
--- a line of it
+-- a quoted text and a line feed
 abbrev pub message : String → List ℕ
 message s = quoted s ++ (line-feed ∷ [])

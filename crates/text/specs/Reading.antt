@@ -24,6 +24,11 @@ pub data Reading : Type 0 where
   -- number, offset and length
   refuses : ℕ → ℕ → ℕ → Reading
 
+-- the number of a refused text, 0 where it reads
+abbrev pub text-refusal : Reading → ℕ
+text-refusal (reads p) = 0
+text-refusal (refuses n offset size) = n
+
 -- ---- marks
 -- a letter, as the side that it names
 unfoldable pub side-of : ℕ → Option Player

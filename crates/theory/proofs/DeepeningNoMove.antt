@@ -1,16 +1,15 @@
 -- A position that is not over, of which no move is accepted and the table has no entry: depth 1 finds the window's lower edge, which ends
 -- the search.
-use mathlib.Core.Path.{_≡_, refl, ap, _∙_}
+use mathlib.Core.Path.{_≡_, ap, _∙_}
 use mathlib.Core.Bool.{false}
 use mathlib.Core.List.{List, [], _∷_}
-use mathlib.Core.Logic.{inl}
 use mathlib.Core.Option.{none}
 use Prim.Native.Nat.{ℕ, zero, suc, _≤_, _<_}
 use native.Mathlib.Omega.{arith}
 use lib.Dec.{T}
 use borrow.Author.Tests.{lt-ltb}
 use Rattle.base.specs.Branch.{if_then_else_}
-use Rattle.base.specs.Lists.{In}
+use Rattle.base.proofs.Lists.{no-member}
 use Rattle.rules.specs.Play.{no-move}
 use Rattle.theory.specs.Game.{Game}
 use Rattle.theory.specs.PlainMinimax.{lowest, highest}
@@ -21,10 +20,6 @@ use Rattle.theory.specs.Deepening.{nothing-yet, one-deeper, SearchAnswer
 use Rattle.theory.proofs.Memory.{count-begin, count-enter, count-told}
 use Rattle.theory.proofs.OrderedSearchCandidates.{candidates-accepted}
 use Rattle.theory.proofs.OrderedSearchArms.{search-none, over-none}
-
-nothing-in : (xs : List ℕ) → ((x : ℕ) → In x xs → ⊥) → xs ≡ []
-nothing-in [] f = refl
-nothing-in (x ∷ xs) f = absurd (f x (inl refl))
 
 module _ (G : Game) (n : ℕ) (p : G .Pos) (s : Memory) where
   -- the memory after it: one position more is entered
@@ -48,7 +43,7 @@ module _ (G : Game) (n : ℕ) (p : G .Pos) (s : Memory) where
     pv = no-move ∷ []
 
     none-tried : candidates G [] (enter (begin s)) p no-move pv ≡ []
-    none-tried = nothing-in _ (λ x i. none-accepted x (candidates-accepted G [] (enter (begin s)) p no-move pv x i))
+    none-tried = no-member _ (λ x i. none-accepted x (candidates-accepted G [] (enter (begin s)) p no-move pv x i))
 
     depth-1 : search G (at-most n) 1 p lowest highest pv no-move (begin s) ≡ found lowest pv no-move-leaves
     unfolding unless-stopped begin

@@ -80,8 +80,7 @@ module _ (G : Game) where
   Search = G .Pos → ℤ → ℤ → List ℕ → ℕ → Memory → Outcome
 
   -- over the moves left: a is the lower edge by now, pv the variation, and low the variation of the position below, which its moves share.
-  -- A score above the lower edge becomes that edge, and the variation is its move and the variation below; the loop is left early only when
-  -- it reaches the upper edge
+  -- A better score raises the lower edge, and the variation is its move and the variation below; at the upper edge the moves left are cut
   unfoldable pub over-moves : Search → G .Pos → ℤ → ℕ → List ℕ → ℤ → List ℕ → List ℕ → Memory → Outcome
   over-moves below p b prev [] a pv low s = found a pv s
   over-moves below p b prev (m ∷ ms) a pv low s =

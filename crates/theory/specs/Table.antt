@@ -56,7 +56,7 @@ look-up words h =
     λ _. let i = begins (length words) h in
     if eqb (getD words i 0) h then (λ _. entry-of (getD words (i + 1) 0) (getD words (i + 2) 0)) else λ _. none
 
--- a store replaces an absent entry or a strictly shallower one
+-- what is stored goes where no entry is, or one of less depth
 abbrev pub replaces : ℕ → Option Entry → Bool
 replaces depth none = true
 replaces depth (some e) = ltb (e .depth) depth

@@ -103,21 +103,21 @@ turns-fall r s buffer got go e f a =
     rw (a .1, on) (omega (arith, one-turn-less (r .program) (record { got = got; buffer = buffer; written = a .0 }), reads-left r on))
 
 -- ---- how a read leaves a run, by what was returned
-abbrev pub LeftBy : Progress → ReadStep → Type 0
-LeftBy InputEnded a = (ltZ (a .got) (pos 0) ≡ false) × (read-bytes a ≡ [])
-LeftBy ReadFailed a = ltZ (a .got) (pos 0) ≡ true
-LeftBy WriteFailed a = (ltZ (a .got) (pos 0) ≡ false) × (read-bytes a ≡ [] → ⊥) × (a .written ≡ false)
-LeftBy Reading a = (ltZ (a .got) (pos 0) ≡ false) × (read-bytes a ≡ [] → ⊥) × (a .written ≡ true)
+abbrev pub ReturnedFor : Progress → ReadStep → Type 0
+ReturnedFor InputEnded a = (ltZ (a .got) (pos 0) ≡ false) × (read-bytes a ≡ [])
+ReturnedFor ReadFailed a = ltZ (a .got) (pos 0) ≡ true
+ReturnedFor WriteFailed a = (ltZ (a .got) (pos 0) ≡ false) × (read-bytes a ≡ [] → ⊥) × (a .written ≡ false)
+ReturnedFor Reading a = (ltZ (a .got) (pos 0) ≡ false) × (read-bytes a ≡ [] → ⊥) × (a .written ≡ true)
 
-pub left-by : (p : Program) (a : ReadStep) → LeftBy (after-read p a .progress) a
+pub returned-for : (p : Program) (a : ReadStep) → ReturnedFor (after-read p a .progress) a
 unfolding after-read
-left-by p a = go (ltZ (a .got) (pos 0)) refl (read-bytes a) refl (a .written) refl
+returned-for p a = go (ltZ (a .got) (pos 0)) refl (read-bytes a) refl (a .written) refl
   where
     cons : (b : ℕ) (bs : List ℕ) → read-bytes a ≡ b ∷ bs → read-bytes a ≡ [] → ⊥
     cons b bs e f = let z : 1 ≤ 0 = subst (λ (l : List ℕ). 1 ≤ length l) (sym e ∙ f) (omega arith) in omega arith
 
     go : (c : Bool) → ltZ (a .got) (pos 0) ≡ c → (bs : List ℕ) → read-bytes a ≡ bs → (w : Bool) → a .written ≡ w →
-        LeftBy (cond c (record { program = p; progress = ReadFailed }) (after-bytes p bs w) .progress) a
+        ReturnedFor (cond c (record { program = p; progress = ReadFailed }) (after-bytes p bs w) .progress) a
     go true e bs f w g = e
     go false e [] f w g = (e, f)
     go false e (b ∷ bs) f true g = (e, cons b bs f, g)

@@ -44,22 +44,22 @@ abbrev pub after-bytes : Program → List ℕ → Bool → ProgramRun
 after-bytes p [] written = record { program = p; progress = InputEnded }
 after-bytes p (b ∷ bs) written = after-feeding p (b ∷ bs) written
 
--- of a program that may read
+-- the run after one read more
 unfoldable pub after-read : Program → ReadStep → ProgramRun
 after-read p a =
     cond (ltZ (a .got) (pos 0)) (record { program = p; progress = ReadFailed }) (after-bytes p (read-bytes a) (a .written))
 
 -- where no line ends nothing is to be written, so no write fails
-abbrev pub NoneToWrite : Program → List ℕ → Bool → Type 0
-NoneToWrite p bytes written = buffered (p .line) bytes .found ≡ false → written ≡ true
+abbrev pub WrittenIfNoLineEnds : Program → List ℕ → Bool → Type 0
+WrittenIfNoLineEnds p bytes written = buffered (p .line) bytes .found ≡ false → written ≡ true
 
 -- for some return of the writes
 abbrev pub AfterFeeding : Program → List ℕ → ProgramRun → Type 0
-AfterFeeding p bytes r = (written : Bool) × (r ≡ after-feeding p bytes written) × NoneToWrite p bytes written
+AfterFeeding p bytes r = (written : Bool) × (r ≡ after-feeding p bytes written) × WrittenIfNoLineEnds p bytes written
 
 abbrev pub AfterRead : Program → List ℕ → ℤ → ProgramRun → Type 0
 AfterRead p buffer got r = (written : Bool) × (r ≡ after-read p (record { got = got; buffer = buffer; written = written })) ×
-    NoneToWrite p (read-bytes (record { got = got; buffer = buffer; written = written })) written
+    WrittenIfNoLineEnds p (read-bytes (record { got = got; buffer = buffer; written = written })) written
 
 -- ---- all reads
 -- neither ended nor failed
@@ -77,7 +77,7 @@ goes-on r = is-reading (r .progress) && ltb 0 (r .program .reads)
 pub data RunsTo : ProgramRun → List ReadStep → ProgramRun → Type 0 where
   stops : {r : ProgramRun} → goes-on r ≡ false → RunsTo r [] r
   reads : {r s : ProgramRun} {a : ReadStep} {more : List ReadStep} → goes-on r ≡ true →
-      NoneToWrite (r .program) (read-bytes a) (a .written) → RunsTo (after-read (r .program) a) more s → RunsTo r (a ∷ more) s
+      WrittenIfNoLineEnds (r .program) (read-bytes a) (a .written) → RunsTo (after-read (r .program) a) more s → RunsTo r (a ∷ more) s
 
 -- from the start, for some returns of `read` and of the writes
 abbrev pub SomeRun : ProgramRun → Type 0

@@ -16,13 +16,13 @@ enum Progress {
     WriteFailed,
 }
 
-// The program after all reads whose answers were written.
+// A run so far: the program after all reads whose answers could be written, and how the run stands.
 struct ProgramRun {
     program: Program,
     progress: Progress,
 }
 
-// What was written at the end of a run, and what was told.
+// What is to be written at the end of a run, and what is to be told on standard error.
 struct RunEnd {
     text: AnswerText,
     told: AnswerText,

@@ -48,8 +48,8 @@ returns c =
     let at-printed = at-told .before in
     let at-last = at-printed .before .before .before .before .before in
     let a = at-last .before .before .args in
-    concluded (a .self) (now (a .said)) (a .failed) (at-printed .before .write-all .result) _ _ _ (at-last .last-text .ensures)
-    (at-printed .printed .ensures) (at-told .told .ensures)
+    concluded (a .self) (now (a .said)) (a .input .failed) (at-printed .before .write-all .result) _ _ _ _ (at-last .last-text .ensures)
+    (at-printed .before .before .before .written .ensures) (at-printed .printed .ensures) (at-told .told .ensures)
 
 pub conclude-spec : {M : Type 1} → statement M
 conclude-spec =

@@ -2,7 +2,7 @@
 use mathlib.Core.Path.{sym, ap}
 use native.Mathlib.Omega.{arith}
 use lib.Seq.{length-take-le}
-use Rattle.replay.specs.declared.totals.CountedRecord.{CountedRecord}
+use Rattle.replay.specs.declared.totals.RecordTotals.{RecordTotals}
 use Rattle.answer_text.proofs.AnswerBytes.{text-room}
 use Rattle.replay.proofs.TotalsCount.{counted-unprinted, counted-printed}
 use borrow.Author.Needs.{needs}
@@ -20,7 +20,7 @@ returns c = counted-unprinted _ _ _ (c .before .before .before .before .before .
 
 array-share-prefix-bytes : tie.Need-array-share-prefix-bytes
 array-share-prefix-bytes c =
-    let text-is = ap (λ (z : CountedRecord). z .text) (c .before .before .before .before .before .counted .ensures) in
+    let text-is = ap (λ (z : RecordTotals). z .text) (c .before .before .before .before .before .counted .ensures) in
     omega (arith, text-room _ _ text-is, c .before .written .ensures)
 
 slice-aggregate-write-all : tie.Need-slice-aggregate-write-all

@@ -5,8 +5,8 @@ use Rattle.lines.proofs.Masks.{line-known}
 use Rattle.game.specs.Meaning.{position-of}
 use Rattle.replay_endgame.proofs.RecordsMoves.{lined-over, lined-by-x, lined-by-o}
 use borrow.Author.Needs.{needs}
-use Rattle.replay_endgame.proofs.expected.is_lined.Statement.{statement}
-use Rattle.replay_endgame.proofs.expected.is_lined.Tie as tie
+use Rattle.replay_endgame.proofs.expected.has_line_of_boards.Statement.{statement}
+use Rattle.replay_endgame.proofs.expected.has_line_of_boards.Tie as tie
 
 game-over-requires : tie.Need-game-over-requires
 game-over-requires c κs = search needs
@@ -46,8 +46,8 @@ returns-3 c =
     (line-known _ _ _ _ (at-xbits .xbits .ensures) (at-has-line .has-line .ensures) (at-if2 .if2 .left)) _
     (line-known _ _ _ _ (c .before .obits .ensures) (c .has-line2 .ensures) refl)
 
-pub is-lined-spec : {M : Type 1} → statement M
-is-lined-spec =
+pub has-line-of-boards-spec : {M : Type 1} → statement M
+has-line-of-boards-spec =
     tie.close
     (tie.spec
     game-over-requires
