@@ -2,9 +2,10 @@
 
 Of a list's good records the shortest of each sort is damaged (`sort_of`): each number of its answer made one more and one less (of
 the 101 bytes of a rendered text the first, the middle and the last), a number dropped at the end, a number added there; in endgame
-the last listed move dropped and doubled, and the first two swapped; in eval and search the draw winner made a letter that is none, and
-a field dropped and added. Then come lines that are no records: letters, a kind that there is not, nothing at all, and a good record
-that zeros make too long. lists.py says what a record holds.
+the last listed move dropped and doubled, and the first two swapped; in eval and search the draw winner made a letter that is none; in
+these three each field made letters that can't be read as what it is, and a field dropped and added. Then come lines that are no records:
+letters, a kind that there is not, nothing at all, and a good record that zeros make too long, after which no line feed comes. lists.py
+says what a record holds.
 """
 import re
 from lists import LONGEST, RECORDS
@@ -128,6 +129,8 @@ def damaged_record(name, fields):
             yield from changed_within(fields, at, search_changed)
     if name != "endgame":
         yield fields[:1] + ["Y"] + fields[2:]
+    for at in range(len(fields)):
+        yield fields[:at] + ["no"] + fields[at + 1:]
     yield fields[:-1]
     yield fields + ["0"]
 

@@ -102,7 +102,7 @@ impl EndgameStats {
     };
 }
 
-// A board in play has an empty cell, and no side's line.
+// Whether the board, if it is in play, has room and no line in it.
 fn is_live(pos: Game, board: usize) -> bool
     ensures { λ r. ⌜ r ≡ live (position-of pos) board ⌝ }
 {
@@ -120,7 +120,7 @@ fn is_live(pos: Game, board: usize) -> bool
     !has_line(boards.obits(board))
 }
 
-// No side has a line of boards, and each board is live.
+// Whether nobody has a line of boards, and all boards are live.
 fn is_sound(pos: Game) -> bool
     ensures { λ r. ⌜ r ≡ sound (position-of pos) ⌝ }
 {

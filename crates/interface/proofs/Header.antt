@@ -1,5 +1,5 @@
 -- A report's words stand where the header says: of every report, of what a call of ultimattt_analyze leaves, and of one whose words are
--- all written out; and a position's words.
+-- all written out; a position's words; and the other numbers that the header names or tells.
 use mathlib.Core.Path.{_≡_, refl, sym, ap, _∙_, subst}
 use mathlib.Core.Bool.{Bool, true}
 use mathlib.Core.List.{List, [], _∷_, _++_, append-assoc}
@@ -9,24 +9,30 @@ use lib.IntN.{pos, negsuc}
 use lib.ListN.{length, getD, drop, replicate, List·getD-append}
 use lib.Seq.{drop-append-add, getD-append-add}
 use Rattle.base.specs.Branch.{if_then_else_}
-use Rattle.rules.specs.declared.Player.the-variants.{O}
-use Rattle.rules.specs.declared.NextBoard.the-variants.{Only}
+use Rattle.rules.specs.declared.Player.the-variants.{X, O}
+use Rattle.rules.specs.declared.DrawWinner.the-variants.{Nobody, Side}
+use Rattle.rules.specs.declared.NextBoard.the-variants.{Any, Only}
 use Rattle.rules.specs.declared.GameState.the-variants.{Won}
+use Rattle.rules.specs.Position.{start}
 use Rattle.rules.specs.Play.{no-move}
 use Rattle.rules.specs.Status.{as-byte}
 use Rattle.rules.specs.Endgame.{analysis}
-use Rattle.theory.specs.Memory.{counts, no-responses}
+use Rattle.text.specs.Reading.{refuses}
+use Rattle.text.specs.Writing.{text-of}
+use Rattle.text.proofs.Writing.{text-has-101-bytes}
+use Rattle.theory.specs.Memory.{Responses, counts, no-responses}
 use Rattle.theory.specs.Deepening.{Stats}
 use Rattle.theory.specs.Reported.{Settings, Reported, no-stats}
 use Rattle.theory.proofs.ReportedPlaces.{reported-places}
 use Rattle.game.specs.declared.Game.{Game}
 use Rattle.game.specs.Meaning.{position-of}
 use Rattle.minimax.specs.Structs.{structs}
-use Rattle.interface.specs.Lent.{left}
-use Rattle.interface.specs.Position.{words-of}
-use Rattle.interface.specs.Calls.{scoring-from, responses-from, stats-words, all-stats, head-words, report-words}
-use Rattle.interface.specs.Calls.{analyze-ok, analysed, found, Analyzes}
-use Rattle.interface.specs.Header.{STATS, STATS-WORDS, StatsLayout, ReportLayout}
+use Rattle.interface.specs.Lent.{bad-argument, left}
+use Rattle.interface.specs.Position.{next-board-word, words-of}
+use Rattle.interface.specs.Calls.{read-place, draws-from, scoring-from, responses-from, responses-bytes, stats-words, all-stats}
+use Rattle.interface.specs.Calls.{head-words, report-words, analyze-ok, analysed, found, Analyzes}
+use Rattle.interface.specs.Header.{BAD-ARGUMENT, POSITION, FREE, NO-MOVE, TEXT, RESPONSES, REPORT, STATS, STATS-WORDS}
+use Rattle.interface.specs.Header.{StatsLayout, ReportLayout}
 
 -- ---- of every report, whatever follows it
 -- the words of depth i begin after those of the depths before it
@@ -147,3 +153,24 @@ sample-game = record {
 pub sample-position-words : words-of sample-game
     ≡ 10 ∷ 11 ∷ 12 ∷ 13 ∷ 14 ∷ 15 ∷ 16 ∷ 17 ∷ 1 ∷ 8 ∷ 3 ∷ 18 ∷ []
 sample-position-words = refl
+
+-- ---- the header's numbers are the definitions'
+pub header-numbers : (bad-argument ≡ BAD-ARGUMENT) × (length (words-of sample-game) ≡ POSITION) × (next-board-word Any ≡ FREE)
+    × (no-move ≡ NO-MOVE) × (length (text-of start) ≡ TEXT) × (length (responses-bytes no-responses) ≡ RESPONSES)
+    × (length (report-words sample 14 5) ≡ REPORT)
+unfolding all-stats
+header-numbers = (refl, refl, refl, refl, text-has-101-bytes start, refl, refl)
+
+-- ---- what the header tells of arguments
+-- for whom a drawn game counts as won
+pub draw-winners : (draws-from 0 ≡ Nobody) × (draws-from 1 ≡ Side X) × (draws-from 2 ≡ Side O)
+draw-winners = (refl, refl, refl)
+
+-- offset, then length
+pub sample-place : read-place (refuses 5 2 1) ≡ 2 ∷ 1 ∷ []
+sample-place = refl
+
+-- to X's moves, then to O's
+pub sample-responses : let rs : Responses = record { to-x = replicate 256 1; to-o = replicate 256 2 } in
+    (responses-bytes rs ≡ replicate 256 1 ++ replicate 256 2) × (responses-from (replicate 256 1 ++ replicate 256 2) ≡ rs)
+sample-responses = (refl, refl)

@@ -1,4 +1,4 @@
--- The places of a report's words, by the names that bindings/c/ultimattt.h gives them, and what stands there.
+-- The numbers that bindings/c/ultimattt.h names: what a call returns, sizes, and the places of a report's words with what stands there.
 use mathlib.Core.Path.{_≡_}
 use mathlib.Core.Bool.{cond}
 use mathlib.Core.List.{List}
@@ -8,6 +8,29 @@ use Rattle.theory.specs.Table.{to-word}
 use Rattle.theory.specs.Deepening.{Stats}
 use Rattle.theory.specs.Reported.{Reported, no-stats}
 
+-- ---- numbers and sizes
+abbrev pub BAD-ARGUMENT : ℕ
+BAD-ARGUMENT = 255
+
+abbrev pub POSITION : ℕ
+POSITION = 12
+
+abbrev pub FREE : ℕ
+FREE = 256
+
+abbrev pub NO-MOVE : ℕ
+NO-MOVE = 0xff
+
+abbrev pub TEXT : ℕ
+TEXT = 101
+
+abbrev pub RESPONSES : ℕ
+RESPONSES = 512
+
+abbrev pub REPORT : ℕ
+REPORT = 655
+
+-- ---- the places of a report's words
 abbrev pub NUMBER : ℕ
 NUMBER = 0
 

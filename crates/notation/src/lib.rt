@@ -225,7 +225,7 @@ pub enum OverallRead {
     Bad(usize),
 }
 
-// Of several `@` the last is the next board.
+// The next board is where the last `@` stands.
 fn parse_overall(overall: &[u8]) -> OverallRead
     requires { ⌜ length (now overall) ≡ 9 ⌝ }
     ensures { λ r. ⌜ Reads-overall (now (overall .entry)) r ⌝ }

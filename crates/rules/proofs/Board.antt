@@ -65,7 +65,7 @@ open-not-won w InPlay t = tt
 open-not-won w Drawn t = tt
 open-not-won w (Won v) t = absurd t
 
--- a drawn board belongs to neither side
+-- a drawn board is won by nobody
 pub drawn-is-nobodys : (w : Player) (g : GameState) → T (drawn g) → T (not (won-by w g))
 drawn-is-nobodys w InPlay t = tt
 drawn-is-nobodys w Drawn t = tt

@@ -212,7 +212,7 @@ pub three-in-line-value : evaluate no-draw-winner three-in-line ≡ pos 15
 unfolding three-in-line position valuing
 three-in-line-value = refl
 
--- an overall line through a drawn board still counts: board 1 gives 20 in each of its two lines
+-- board 1 gives 20 in each of its two lines, also in that with a drawn board
 unfoldable pub beside-drawn : Position
 beside-drawn = position X Any (Drawn ∷ Won X ∷ []) []
 

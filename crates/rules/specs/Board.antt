@@ -55,7 +55,7 @@ in-play InPlay = true
 in-play Drawn = false
 in-play (Won w) = false
 
--- w has won it; a drawn board belongs to neither side
+-- w has won it; a drawn one is nobody's
 abbrev pub won-by : Player → GameState → Bool
 won-by w InPlay = false
 won-by w Drawn = false

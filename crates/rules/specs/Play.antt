@@ -12,7 +12,7 @@ use Rattle.base.specs.Update.{update}
 use Rattle.rules.specs.Board.{other, blank, mine, in-play, won-by, result}
 use Rattle.rules.specs.Position.{Position, unfinished, open-board, free-cell}
 
--- ---- a move is 16 times board plus cell
+-- ---- a move: its board in the upper four bits, its cell in the lower
 abbrev pub move-of : ℕ → ℕ → ℕ
 move-of b c = b * 16 + c
 

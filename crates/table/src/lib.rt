@@ -152,7 +152,7 @@ fn replaces(depth: u8, held: LookupResult) -> bool
     }
 }
 
-// Replaces an absent entry, or a strictly shallower one.
+// Stores an entry where there is none, or one of less depth.
 pub fn store(words: &mut [u64], hash: u64, e: Entry)
     ensures { λ _. ⌜ now (words .exit) ≡ store (now (words .entry)) hash (entry-means e) ⌝ }
 {

@@ -108,7 +108,7 @@ pub cell-refusals :
 unfolding reading
 cell-refusals = (refl, refl, refl, refl, refl, refl)
 
--- ---- of several `@` the last is the next board, and all are in play
+-- ---- with more than one `@` the next board is where the last stands, and each of them is a board in play
 pub several-due :
     (told (λ p. p .next-board) (read (quoted "O;@X@.#@.O.;" ++ e9)) ≡ some (Only 5))
     × (told text-of (read (quoted "O;@X@.#@.O.;" ++ e9)) ≡ some (quoted "O;.X..#@.O.;" ++ e9))

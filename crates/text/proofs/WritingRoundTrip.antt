@@ -266,6 +266,6 @@ reached-stays-written p z (m ∷ ms) = reached-stays-written (tried p m) (play-s
 pub reached-is-written : (ms : List ℕ) → Written (reached start ms)
 reached-is-written = reached-stays-written start start-is-written
 
--- the text of any game played from the empty board, read again, is that game
+-- a position that play reaches from the empty board is read back from its text
 pub reached-reads-back : (ms : List ℕ) → read (text-of (reached start ms)) ≡ reads (reached start ms)
 reached-reads-back ms = read-after-write (reached start ms) (reached-is-written ms)

@@ -32,7 +32,7 @@ unfoldable pub unless-stopped : Outcome → (ℤ → List ℕ → Memory → Out
 unless-stopped (stopped s) k = stopped s
 unless-stopped (found r l s) k = k r l s
 
--- a position is counted when it is entered; where none may be, the search stops
+-- one position more is counted and searched, or, where none is left of the allowance, the search stops
 unfoldable pub entering : Allowance → Memory → (Memory → Outcome) → Outcome
 entering n s k = if has-room n (s .count) then (λ _. k (enter s)) else λ _. stopped s
 

@@ -31,7 +31,7 @@ module _ (G : Game) where
       λ _. let w = play-out d (G .play p m) pv in
       record { accepted = G .accepts p m && w .accepted; end = w .end; odd = not (w .odd) }
 
-  -- the evaluation at its end, negated if the other side is then to move
+  -- the value at its end, as the side that is to move at its start sees it
   unfoldable pub ends-on : ℕ → G .Pos → List ℕ → ℤ
   ends-on d p pv = let w = play-out d p pv in cond (w .odd) (negℤ (G .value (w .end))) (G .value (w .end))
 

@@ -10,6 +10,7 @@ use lib.ListN.{length, take}
 use lib.Signed.{ltZ}
 use borrow.Author.Tests.{ltb-true, ltb-false, le-ltb, eq-eqb}
 use Rattle.io.specs.Counts.{clamped}
+use Rattle.text.specs.Bytes.{quoted}
 use Rattle.line_buffer.specs.Buffer.{buffer-of}
 use Rattle.line_buffer.specs.Taking.{buffered}
 use Rattle.answer_text.specs.declared.AnswerText.{AnswerText}
@@ -56,19 +57,23 @@ module _ (p : Program) (buffer : List ℕ) (got z : ℤ) (same : z ≡ got) wher
     bytes-fed r h f = (f .0, rw (← same, good, ← counted) (by-bytes (take n buffer) r (f .0) h (f .1)), rw (← same, ← counted) (f .2))
 
 -- ---- all reads
--- however a run goes on from here, it is one from the start
-abbrev pub LeadsFromNew : ProgramRun → Type 0
-LeadsFromNew r = (steps : List ReadStep) (s : ProgramRun) → RunsTo r steps s → SomeRun s
+-- however a run goes on from r, it is one from b
+abbrev pub LeadsFrom : ProgramRun → ProgramRun → Type 0
+LeadsFrom b r = (steps : List ReadStep) (s : ProgramRun) → RunsTo r steps s → SomeRun b s
 
-pub begun-new : (r : ProgramRun) → r ≡ new-run → LeadsFromNew r
-begun-new r e steps s h = (steps, rw e at h)
+module _ (b : ProgramRun) where
+  pub leads-from-itself : LeadsFrom b b
+  leads-from-itself steps s h = (steps, h)
 
-pub one-read-more : (r s : ProgramRun) (buffer : List ℕ) (got : ℤ) (go : Bool) → go ≡ goes-on r → go ≡ true →
-    AfterRead (r .program) buffer got s → LeadsFromNew r → LeadsFromNew s
-one-read-more r s buffer got go e f a way steps t h = way (_ ∷ steps) t (reads (sym e ∙ f) (a .2) (rw (a .1) at h))
+  pub one-read-more : (r s : ProgramRun) (buffer : List ℕ) (got : ℤ) (go : Bool) → go ≡ goes-on r → go ≡ true →
+      AfterRead (r .program) buffer got s → LeadsFrom b r → LeadsFrom b s
+  one-read-more r s buffer got go e f a way steps t h = way (_ ∷ steps) t (reads (sym e ∙ f) (a .2) (rw (a .1) at h))
 
-pub at-its-end : (r : ProgramRun) (go : Bool) → go ≡ goes-on r → go ≡ false → LeadsFromNew r → SomeRun r
-at-its-end r go e f way = way [] r (stops (sym e ∙ f))
+  pub at-its-end : (r : ProgramRun) (go : Bool) → go ≡ goes-on r → go ≡ false → LeadsFrom b r → SomeRun b r
+  at-its-end r go e f way = way [] r (stops (sym e ∙ f))
+
+  pub begun-new : (r : ProgramRun) → b ≡ new-run → SomeRun b r → SomeRun new-run r
+  begun-new r e h = rw e at h
 
 -- each read brings the end nearer
 abbrev pub turns-left : ProgramRun → ℕ
@@ -122,6 +127,15 @@ returned-for p a = go (ltZ (a .got) (pos 0)) refl (read-bytes a) refl (a .writte
     go false e [] f w g = (e, f)
     go false e (b ∷ bs) f true g = (e, cons b bs f, g)
     go false e (b ∷ bs) f false g = (e, cons b bs f, g)
+
+-- the bytes of a read are as many as it returned, the first of the buffer; a failed one gave none
+module _ (a : ReadStep) (n : ℕ) where
+  pub bytes-returned : a .got ≡ pos n → n ≤ length (a .buffer) → read-bytes a ≡ take n (a .buffer)
+  bytes-returned e h =
+      let all : clamped (pos n) (length (a .buffer)) ≡ n = omega arith in rw e (ap (λ (k : ℕ). take k (a .buffer)) all)
+
+  pub none-returned : a .got ≡ negsuc n → read-bytes a ≡ []
+  none-returned e = rw e
 
 -- a run has read at least once
 pub not-at-once : (s : ProgramRun) → RunsTo new-run [] s → ⊥
@@ -195,6 +209,31 @@ no-last-text InputEnded p n = absurd (n refl)
 no-last-text Reading p n = refl
 no-last-text ReadFailed p n = refl
 no-last-text WriteFailed p n = refl
+
+-- an input without a byte
+pub empty-run : RunsTo new-run (record { got = pos 0; buffer = []; written = true } ∷ [])
+    (record { program = new-run .program; progress = InputEnded })
+unfolding after-read
+empty-run = reads refl (λ _. refl) (stops refl)
+
+-- nothing is told only where the input ended and the last text was written
+pub told-nothing : (x : Progress) (w : Bool) → told-of-run x w ≡ [] → (x ≡ InputEnded) × (w ≡ true)
+unfolding quoted
+told-nothing InputEnded true e = (refl, refl)
+told-nothing InputEnded false e = absurd (omega (arith, ap (λ (l : List ℕ). length l) e))
+told-nothing Reading w e = absurd (omega (arith, ap (λ (l : List ℕ). length l) e))
+told-nothing ReadFailed w e = absurd (omega (arith, ap (λ (l : List ℕ). length l) e))
+told-nothing WriteFailed w e = absurd (omega (arith, ap (λ (l : List ℕ). length l) e))
+
+-- what is told begins with what failed
+module _ (w : Bool) where
+  pub told-of-reading : take 25 (told-of-run ReadFailed w) ≡ quoted "ultimattt: reading failed"
+  unfolding quoted
+  told-of-reading = refl
+
+  pub told-of-writing : take 25 (told-of-run WriteFailed w) ≡ quoted "ultimattt: writing failed"
+  unfolding quoted
+  told-of-writing = refl
 
 -- one that still reads has used all reads up
 reads-counted : (r s : ProgramRun) (steps : List ReadStep) → RunsTo r steps s → s .progress ≡ Reading → r .program .reads ≡ length steps

@@ -79,9 +79,9 @@ pub data RunsTo : ProgramRun → List ReadStep → ProgramRun → Type 0 where
   reads : {r s : ProgramRun} {a : ReadStep} {more : List ReadStep} → goes-on r ≡ true →
       WrittenIfNoLineEnds (r .program) (read-bytes a) (a .written) → RunsTo (after-read (r .program) a) more s → RunsTo r (a ∷ more) s
 
--- from the start, for some returns of `read` and of the writes
-abbrev pub SomeRun : ProgramRun → Type 0
-SomeRun r = (steps : List ReadStep) × RunsTo new-run steps r
+-- for some returns of `read` and of the writes
+abbrev pub SomeRun : ProgramRun → ProgramRun → Type 0
+SomeRun begun r = (steps : List ReadStep) × RunsTo begun steps r
 
 -- ---- its end
 -- what is written then

@@ -141,17 +141,24 @@ impl Progress {
     }
 }
 
-// Answers standard input until it ends, something fails or the reads are used up.
-fn answer_input() -> ProgramRun
-    ensures { λ r. ⌜ SomeRun r ⌝ }
+// Goes on with standard input until it ends, something fails or the reads are used up.
+fn answer_from(begun: ProgramRun) -> ProgramRun
+    ensures { λ r. ⌜ SomeRun begun r ⌝ }
 {
     let mut buffer = io::large_buffer();
-    let mut run = ProgramRun::new();
+    let mut run = begun;
     while run.goes_on() {
         let got = libc::read(STDIN_FILENO, &mut buffer);
         run = run.after_read(&buffer, got);
     }
     run
+}
+
+// Answers standard input.
+fn answer_input() -> ProgramRun
+    ensures { λ r. ⌜ SomeRun new-run r ⌝ }
+{
+    answer_from(ProgramRun::new())
 }
 
 // Writes the last answer. There is no exit status: what failed is told on standard error.
