@@ -98,7 +98,7 @@ spaced [] = []
 spaced (t ∷ []) = t
 spaced (t ∷ u ∷ us) = t ++ (space ∷ spaced (u ∷ us))
 
--- the parts of an answer, in their order, and the moves up to the first empty one
+-- the results left, how many moves are legal, the last completed depth and its score, how many positions were entered, the line
 abbrev pub answer-text : Status → ℕ → ℕ → ℤ → ℕ → List ℕ → List ℕ
 answer-text s legal depth score count line =
     spaced (status-letters s ∷ decimal legal ∷ decimal depth ∷ signed score ∷ decimal count ∷ moves-text line ∷ [])
