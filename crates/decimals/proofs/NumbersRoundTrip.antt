@@ -1,11 +1,12 @@
--- A number is read back from its text.
+-- A number is read back from its text, and nothing else is read.
 use mathlib.Core.Path.{_≡_, refl, sym, ap, _∙_}
 use mathlib.Core.Bool.{Bool, true, false, true≢false}
 use mathlib.Core.List.{List, [], _∷_, _++_, append-assoc, append-nil}
+use mathlib.Core.Logic.{_⊎_, inl, inr}
 use Prim.Native.Nat.{ℕ, zero, suc, _+_, _-_, _*_, _/_, _%_, _^_, _<_, _≤_}
 use native.Mathlib.Omega.{arith}
-use lib.Dec.{ltb, nltb→le, ltb→lt}
-use lib.IntN.{ℤ, pos, negsuc, natAbs}
+use lib.Dec.{eqb, ltb, nltb→le, ltb→lt, eqb→eq}
+use lib.IntN.{ℤ, pos, negsuc, natAbs, negℤ}
 use lib.ListN.{length, length-append}
 use lib.Seq.{append-snoc}
 use borrow.Author.Tests.{le-leb, lt-ltb, le-ltb, ne-eqb}
@@ -15,7 +16,8 @@ use Rattle.text.specs.Bytes.{minus, first-digit}
 use Rattle.text.specs.ProgramLine.{in-places, decimal, signed}
 use Rattle.decimals.specs.declared.number.Number.{Number}
 use Rattle.decimals.specs.declared.number.Number.the-variants.{Is, Bad}
-use Rattle.decimals.specs.declared.number.Signed.the-variants.{Is as Whole}
+use Rattle.decimals.specs.declared.number.Signed.{Signed}
+use Rattle.decimals.specs.declared.number.Signed.the-variants.{Is as Whole, Bad as None}
 use Rattle.decimals.specs.Numbers.{between, with-digit, and-then, digits-after, read-number, positive-of, negative-of, read-signed}
 use Rattle.decimals.proofs.NumbersDigits.{within-bounds, digit-fits, no-digit, some-digits}
 
@@ -189,3 +191,63 @@ read-is-decimal (b ∷ bs) n e =
     let m : f .0 ≡ b - 48 = digit-value 0 b (f .0) (f .1) ∙ omega arith in
     let same : first-digit + (b - 48) ≡ b = omega arith in
     digits-are (b ∷ []) bs (f .0) n (0, rw (m, short-decimal (b - 48) (omega arith), same)) (f .2)
+
+-- ---- what is read as an integer is its text after zeros, after a minus if it is negative; zero may have a minus too
+abbrev pub MinusAfterZeros : List ℕ → ℕ → Type 0
+MinusAfterZeros text n = (k : ℕ) × (text ≡ minus ∷ (zeros k ++ decimal n))
+
+abbrev pub SignedAfterZeros : List ℕ → ℤ → Type 0
+SignedAfterZeros text (pos zero) = AfterZeros text 0 ⊎ MinusAfterZeros text 0
+SignedAfterZeros text (pos (suc n)) = AfterZeros text (suc n)
+SignedAfterZeros text (negsuc n) = MinusAfterZeros text (suc n)
+
+same-integer : (y z : ℤ) → Whole y ≡ Whole z → y ≡ z
+same-integer y z e = cc
+
+none-is-bad : (z : ℤ) → None ≡ Whole z → ⊥
+none-is-bad z e = let c : _≡_ {A = ℕ} 0 1 = cc in omega arith
+
+small-read : (f : ℕ → ℤ) (n : ℕ) (z : ℤ) → (if ltb n (2 ^ 63) then (λ _. Whole (f n)) else λ _. None) ≡ Whole z →
+    (n < 2 ^ 63) × (f n ≡ z)
+small-read f n z e = if-ind (λ (s : Signed). s ≡ Whole z → (n < 2 ^ 63) × (f n ≡ z)) (ltb n (2 ^ 63)) _ _
+    (λ t h. (ltb→lt n (2 ^ 63) t, same-integer (f n) z h)) (λ _ h. absurd (none-is-bad z h)) e
+
+positive-read : (d : Number) (z : ℤ) → positive-of d ≡ Whole z → (n : ℕ) × (d ≡ Is n) × (n < 2 ^ 63) × (pos n ≡ z)
+unfolding positive-of
+positive-read (Is n) z e = let s = small-read pos n z e in (n, refl, s .0, s .1)
+positive-read Bad z e = absurd (none-is-bad z e)
+
+negative-read : (d : Number) (z : ℤ) → negative-of d ≡ Whole z → (n : ℕ) × (d ≡ Is n) × (n < 2 ^ 63) × (negℤ (pos n) ≡ z)
+unfolding negative-of
+negative-read (Is n) z e = let s = small-read (λ m. negℤ (pos m)) n z e in (n, refl, s .0, s .1)
+negative-read Bad z e = absurd (none-is-bad z e)
+
+positive-text : (text : List ℕ) (n : ℕ) → AfterZeros text n → SignedAfterZeros text (pos n)
+positive-text text zero h = inl h
+positive-text text (suc n) h = h
+
+minus-before : (b : ℕ) (bs : List ℕ) (n : ℕ) → b ≡ minus → AfterZeros bs n → MinusAfterZeros (b ∷ bs) n
+minus-before b bs n q (k, e) = (k, rw (q, e))
+
+minus-text : (text : List ℕ) (n : ℕ) → MinusAfterZeros text n → SignedAfterZeros text (negℤ (pos n))
+minus-text text zero h = inr h
+minus-text text (suc n) h = h
+
+minus-size : (n : ℕ) → natAbs (negℤ (pos n)) ≡ n
+minus-size zero = refl
+minus-size (suc n) = refl
+
+-- a text that is read as an integer is such a text, and the integer is below 2^63 in size
+pub signed-is-decimal : (text : List ℕ) (z : ℤ) → read-signed text ≡ Whole z → SignedAfterZeros text z × (natAbs z < 2 ^ 63)
+unfolding read-signed
+signed-is-decimal [] z e = absurd (none-is-bad z e)
+signed-is-decimal (b ∷ bs) z e =
+    if-ind (λ (s : Signed). s ≡ Whole z → SignedAfterZeros (b ∷ bs) z × (natAbs z < 2 ^ 63)) (eqb b minus) _ _
+    (λ t h.
+    let r = negative-read (read-number bs) z h in
+    let text = minus-before b bs (r .0) (eqb→eq b minus t) (read-is-decimal bs (r .0) (r .1)) in
+    rw (← r .3) (minus-text (b ∷ bs) (r .0) text, rw (minus-size (r .0)) (r .2)))
+    (λ _ h.
+    let r = positive-read (read-number (b ∷ bs)) z h in
+    rw (← r .3) (positive-text (b ∷ bs) (r .0) (read-is-decimal (b ∷ bs) (r .0) (r .1)), r .2))
+    e

@@ -1,3 +1,4 @@
 pub mod RecordsMoves
 pub mod RecordsCompared
 pub mod Records
+pub mod RecordsAgreed

@@ -3,3 +3,4 @@ pub mod RecordsCompared
 pub mod RecordsReading
 pub mod RecordsPlay
 pub mod RecordsKinds
+pub mod RecordsAgreed

@@ -3,3 +3,4 @@ pub mod Records
 pub mod Chains
 pub mod ChainsSearched
 pub mod ChainsLines
+pub mod ChainsAgreed
