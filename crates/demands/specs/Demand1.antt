@@ -31,34 +31,31 @@ use Rattle.theory.specs.Reported.{entry-checks, Reported, no-stats}
 use Rattle.boards.specs.declared.moves.Move.{Move}
 use Rattle.boards.specs.declared.moves.Built.{Built}
 use Rattle.boards.specs.Packed.{cell-at, state-at}
-use Rattle.boards.specs.Answers.{answer-number, in-range, Builds}
+use Rattle.boards.specs.Answers.{answer-number, in-range}
 use Rattle.game.specs.declared.Game.{Game}
 use Rattle.game.specs.declared.MoveResult.{MoveResult}
 use Rattle.game.specs.declared.CellAnswer.{CellAnswer}
 use Rattle.game.specs.declared.StateAnswer.{StateAnswer}
 use Rattle.game.specs.Meaning.{position-of}
 use Rattle.game.specs.Built.{new-game}
-use Rattle.game.specs.After.{after-move, Plays}
-use Rattle.game.specs.Look.{Looks-cell, Looks-state}
+use Rattle.game.specs.After.{after-move}
 use Rattle.notation.specs.declared.ParseError.{ParseError}
 use Rattle.notation.specs.declared.ParseAnswer.the-variants.{Refused}
 use Rattle.notation.specs.declared.Parsed.{Parsed}
 use Rattle.notation.specs.declared.MoveTextAnswer.the-variants.{BadCharacter}
 use Rattle.notation.specs.declared.ParsedMove.{ParsedMove}
-use Rattle.notation.specs.Parsed.{parse-number, move-number, game-for, Parses, Parses-move}
+use Rattle.notation.specs.Parsed.{parse-number, move-number, game-for}
 use Rattle.status.specs.Sets.{status-of}
 use Rattle.endgame.specs.declared.Analysis.{Analysis}
 use Rattle.endgame.specs.declared.MoveStatus.{MoveStatus}
-use Rattle.endgame.specs.Means.{analysis-number, move-status-number, endgame-stats-of, Analyses, Judges}
+use Rattle.endgame.specs.Means.{analysis-number, move-status-number, endgame-stats-of}
 use Rattle.minimax.specs.declared.Minimax.{Minimax}
 use Rattle.minimax.specs.declared.Config.{Config}
-use Rattle.minimax.specs.declared.Report.{Report}
 use Rattle.minimax.specs.Structs.{structs}
-use Rattle.minimax.specs.Report.{settings-of, report-of, answer-of, reported-of, scoring-of, responses-of, empty-responses}
-use Rattle.line_buffer.specs.Buffer.{new-buffer, pushed-all, buffer-asks}
-use Rattle.answer_text.specs.declared.AnswerText.{AnswerText}
-use Rattle.answer_text.specs.AnswerBytes.{text-of-bytes, written-bytes}
-use Rattle.program_line.specs.Answered.{program-search, asked-text}
+use Rattle.minimax.specs.Report.{settings-of, report-of, answer-of, scoring-of, responses-of, empty-responses}
+use Rattle.answer_text.specs.AnswerBytes.{written-bytes}
+use Rattle.program_line.specs.Answered.{program-search}
+use Rattle.demands.specs.declared.EntryAnswers.{EntryAnswers}
 
 -- ---- playing: the rules' own checks
 -- refused play returns the old game
@@ -274,19 +271,18 @@ pub record AnsweringLine (line written : List ℕ) : Type 0 where
   pub answered : (text rest : List ℕ) → line ≡ text ++ (0x20 ∷ rest) → T (not (elem 0x20 rest)) →
       first-failed (answering text rest) ≡ 0 → Answered text (digits-say rest) written
 
--- ---- the demand: of every value that a promise allows
-pub record Demand1 : Type 0 where
-  pub position-text : (text : List ℕ) (r : Parsed) → Parses text r → ReadingPosition text r
-  pub move-text : (text : List ℕ) (r : ParsedMove) → Parses-move text r → ReadingMove text r
-  pub play : (g : Game) (m : Move) (r : MoveResult) → Plays g m r → Playing g m r
-  pub cell : (g : Game) (b c : ℕ) (r : CellAnswer) → Looks-cell (position-of g) b c r → LookingCell b c r
-  pub board : (g : Game) (b : ℕ) (r : StateAnswer) → Looks-state (position-of g) b r → LookingBoard b r
-  pub build : (b c : ℕ) (r : Built) → Builds b c r → Building b c r
-  pub endgame : (g : Game) (a : Analysis) → Analyses g a → Analysing g a
-  pub move-status : (g : Game) (m : Move) (r : MoveStatus) → Judges g m r → JudgingMove g m r
-  -- words and words' are the table's before and after
-  pub search : (m : Minimax) (g : Game) (c : Config) (words : List ℕ) (r : Report) (words' : List ℕ) →
-      report-of r words' ≡ reported-of m g c words → Searching m g c words (report-of r words')
-  -- the line's bytes, pushed one by one into a buffer, which `answer` is given
-  pub program-line : (line : List ℕ) (r : AnswerText) → r ≡ text-of-bytes (asked-text (buffer-asks (pushed-all new-buffer line))) →
-      AnsweringLine line (written-bytes r)
+-- ---- the demand: of what each entry point answers
+-- asked of a text, the bytes of a line, a game, a move, a board and a cell, response tables, settings, and the lent words; words' are
+-- these at the end
+module _ (text line : List ℕ) (g : Game) (m : Move) (b c : ℕ) (memory : Minimax) (config : Config) (words words' : List ℕ) where
+  pub record Demand1 (r : EntryAnswers) : Type 0 where
+    pub position-text : ReadingPosition text (r .read)
+    pub move-text : ReadingMove text (r .«read_move»)
+    pub play : Playing g m (r .played)
+    pub cell : LookingCell b c (r .cell)
+    pub board : LookingBoard b (r .«board_state»)
+    pub build : Building b c (r .built)
+    pub endgame : Analysing g (r .analysis)
+    pub move-status : JudgingMove g m (r .«move_status»)
+    pub search : Searching memory g config words (report-of (r .report) words')
+    pub program-line : AnsweringLine line (written-bytes (r .line))

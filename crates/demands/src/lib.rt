@@ -1,12 +1,15 @@
-// The mission's demands, and functions of which demands 2 and 3 and the claims on every search are the promises.
+// The mission's demands, and functions of which they and the claims on every search are the promises.
 ghost use mathlib.Core.Path.{_≡_};
 ghost use Rattle.rules.specs.Play.{no-move};
 ghost use Rattle.theory.specs.Reported.{filled};
 ghost use Rattle.boards.specs.Cursor.{moves-left};
 ghost use Rattle.minimax.specs.Report.{bytes-of};
+ghost use Rattle.demands.specs.Demand1.{Demand1};
 ghost use Rattle.demands.specs.Demand2.{Demand2, ReadAgain};
 ghost use Rattle.demands.specs.Demand3.{Demand3};
 ghost use Rattle.demands.specs.Searches.{SearchClaims};
+use answer_text::AnswerText;
+use boards::Built;
 use boards::Listed;
 use boards::Move;
 use boards::MoveIterator;
@@ -17,6 +20,7 @@ use game::CellAnswer;
 use game::Game;
 use game::MoveResult;
 use game::StateAnswer;
+use line_buffer::LineBuffer;
 use minimax::Config;
 use minimax::Minimax;
 use minimax::Report;
@@ -26,6 +30,20 @@ use rules::GameState;
 use rules::NextBoard;
 use rules::Player;
 use status::Status;
+
+// What each entry point that may refuse answers.
+pub struct EntryAnswers {
+    pub read: Parsed,
+    pub read_move: ParsedMove,
+    pub played: MoveResult,
+    pub cell: CellAnswer,
+    pub board_state: StateAnswer,
+    pub built: Built,
+    pub analysis: Analysis,
+    pub move_status: MoveStatus,
+    pub report: Report,
+    pub line: AnswerText,
+}
 
 // What each function answers of a text and of a move, and of the game after a list of moves tried from where the text begins.
 pub struct GameAnswers {
@@ -60,6 +78,37 @@ pub struct AfterMoves {
     pub game: Game,
     pub analysis: Analysis,
     pub report: Report,
+}
+
+// Every entry point, asked: a text is read as a position and as a move, a move is tried, a cell and a board are looked at, a move is built,
+// the endgame analysis and a move's status are asked, the game is searched, and a line of the program is answered.
+pub fn entry_answers(
+    text: &[u8],
+    line: &[u8],
+    game: Game,
+    m: Move,
+    board: usize,
+    cell: usize,
+    memory: Minimax,
+    config: Config,
+    words: &mut [u64],
+) -> EntryAnswers
+    ensures { λ r. ⌜ Demand1 (now (text .entry)) (now (line .entry)) game m board cell memory config
+        (now (words .entry)) (now (words .exit)) r ⌝ }
+{
+    let buffer = LineBuffer::new().push_all(line);
+    EntryAnswers {
+        read: notation::parse(text),
+        read_move: notation::parse_move(text),
+        played: game.make_move(m),
+        cell: game.at(board, cell),
+        board_state: game.board_state(board),
+        built: Move::from_coords(board, cell),
+        analysis: Analysis::new(game),
+        move_status: endgame::evaluate_move(game, m),
+        report: memory.analyze(game, config, words),
+        line: program_line::answer(buffer),
+    }
 }
 
 // The moves that a cursor gives, in their order, and empty places after them.

@@ -58,16 +58,17 @@ later-no : (a b : Bool) → a ≡ true → b ≡ false → (a && b) ≡ false
 later-no a b p q = ap (λ (x : Bool). x && b) p ∙ q
 
 -- ---- answer
-module _ (line : List ℕ) (o : AnswerText) (h : LineBuffer) (held : h ≡ pushed-all new-buffer line)
-    (o-is : o ≡ text-of-bytes (asked-text (buffer-asks h)))
+module _ (line : List ℕ) (empty : LineBuffer) (empty-is : empty ≡ new-buffer) (held : LineBuffer) (held-is : held ≡ pushed-all empty line)
+    (o : AnswerText) (o-is : o ≡ text-of-bytes (asked-text (buffer-asks held)))
     (n : ℕ) (n-is : n ≡ min (o .len) 224) where
   answered : take n (o .bytes) ≡ answer-line line
   answered =
       ap (λ (k : ℕ). take k (o .bytes)) n-is
-      ∙ line-is-answered line o (o-is ∙ ap (λ (k : LineBuffer). text-of-bytes (asked-text (buffer-asks k))) held) .written-is
+      ∙ line-is-answered line o (o-is ∙ ap (λ (k : LineBuffer). text-of-bytes (asked-text (buffer-asks k)))
+      (held-is ∙ ap (λ (k : LineBuffer). pushed-all k line) empty-is)) .written-is
 
   pub room : n ≤ length (o .bytes)
-  room = omega (arith, ap (λ (k : AnswerText). length (k .bytes)) o-is ∙ length-padded 224 (asked-text (buffer-asks h)))
+  room = omega (arith, ap (λ (k : AnswerText). length (k .bytes)) o-is ∙ length-padded 224 (asked-text (buffer-asks held)))
 
   pub taken-length : n ≡ length (take n (o .bytes))
   taken-length = let r : n ≤ length (o .bytes) = room in simp length-take (omega arith)

@@ -8,8 +8,6 @@ use native.Mathlib.Numerals.{add-one}
 use lib.ListN.{length, getD, drop, set, drop-of-length-le}
 use lib.Seq.{drop-cons, sets, sets-eq}
 use Rattle.base.specs.Branch.{if_then_else_}
-use Rattle.line_buffer.specs.declared.LineBuffer.{LineBuffer}
-use Rattle.line_buffer.specs.Buffer.{pushed, pushed-all}
 use Rattle.interface.specs.Lent.{returned, left}
 
 -- none written yet
@@ -52,12 +50,3 @@ returned-bad n ok e = sym (ap (λ (b : Bool). if b then (λ _. n) else λ _. 255
 pub returned-well : (r n : ℕ) (ok : Bool) → ok ≡ true → r ≡ n → r ≡ returned ok n
 unfolding returned if_then_else_
 returned-well r n ok e q = q ∙ sym (ap (λ (b : Bool). if b then (λ _. n) else λ _. 255) e)
-
--- ---- a line held, by the bytes still to be pushed
-pub pushed-next : (h : LineBuffer) (bs : List ℕ) (i d : ℕ) → i < length bs →
-    pushed-all (pushed h (getD bs i d)) (drop (i + 1) bs) ≡ pushed-all h (drop i bs)
-pushed-next h bs i d q =
-    ap (λ (k : ℕ). pushed-all (pushed h (getD bs i d)) (drop k bs)) (add-one i) ∙ sym (ap (pushed-all h) (drop-cons bs i d q))
-
-pub pushed-end : (h : LineBuffer) (bs : List ℕ) (i : ℕ) → length bs ≤ i → pushed-all h (drop i bs) ≡ h
-pushed-end h bs i q = ap (pushed-all h) (drop-of-length-le bs q)

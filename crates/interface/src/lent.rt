@@ -1,10 +1,8 @@
-// Lent slices: written from a place on, and a line buffered.
+// Lent slices, written from a place on.
 ghost use mathlib.Core.Path.{_≡_};
 ghost use Prim.Native.Nat.{_+_, _≤_};
 ghost use lib.ListN.{length};
 ghost use lib.Seq.{sets};
-ghost use Rattle.line_buffer.specs.Buffer.{new-buffer, pushed-all};
-use line_buffer::LineBuffer;
 
 // Words, from a place on.
 pub(crate) fn put(out: &mut [u64], at: usize, words: &[u64])
@@ -24,15 +22,4 @@ pub(crate) fn put_bytes(out: &mut [u8], at: usize, bytes: &[u8])
     for i in 0..bytes.len() {
         out[at + i] = bytes[i];
     }
-}
-
-// A line, with line feeds as any other byte.
-pub(crate) fn held(line: &[u8]) -> LineBuffer
-    ensures { λ r. ⌜ r ≡ pushed-all new-buffer (now (line .entry)) ⌝ }
-{
-    let mut held = LineBuffer::new();
-    for i in 0..line.len() {
-        held = held.push(line[i]);
-    }
-    held
 }

@@ -7,6 +7,7 @@ mod report;
 ghost use Rattle.interface.specs.Calls.{Answers, Starts, ReadsPosition, Renders, PlaysAll, Analyzes};
 use endgame::Analysis;
 use game::Game;
+use line_buffer::LineBuffer;
 use minimax::Config;
 
 // A slice is too short, words are no position, or a setting is none. Document 01's numbers are below 32.
@@ -17,7 +18,7 @@ pub const BAD_ARGUMENT: u64 = 255;
 pub extern "C" fn ultimattt_answer(line: &[u8], out: &mut [u8]) -> usize
     ensures { λ r. ⌜ Answers (now (line .entry)) (now (out .entry)) (now (out .exit)) r ⌝ }
 {
-    let answer = program_line::answer(lent::held(line));
+    let answer = program_line::answer(LineBuffer::new().push_all(line));
     let n = answer.written();
     let bytes = answer.bytes;
     if n <= out.len() {

@@ -3,12 +3,13 @@ use mathlib.Core.Path.{_≡_, refl, sym, ap, _∙_, subst}
 use mathlib.Core.Bool.{Bool, true, false, cond}
 use mathlib.Core.List.{List, [], _∷_, _++_, append-nil, append-assoc}
 use mathlib.Core.Option.{Option, none, some}
-use Prim.Native.Nat.{ℕ, _+_, min, _≤_}
+use Prim.Native.Nat.{ℕ, _+_, min, _≤_, _<_}
 use native.Mathlib.Decide.{decLe}
+use native.Mathlib.Numerals.{add-one}
 use native.Mathlib.Omega.{arith}
 use lib.Dec.{eqb}
-use lib.ListN.{length, take, set, length-append, length-take}
-use lib.Seq.{take-all, take-append-le}
+use lib.ListN.{length, take, drop, getD, set, length-append, length-take, drop-of-length-le}
+use lib.Seq.{take-all, take-append-le, drop-cons}
 use borrow.Author.Tests.{eqb-true}
 use Rattle.text.specs.Bytes.{space}
 use Rattle.text.specs.Reading.{read}
@@ -69,6 +70,15 @@ pub pushed-parts : (h : LineBuffer) (b : ℕ) (bytes : List ℕ) (len text : ℕ
     record { bytes = bytes; len = len; text = text; after = after } ≡ pushed h b
 unfolding pushed
 pushed-parts h b bytes len text after d e f g = rw (d, e, f, g)
+
+-- by the bytes still to be pushed
+pub pushed-next : (h : LineBuffer) (bs : List ℕ) (i d : ℕ) → i < length bs →
+    pushed-all (pushed h (getD bs i d)) (drop (i + 1) bs) ≡ pushed-all h (drop i bs)
+pushed-next h bs i d q =
+    ap (λ (k : ℕ). pushed-all (pushed h (getD bs i d)) (drop k bs)) (add-one i) ∙ sym (ap (pushed-all h) (drop-cons bs i d q))
+
+pub pushed-end : (h : LineBuffer) (bs : List ℕ) (i : ℕ) → length bs ≤ i → pushed-all h (drop i bs) ≡ h
+pushed-end h bs i q = ap (pushed-all h) (drop-of-length-le bs q)
 
 pub pushed-all-held : (line bs : List ℕ) → pushed-all (buffer-of line) bs ≡ buffer-of (line ++ bs)
 pushed-all-held line [] = ap buffer-of (sym (append-nil line))

@@ -6,7 +6,7 @@ ghost use lib.Dec.{eqb};
 ghost use lib.ListN.{set};
 ghost use Rattle.text.specs.Bytes.{space};
 ghost use Rattle.text.specs.ProgramLine.{is-digit};
-ghost use Rattle.line_buffer.specs.Buffer.{after-with, after-byte, depth-after, DepthIs, new-buffer, pushed};
+ghost use Rattle.line_buffer.specs.Buffer.{after-with, after-byte, depth-after, DepthIs, new-buffer, pushed, pushed-all};
 ghost use Rattle.line_buffer.specs.Taking.{BuffersLine};
 
 // One more than the longest text that is read: a longer one is refused by its first 257 bytes.
@@ -148,6 +148,17 @@ impl LineBuffer {
             text: before_blank(text, len, b),
             after: after.push(b),
         }
+    }
+
+    // Some bytes more, line feeds as any other.
+    pub fn push_all(self, bytes: &[u8]) -> LineBuffer
+        ensures { λ r. ⌜ r ≡ pushed-all self (now (bytes .entry)) ⌝ }
+    {
+        let mut line = self;
+        for i in 0..bytes.len() {
+            line = line.push(bytes[i]);
+        }
+        line
     }
 
     pub fn is_empty(self) -> bool
