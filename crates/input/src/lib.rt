@@ -2,7 +2,8 @@
 ghost use mathlib.Core.Path.{_≡_};
 ghost use Prim.Native.Nat.{min};
 ghost use lib.ListN.{length, set};
-ghost use Rattle.input.specs.Lines.{one-longer, count-on, complete-line, new-input, no-line-came, begun, refilled, TakesLine, ReadsLine};
+ghost use Rattle.input.specs.Lines.{one-longer, count-on, complete-line, new-input, no-line-came, begun, refilled};
+ghost use Rattle.input.specs.Lines.{TakesLine, ReadsLine};
 use libc::STDIN_FILENO;
 
 const LONGEST: usize = 18446744073709551615;
