@@ -7,29 +7,29 @@ use lib.Dec.{T, ltb, ltb→lt}
 use lib.IntN.{ℤ, pos, negsuc, natAbs, negℤ, sucℤ, _+ℤ_, _-ℤ_, +ℤ-idl, +ℤ-one, -ℤ-one}
 use lib.Signed.{mag, ltZ, nonNeg, _<ℤ_, _≤ℤ_, ltZ-yes, ltZ-no}
 use mir.Facts.{toZ-ofZ, sfits-widen}
-use mir.Syntax.{Width, w8, w64}
+use mir.Syntax.{Width, w32, w64}
 use mir.Val.{Fits, SFits, hbits, sel, toZ, ofZ}
 use borrow.Author.Tests.{lt-ltb}
-use Rattle.base.proofs.Integers.{hi, lo, Within, within-abs, within-of, within-+}
+use Rattle.base.proofs.Integers.{hi, lo, Within, within-abs, within-of, within-+, within-neg}
 
 -- ---- read back
--- what is read back of a number
-abbrev pub reads : ℤ → ℤ
-reads z = toZ w64 (ofZ w64 z)
+-- what is read back of a number, at a width and at 64 bits
+abbrev pub reads-at : Width → ℤ → ℤ
+reads-at w z = toZ w (ofZ w z)
 
-abbrev pub reads8 : ℤ → ℤ
-reads8 z = toZ w8 (ofZ w8 z)
+abbrev pub reads : ℤ → ℤ
+reads z = reads-at w64 z
 
 -- one that fits is read back from its bits
 pub back : (z : ℤ) → SFits w64 z → reads z ≡ z
 back z h = toZ-ofZ h
 
 -- what a call gives
-pub result : {r v : ℤ} → mag r < 2 ^ hbits w64 → r ≡ v → reads r ≡ v
-result h e = back _ (record { sfits = h }) ∙ e
+pub result-at : (w : Width) {r v : ℤ} → mag r < 2 ^ hbits w → r ≡ v → reads-at w r ≡ v
+result-at w h e = toZ-ofZ {w = w} (record { sfits = h }) ∙ e
 
-pub result8 : {r v : ℤ} → mag r < 2 ^ hbits w8 → r ≡ v → reads8 r ≡ v
-result8 h e = toZ-ofZ {w = w8} (record { sfits = h }) ∙ e
+pub result : {r v : ℤ} → mag r < 2 ^ hbits w64 → r ≡ v → reads r ≡ v
+result h e = result-at w64 h e
 
 -- the order, from a test
 pub less : {a b : ℤ} → ltZ a b ≡ true → a <ℤ b
@@ -113,71 +113,64 @@ unfolding hi lo
 near-fits w k (pos n) t h = record { sfits = omega (arith, ltb→lt k _ t) }
 near-fits w k (negsuc n) t h = record { sfits = omega (arith, ltb→lt k _ t) }
 
--- ---- a number that the machine worked out, within k
-pub record Held (k : ℕ) : Type 0 where
+-- ---- a number that the machine worked out at a width, within k
+pub record Held (w : Width) (k : ℕ) : Type 0 where
   pub machine : ℤ
   pub value : ℤ
   pub same : machine ≡ value
   pub near : Within k value
 
 -- what a call gives that promises a bound too
-abbrev pub held-promised : {k : ℕ} {r v : ℤ} → (r ≡ v) × (natAbs r ≤ k) → Held k
-held-promised {k} {r} {v} e = record {
+abbrev pub held-promised : {w : Width} {k : ℕ} {r v : ℤ} → (r ≡ v) × (natAbs r ≤ k) → Held w k
+held-promised {w} {k} {r} {v} e = record {
   machine = r;
   value = v;
   same = e .0;
   near = within-of k v (subst (λ (z : ℤ). natAbs z ≤ k) (e .0) (e .1));
 }
 
-abbrev pub held : {k : ℕ} {r v : ℤ} → r ≡ v → Within k v → Held k
-held {k} {r} {v} e h = record { machine = r; value = v; same = e; near = h }
+module _ {w : Width} {k : ℕ} (h : Held w k) (t : T (ltb k (2 ^ hbits w))) where
+  pub held-fits : SFits w (h .machine)
+  held-fits = subst (SFits w) (sym (h .same)) (near-fits w k (h .value) t (h .near))
 
-module _ {k : ℕ} (h : Held k) (t : T (ltb k 9223372036854775808)) where
-  pub held-fits : SFits w64 (h .machine)
-  held-fits = subst (SFits w64) (sym (h .same)) (near-fits w64 k (h .value) t (h .near))
+  pub held-reads : reads-at w (h .machine) ≡ h .value
+  held-reads = toZ-ofZ {w = w} held-fits ∙ h .same
 
-  pub held-reads : reads (h .machine) ≡ h .value
-  held-reads = back (h .machine) held-fits ∙ h .same
-
-  -- narrowed to 8 bits
-  pub held-narrows : T (ltb k 128) → SFits w8 (reads (h .machine))
-  held-narrows u = subst (SFits w8) (sym held-reads) (near-fits w8 k (h .value) u (h .near))
-
-  pub held-narrowed : T (ltb k 128) → reads8 (reads (h .machine)) ≡ h .value
-  held-narrowed u = toZ-ofZ {w = w8} (held-narrows u) ∙ held-reads
-
-  pub held-small : natAbs (reads (h .machine)) ≤ k
-  held-small = subst (λ (z : ℤ). natAbs z ≤ k) (sym held-reads) (within-abs k (h .value) (h .near))
+  -- as a promise with a bound
+  pub held-gives : {v : ℤ} → h .value ≡ v → (reads-at w (h .machine) ≡ v) × (natAbs (reads-at w (h .machine)) ≤ k)
+  held-gives e = (held-reads ∙ e, subst (λ (z : ℤ). natAbs z ≤ k) (sym held-reads) (within-abs k (h .value) (h .near)))
 
 -- the sum of two, as the machine takes it
-abbrev pub plus : {j k : ℕ} (a : Held j) (b : Held k) → T (ltb j 9223372036854775808) → T (ltb k 9223372036854775808) → Held (j + k)
-plus {j} {k} a b t u = record {
-  machine = reads (a .machine) +ℤ reads (b .machine);
+abbrev pub plus : {w : Width} {j k : ℕ} (a : Held w j) (b : Held w k) → T (ltb j (2 ^ hbits w)) → T (ltb k (2 ^ hbits w)) → Held w (j + k)
+plus {w} {j} {k} a b t u = record {
+  machine = reads-at w (a .machine) +ℤ reads-at w (b .machine);
   value = a .value +ℤ b .value;
   same = ap₂ _+ℤ_ (held-reads a t) (held-reads b u);
   near = within-+ j k (a .value) (b .value) (a .near) (b .near);
 }
 
--- the negative of r, which is v
-abbrev pub minus : {k : ℕ} {v : ℤ} (r : ℤ) → SFits w64 r → negℤ r ≡ v → Within k v → Held k
-minus {k} {v} r f e h = record {
-  machine = pos 0 -ℤ reads r;
-  value = v;
-  same = +ℤ-idl (negℤ (reads r)) ∙ ap negℤ (back r f) ∙ e;
-  near = h;
+-- the negative of one
+abbrev pub minus : {w : Width} {k : ℕ} (a : Held w k) → T (ltb k (2 ^ hbits w)) → Held w k
+minus {w} {k} a t = record {
+  machine = pos 0 -ℤ reads-at w (a .machine);
+  value = negℤ (a .value);
+  same = zero-sub (reads-at w (a .machine)) ∙ ap negℤ (held-reads a t);
+  near = within-neg k (a .value) (a .near);
 }
 
--- ---- a number of 8 bits, widened
-small-abs : (z : ℤ) → SFits w8 z → natAbs z ≤ 128
+-- ---- a number of 32 bits, widened
+small-abs : (z : ℤ) → SFits w32 z → natAbs z ≤ 2147483648
 small-abs (pos n) f = omega arith
 small-abs (negsuc n) f = omega arith
 
-module _ {z : ℤ} (f : SFits w8 z) where
-  pub widens : SFits w64 (reads8 z)
-  widens = subst (SFits w64) (sym (toZ-ofZ {w = w8} f)) (sfits-widen {w = w8} tt f)
+module _ {z : ℤ} (f : SFits w32 z) where
+  pub widens : SFits w64 (reads-at w32 z)
+  widens = subst (SFits w64) (sym (toZ-ofZ {w = w32} f)) (sfits-widen {w = w32} tt f)
 
-  pub widened : (reads (reads8 z) ≡ z) × (natAbs (reads (reads8 z)) ≤ 128)
-  widened = let e = back (reads8 z) widens ∙ toZ-ofZ {w = w8} f in (e, subst (λ (y : ℤ). natAbs y ≤ 128) (sym e) (small-abs z f))
+  pub widened : (reads (reads-at w32 z) ≡ z) × (natAbs (reads (reads-at w32 z)) ≤ 2147483648)
+  widened =
+      let e = back (reads-at w32 z) widens ∙ toZ-ofZ {w = w32} f in
+      (e, subst (λ (y : ℤ). natAbs y ≤ 2147483648) (sym e) (small-abs z f))
 
-abbrev pub held-wide : (z : ℤ) {r : ℤ} → (r ≡ reads8 z) × (natAbs r ≤ 128) → mag z < 2 ^ hbits w8 → Held 128
-held-wide z e h = held-promised {v = z} (e .0 ∙ result8 h refl, e .1)
+abbrev pub held-wide : (z : ℤ) {r : ℤ} → (r ≡ reads-at w32 z) × (natAbs r ≤ 2147483648) → mag z < 2 ^ hbits w32 → Held w64 2147483648
+held-wide z e h = held-promised {v = z} (e .0 ∙ result-at w32 h refl, e .1)

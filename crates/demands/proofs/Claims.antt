@@ -11,11 +11,13 @@ use lib.ListN.{length, getD}
 use borrow.Author.Tests.{eqb-true, eqb-false}
 use Rattle.base.specs.Branch.{if_then_else_}
 use Rattle.rules.specs.declared.Player.{Player}
+use Rattle.rules.specs.declared.DrawWinner.{DrawWinner}
+use Rattle.rules.specs.declared.DrawWinner.the-variants.{Nobody}
 use Rattle.rules.specs.Position.{Position, start, unfinished}
 use Rattle.rules.specs.Play.{no-move, accepts, tried, reached}
 use Rattle.rules.specs.Status.{allows, alone}
 use Rattle.rules.specs.Endgame.{analysis}
-use Rattle.rules.specs.Evaluation.{Scoring, no-draw-winner}
+use Rattle.rules.specs.Evaluation.{accepted-weights, Scoring, scoring-with, no-draw-winner}
 use Rattle.rules.proofs.Moves.{moves-are-accepted}
 use Rattle.theory.specs.Game.{Game}
 use Rattle.theory.specs.Table.{off}
@@ -29,7 +31,7 @@ use Rattle.theory.proofs.OrderedSearchPlaces.{analyze-places}
 use Rattle.rules_game.specs.RulesGame.{game, plain-minimax, win-for}
 use Rattle.rules_game.specs.Answers.{entries, AnswersWhole}
 use Rattle.rules_game.proofs.Answers.{unstopped-right, alone-scores, left-out-never-scores, not-nothing}
-use Rattle.minimax.proofs.ReportRefusals.{some-depth, accepted-reported, turned-reported}
+use Rattle.minimax.proofs.ReportRefusals.{limits, some-depth, accepted-reported, turned-reported}
 use Rattle.demands.specs.Claims.{NotStopped, MarkSays, ReportsMinimax, StatusHolds}
 
 -- ---- a variation and what is appended to it
@@ -61,7 +63,10 @@ module _ (sc : Scoring) (k : ℕ) (p : Position) where
   first-attains (m ∷ line) rest r b = b .1
 
 -- ---- a search of the position that a list of tried moves reaches, if it is unfinished
-module _ (ms : List ℕ) (t : T (unfinished (reached start ms))) (sc : Scoring) (c : Settings) (rs : Responses) where
+module _ (ms : List ℕ) (t : T (unfinished (reached start ms))) (draws : DrawWinner) (c : Settings) (rs : Responses) where
+  abbrev sc : Scoring
+  sc = scoring-with draws (c .weights)
+
   abbrev p : Position
   p = reached start ms
 
@@ -86,17 +91,20 @@ module _ (ms : List ℕ) (t : T (unfinished (reached start ms))) (sc : Scoring) 
     depth-is : c .max-depth ≡ suc (c .max-depth - 1)
     depth-is = let h = some-depth c 0 (sym e) in omega arith
 
-  module _ (n : NotStopped sc c rs p) where
+    weights-accepted : T (accepted-weights (c .weights))
+    weights-accepted = limits c 0 (sym e) .2
+
+  module _ (n : NotStopped draws c rs p) where
     whole-by : (d k : ℕ) → d ≡ suc k → entries sc d p s ≤ c .allowance →
         AnswersWhole sc k p (analyze (game sc) (at-most (c .allowance)) d p s)
     whole-by d k q =
         subst (λ (y : ℕ). entries sc y p s ≤ c .allowance → AnswersWhole sc k p (analyze (game sc) (at-most (c .allowance)) y p s))
-        (sym q) (unstopped-right ms t s table-off refl k sc (c .allowance))
+        (sym q) (unstopped-right (c .weights) (weights-accepted (n .accepted)) ms t s table-off refl k draws (c .allowance))
 
     whole : AnswersWhole sc (c .max-depth - 1) p answer
     whole = whole-by (c .max-depth) (c .max-depth - 1) (depth-is (n .accepted)) (n .enough)
 
-    report-right : ReportsMinimax sc c rs p (report (game sc) p answer)
+    report-right : ReportsMinimax draws c rs p (report (game sc) p answer)
     report-right =
         let places = analyze-places (game sc) (at-most (c .allowance)) (c .max-depth) p s in let r = whole .right in
         let d = depth-is (n .accepted) in record {
@@ -112,8 +120,8 @@ module _ (ms : List ℕ) (t : T (unfinished (reached start ms))) (sc : Scoring) 
           line-ends = r .ends ∙ sym (ends-longer (game sc) (answer .completed .depth) p (answer .completed .pv) _ places);
         }
 
-    pub reported-right : ReportsMinimax sc c rs p x
-    reported-right = subst (ReportsMinimax sc c rs p) (is-report (n .accepted)) report-right
+    pub reported-right : ReportsMinimax draws c rs p x
+    reported-right = subst (ReportsMinimax draws c rs p) (is-report (n .accepted)) report-right
 
     unmarked-number : (b : Bool) (d : ℕ) → T (not b) → _≡_ {A = ℕ} (if b && eqb d 0 then (λ _. 18) else λ _. 0) 0
     unfolding if_then_else_
@@ -128,7 +136,7 @@ module _ (ms : List ℕ) (t : T (unfinished (reached start ms))) (sc : Scoring) 
     not-marked : T (not (x .is-stopped))
     not-marked = subst (λ (y : Reported). T (not (y .is-stopped))) (is-report (n .accepted)) (whole .unmarked)
 
-  only-then : x .number ≡ 0 → T (not (x .is-stopped)) → NotStopped sc c rs p
+  only-then : x .number ≡ 0 → T (not (x .is-stopped)) → NotStopped draws c rs p
   only-then h u =
       elim (refusal-none (eqb (entry-refusal c 0) 0) refl) [ inl e ↦ record { accepted = e; enough = enough e } | inr e ↦ absurd e ]
     where
@@ -144,45 +152,49 @@ module _ (ms : List ℕ) (t : T (unfinished (reached start ms))) (sc : Scoring) 
         | inr q ↦ q
       ]
 
-  pub reported-marks : MarkSays sc c rs p x
+  pub reported-marks : MarkSays draws c rs p x
   reported-marks = record { number-none = number-none; not-marked = not-marked; only-then = only-then }
 
 -- ---- with no draw winner
 module _ (ms : List ℕ) (t : T (unfinished (reached start ms))) (c : Settings) (rs : Responses) where
-  alone-by : (w : Player) → T (alone (analysis (reached start ms) .status) w) → NotStopped no-draw-winner c rs (reached start ms) →
-      3 ≤ c .max-depth → reported (game no-draw-winner) c (reached start ms) rs [] .score ≡ win-for w (reached start ms)
-  alone-by w a n three = sym (ap (λ (y : Reported). y .score) (is-report ms t no-draw-winner c rs (n .accepted)))
-      ∙ by-depth (c .max-depth) (n .enough) (depth-is ms t no-draw-winner c rs (n .accepted)) three
+  abbrev G : Game
+  G = game (no-draw-winner (c .weights))
+
+  alone-by : (w : Player) → T (alone (analysis (reached start ms) .status) w) → NotStopped Nobody c rs (reached start ms) →
+      3 ≤ c .max-depth → reported G c (reached start ms) rs [] .score ≡ win-for w (reached start ms)
+  alone-by w a n three = sym (ap (λ (y : Reported). y .score) (is-report ms t Nobody c rs (n .accepted)))
+      ∙ by-depth (c .max-depth) (n .enough) (depth-is ms t Nobody c rs (n .accepted)) three
     where
-      by-depth : (d : ℕ) → entries no-draw-winner d (reached start ms) (fresh-memory rs []) ≤ c .allowance →
-          d ≡ suc (c .max-depth - 1) → 3 ≤ d → analyze (game no-draw-winner) (at-most (c .allowance)) d (reached start ms)
+      by-depth : (d : ℕ) → entries (no-draw-winner (c .weights)) d (reached start ms) (fresh-memory rs []) ≤ c .allowance →
+          d ≡ suc (c .max-depth - 1) → 3 ≤ d → analyze G (at-most (c .allowance)) d (reached start ms)
           (fresh-memory rs []) .completed .score ≡ win-for w (reached start ms)
       by-depth d h e k =
-          subst (λ (y : ℕ). entries no-draw-winner y (reached start ms) (fresh-memory rs []) ≤ c .allowance →
-          analyze (game no-draw-winner) (at-most (c .allowance)) y (reached start ms) (fresh-memory rs []) .completed .score
+          subst (λ (y : ℕ). entries (no-draw-winner (c .weights)) y (reached start ms) (fresh-memory rs []) ≤ c .allowance →
+          analyze G (at-most (c .allowance)) y (reached start ms) (fresh-memory rs []) .completed .score
           ≡ win-for w (reached start ms)) (sym e)
-          (λ i. alone-scores ms t (fresh-memory rs []) (table-off ms t no-draw-winner c rs) refl (c .max-depth - 1) (c .allowance) i
-          (omega arith) w a) h
+          (λ i. alone-scores (c .weights) (weights-accepted ms t Nobody c rs (n .accepted)) ms t (fresh-memory rs [])
+          (table-off ms t Nobody c rs) refl (c .max-depth - 1) (c .allowance) i (omega arith) w a) h
 
   never-by : (w : Player) → T (not (allows (analysis (reached start ms) .status) w)) →
-      reported (game no-draw-winner) c (reached start ms) rs [] .score ≡ win-for w (reached start ms) → ⊥
+      reported G c (reached start ms) rs [] .score ≡ win-for w (reached start ms) → ⊥
   never-by w out h = by-refusal (eqb (entry-refusal c 0) 0) refl
     where
-      searched-never : (d k : ℕ) → d ≡ suc k → analyze (game no-draw-winner) (at-most (c .allowance)) d (reached start ms)
+      searched-never : T (accepted-weights (c .weights)) → (d k : ℕ) → d ≡ suc k → analyze G (at-most (c .allowance)) d (reached start ms)
           (fresh-memory rs []) .completed .score ≡ win-for w (reached start ms) → ⊥
-      searched-never d k e =
-          subst (λ (y : ℕ). analyze (game no-draw-winner) (at-most (c .allowance)) y (reached start ms)
+      searched-never a d k e =
+          subst (λ (y : ℕ). analyze G (at-most (c .allowance)) y (reached start ms)
           (fresh-memory rs []) .completed .score ≡ win-for w (reached start ms) → ⊥) (sym e)
-          (left-out-never-scores ms t (fresh-memory rs []) (table-off ms t no-draw-winner c rs) refl k w out (at-most (c .allowance)))
+          (left-out-never-scores (c .weights) a ms t (fresh-memory rs []) (table-off ms t Nobody c rs) refl k w out
+          (at-most (c .allowance)))
 
       by-refusal : (b : Bool) → eqb (entry-refusal c 0) 0 ≡ b → ⊥
       by-refusal true q = let e = eqb-true (entry-refusal c 0) 0 q in
-          searched-never (c .max-depth) (c .max-depth - 1) (depth-is ms t no-draw-winner c rs e)
-          (ap (λ (y : Reported). y .score) (is-report ms t no-draw-winner c rs e) ∙ h)
+          searched-never (weights-accepted ms t Nobody c rs e) (c .max-depth) (c .max-depth - 1) (depth-is ms t Nobody c rs e)
+          (ap (λ (y : Reported). y .score) (is-report ms t Nobody c rs e) ∙ h)
       by-refusal false q =
           not-nothing (reached start ms .turn) w
-          (sym (ap (λ (y : Reported). y .score) (turned-reported (game no-draw-winner) c (reached start ms) rs [] q)) ∙ h)
+          (sym (ap (λ (y : Reported). y .score) (turned-reported G c (reached start ms) rs [] q)) ∙ h)
 
-  pub reported-holds : StatusHolds c rs (reached start ms) (reported (game no-draw-winner) c (reached start ms) rs [])
+  pub reported-holds : StatusHolds c rs (reached start ms) (reported G c (reached start ms) rs [])
       (analysis (reached start ms) .status)
   reported-holds = record { alone-wins = alone-by; left-out-never = never-by }

@@ -9,10 +9,11 @@ use Rattle.game.specs.Meaning.{position-of}
 use Rattle.game.specs.After.{Plays}
 use Rattle.game.specs.Look.{Looks-cell, Looks-state}
 use Rattle.notation.specs.Parsed.{Parses, Parses-move}
+use Rattle.evaluation.specs.Values.{Evaluates}
 use Rattle.endgame.specs.Means.{Analyses, Judges}
 use Rattle.minimax.specs.declared.Minimax.{Minimax}
 use Rattle.minimax.specs.declared.Config.{Config}
-use Rattle.minimax.specs.Report.{report-of, reported-of}
+use Rattle.minimax.specs.Report.{scoring-of, report-of, reported-of}
 use Rattle.line_buffer.specs.declared.LineBuffer.{LineBuffer}
 use Rattle.line_buffer.specs.Buffer.{new-buffer, pushed-all, buffer-asks}
 use Rattle.answer_text.specs.AnswerBytes.{text-of-bytes}
@@ -20,7 +21,7 @@ use Rattle.program_line.specs.Answered.{asked-text}
 use Rattle.demands.specs.declared.EntryAnswers.{EntryAnswers}
 use Rattle.demands.specs.Demand1.{Demand1}
 use Rattle.demands.proofs.Demand1Calls.{playing-holds, looking-cell-holds, looking-board-holds, building-holds}
-use Rattle.demands.proofs.Demand1Calls.{analysing-holds, judging-holds, searching-holds}
+use Rattle.demands.proofs.Demand1Calls.{evaluating-holds, analysing-holds, judging-holds, searching-holds}
 use Rattle.demands.proofs.Demand1Texts.{reading-move-holds, reading-position-holds}
 use Rattle.demands.proofs.Demand1Lines.{answering-line-holds}
 
@@ -34,6 +35,7 @@ module _ (text line : List ℕ) (g : Game) (m : Move) (b c : ℕ) (memory : Mini
     pub looked-cell : Looks-cell (position-of g) b c (r .cell)
     pub looked-board : Looks-state (position-of g) b (r .«board_state»)
     pub built : Builds b c (r .built)
+    pub valued : Evaluates (scoring-of config) g (r .evaluation)
     pub analysed : Analyses g (r .analysis)
     pub judged : Judges g m (r .«move_status»)
     pub searched : report-of (r .report) words' ≡ reported-of memory g config words
@@ -51,6 +53,7 @@ module _ (text line : List ℕ) (g : Game) (m : Move) (b c : ℕ) (memory : Mini
     cell = looking-cell-holds b c g (r .cell) (h .looked-cell);
     board = looking-board-holds g b (r .«board_state») (h .looked-board);
     build = building-holds b c (r .built) (h .built);
+    evaluation = evaluating-holds g (config .«draw_winner») (config .weights) (r .evaluation) (h .valued);
     endgame = analysing-holds g (r .analysis) (h .analysed);
     move-status = judging-holds g m (r .«move_status») (h .judged);
     search = searching-holds memory g config words (r .report) words' (h .searched);

@@ -15,6 +15,8 @@ use Rattle.base.proofs.Bool.{and→, →and, neither, is}
 use Rattle.base.proofs.Branch.{if-ind}
 use Rattle.base.proofs.Checks.{all-pass-0, some-failed, failed-number, 0-all-pass, failed-at, passed-++, failed-++}
 use Rattle.rules.specs.declared.Player.the-variants.{X, O}
+use Rattle.rules.specs.declared.DrawWinner.{DrawWinner}
+use Rattle.rules.specs.declared.Weights.{Weights}
 use Rattle.rules.specs.declared.CellState.{CellState}
 use Rattle.rules.specs.declared.CellState.the-variants.{Empty}
 use Rattle.rules.specs.declared.GameState.{GameState}
@@ -24,6 +26,7 @@ use Rattle.rules.specs.Position.{Position, unfinished, open-board, free-cell, h
 use Rattle.rules.specs.Play.{no-move, move-of, board-of, cell-of, checks, accepts}
 use Rattle.rules.specs.Sound.{sound}
 use Rattle.rules.specs.Status.{Status as Set, unproven}
+use Rattle.rules.specs.Evaluation.{accepted-weights, scoring-with, evaluated}
 use Rattle.rules.specs.Endgame.{Analysis as Meant, no-endgame-stats as no-counts, analysis-checks, analysis, judging-checks, evaluate-move}
 use Rattle.rules.proofs.Play.{tried-accepted}
 use Rattle.rules.proofs.Endgame.{analysis-finished}
@@ -49,6 +52,8 @@ use Rattle.game.specs.Look.{Looks-cell, Looks-state}
 use Rattle.game.proofs.Meaning.{game-accepted, game-refused}
 use Rattle.game.proofs.AfterRefusals.{first-is-refusal, nought-accepts, refused-not-accepts}
 use Rattle.status.specs.Sets.{status-of}
+use Rattle.evaluation.specs.declared.Evaluation.{Evaluation}
+use Rattle.evaluation.specs.Values.{Evaluates}
 use Rattle.endgame.specs.declared.Analysis.{Analysis}
 use Rattle.endgame.specs.declared.MoveStatus.{MoveStatus}
 use Rattle.endgame.specs.Means.{move-status-number, Analyses, Judges}
@@ -58,7 +63,7 @@ use Rattle.minimax.specs.declared.Report.{Report}
 use Rattle.minimax.specs.Structs.{structs}
 use Rattle.minimax.specs.Report.{settings-of, report-of, answer-of, reported-of, scoring-of, responses-of}
 use Rattle.demands.specs.Demand1.{Playing, depth-1-enters, searching, NothingReported, Searching, line-of-boards, broken-board}
-use Rattle.demands.specs.Demand1.{unsound, analysing, Analysing, JudgingMove, LookingCell, LookingBoard, Building}
+use Rattle.demands.specs.Demand1.{Evaluating, unsound, analysing, Analysing, JudgingMove, LookingCell, LookingBoard, Building}
 
 -- ---- a list of one check
 one-passes : (t : Bool) (n : ℕ) → T t → T (all-pass ((t, n) ∷ []))
@@ -105,7 +110,7 @@ module _ (m : Minimax) (g : Game) (c : Config) (words : List ℕ) where
     number = sym (failed-++ entry ((enough, 18) ∷ []) t);
     refused = λ _. record { depth = refl; score = refl; pv = refl; stats = refl };
     at-entry = λ _ _. record { count = refl; unmarked = tt; responses = refl; table = refl };
-    in-depth-1 = λ e. absurd (omega (arith, ltb→lt (first-failed entry) 18 (failed-number (λ k. ltb k 18) entry tt t)));
+    in-depth-1 = λ e. absurd (subst (λ (n : ℕ). T (not (eqb n 18))) e (failed-number (λ k. not (eqb k 18)) entry tt t));
   }
 
   module _ (t : T (all-pass entry)) where
@@ -164,6 +169,16 @@ module _ (m : Minimax) (g : Game) (c : Config) (words : List ℕ) where
   pub searching-holds : (r : Report) (words' : List ℕ) → report-of r words' ≡ reported-of m g c words →
       Searching m g c words (report-of r words')
   searching-holds r words' h = subst (Searching m g c words) (sym h) reported-holds
+
+-- ---- the evaluation alone
+pub evaluating-holds : (g : Game) (draws : DrawWinner) (w : Weights) (r : Evaluation) → Evaluates (scoring-with draws w) g r →
+    Evaluating w r
+unfolding evaluated accepted-weights first-failed if_then_else_
+evaluating-holds g draws w r h = by-test (accepted-weights w) refl
+  where
+    by-test : (b : Bool) → accepted-weights w ≡ b → Evaluating w r
+    by-test true e = record { number = h .refusal ∙ rw e; refused = λ k. absurd (k (h .refusal ∙ rw e)) }
+    by-test false e = record { number = h .refusal ∙ rw e; refused = λ _. h .value ∙ rw e }
 
 -- ---- the endgame analysis
 -- two sides' tests, and their failures

@@ -19,7 +19,7 @@ use Rattle.base.proofs.ListsAgree.{same-by}
 use Rattle.rules.specs.Position.{Position}
 use Rattle.rules.specs.Moves.{moves}
 use Rattle.rules.specs.Hash.{hash}
-use Rattle.rules.specs.Evaluation.{no-draw-winner}
+use Rattle.rules.specs.Evaluation.{accepted-weights}
 use Rattle.rules.specs.Endgame.{analysis}
 use Rattle.text.specs.Reading.{Reading, reads, refuses, text-refusal, sections, read}
 use Rattle.text.specs.ProgramLine.{Parted, no-blank, around, parted, parted-with, depth-of, Question, no-depth, asks}
@@ -39,7 +39,8 @@ use Rattle.minimax.proofs.Structs.{reported-rules}
 use Rattle.line_buffer.specs.Buffer.{new-buffer, pushed-all, buffer-asks}
 use Rattle.answer_text.specs.declared.AnswerText.{AnswerText}
 use Rattle.answer_text.specs.AnswerBytes.{text-of-bytes, written-bytes}
-use Rattle.program_line.specs.Answered.{settings, program-search, report-text, position-text, reading-text, asked-text, answer-line}
+use Rattle.program_line.specs.Answered.{settings, program-scoring, program-search, report-text, position-text, reading-text, asked-text}
+use Rattle.program_line.specs.Answered.{answer-line}
 use Rattle.program_line.proofs.Answered.{line-is-answered}
 use Rattle.demands.specs.Demand1.{depth-1-enters, searching, analysing, cell-checks, text-checks, numbers, digit, one-or-two-digits}
 use Rattle.demands.specs.Demand1.{digits-say, program-config, answering, Answered, AnsweringLine}
@@ -163,13 +164,13 @@ module _ (text : List ℕ) (depth : ℕ) where
 
     program-searched : reported-of empty-responses g (program-config depth) [] ≡ program-search depth p
     program-searched =
-        ap (λ (xs : List ℕ). reported (structs no-draw-winner) (settings depth) g (record { to-x = xs; to-o = xs }) []) (bytes-empty 256)
-        ∙ reported-rules no-draw-winner (settings depth) g (known .is-neat) (known .fresh) no-responses []
+        ap (λ (xs : List ℕ). reported (structs program-scoring) (settings depth) g (record { to-x = xs; to-o = xs }) []) (bytes-empty 256)
+        ∙ reported-rules program-scoring (settings depth) g (known .is-neat) (known .fresh) no-responses []
         ∙ ap (program-search depth) (known .means)
 
-    -- 16 and 17 never come: allowance and words are within the limits
+    -- 16, 17 and 20 never come: allowance, words and weights are within the limits
     only-15-and-18 : first-failed (searching empty-responses g (program-config depth) []) ≡ first-failed (search-checks g)
-    unfolding first-failed if_then_else_
+    unfolding first-failed accepted-weights if_then_else_
     only-15-and-18 = refl
 
     search-number : program-search depth p .number ≡ first-failed (search-checks g)

@@ -11,7 +11,7 @@ use Rattle.rules.specs.Position.{Position, unfinished}
 use Rattle.rules.specs.Play.{no-move, play, tried, reached}
 use Rattle.rules.specs.Moves.{moves}
 use Rattle.rules.specs.Hash.{hash, with-turn, zobrist}
-use Rattle.rules.specs.Evaluation.{evaluate}
+use Rattle.rules.specs.Evaluation.{evaluated}
 use Rattle.rules.specs.Endgame.{analysis, evaluate-move}
 use Rattle.rules.specs.Compare.{bound-depth, open-boards, equivalent}
 use Rattle.theory.specs.Memory.{Responses}
@@ -40,6 +40,7 @@ use Rattle.notation.specs.declared.Parsed.{Parsed}
 use Rattle.notation.specs.Parsed.{reading-of, game-for, Parses, Parses-move}
 use Rattle.notation.proofs.ParsedGames.{read-gives-a-game}
 use Rattle.notation.proofs.ParsedRoundTrip.{render-reads-back}
+use Rattle.evaluation.specs.Values.{Evaluates}
 use Rattle.endgame.specs.Means.{Analyses, Judges}
 use Rattle.minimax.specs.declared.Minimax.{Minimax}
 use Rattle.minimax.specs.declared.Config.{Config}
@@ -96,7 +97,7 @@ module _ (text ms : List ℕ) (m : Move) (board cell : ℕ) (other : Game) (memo
     pub counted : r .«legal_moves» ≡ length (moves (position-of (r .game)))
     pub tried-one : Plays (r .game) m (r .played)
     pub keyed : r .key ≡ with-turn (position-of (r .game)) (r .game .hash)
-    pub valued : r .value ≡ evaluate (scoring-of c) (position-of (r .game))
+    pub valued : Evaluates (scoring-of c) (r .game) (r .evaluation)
     pub analysed : Analyses (r .game) (r .analysis)
     pub status-given : r .status ≡ r .analysis .proven
     pub judged : Judges (r .game) m (r .«move_status»)
@@ -132,7 +133,8 @@ module _ (text ms : List ℕ) (m : Move) (board cell : ℕ) (other : Game) (memo
       after-is = h .tried-one .position ∙ ap (λ (q : Position). tried q (m .bits)) e;
       after-game-is = h .tried-one .exact ∙ fixed (game-after (r .game) (m .bits)) (tried p (m .bits)) (one-move (r .game) p (m .bits) k);
       key-is = h .keyed ∙ zobrist-fresh (r .game) (k .fresh) ∙ ap zobrist e;
-      value-is = h .valued ∙ ap (evaluate (scoring-of c)) e;
+      evaluation-refusal-is = h .valued .refusal ∙ ap (λ (q : Position). evaluated (scoring-of c) q .refusal) e;
+      value-is = h .valued .value ∙ ap (λ (q : Position). evaluated (scoring-of c) q .value) e;
       endgame-refusal-is = h .analysed .refusal ∙ ap (λ (q : Position). analysis q .refusal) e;
       proven-is = h .analysed .status ∙ ap (λ (q : Position). status-of (analysis q .status)) e;
       status-is = h .status-given ∙ h .analysed .status ∙ ap (λ (q : Position). status-of (analysis q .status)) e;

@@ -76,12 +76,13 @@ module _ (ms : List ℕ) (m : Minimax) (c : Config) (g : Game) (a : Analysis) (r
         λ t. a-is .refusal ∙ ap (λ (q : Position). analysis q .refusal) means
         ∙ ap (λ (y : Found). y .refusal) (analysis-sound p t (good-is-sound p (reached-good start start-is-good ms) t) .2);
     mark-says =
-        λ t. subst (MarkSays (scoring-of c) (settings-of c) rs p) (sym report-is) (reported-marks ms t (scoring-of c) (settings-of c) rs);
+        λ t. subst (MarkSays (c .«draw_winner») (settings-of c) rs p) (sym report-is)
+        (reported-marks ms t (c .«draw_winner») (settings-of c) rs);
     right =
-        λ t n. subst (ReportsMinimax (scoring-of c) (settings-of c) rs p) (sym report-is)
-        (reported-right ms t (scoring-of c) (settings-of c) rs n);
+        λ t n. subst (ReportsMinimax (c .«draw_winner») (settings-of c) rs p) (sym report-is)
+        (reported-right ms t (c .«draw_winner») (settings-of c) rs n);
     status-holds =
         λ t e. subst (λ (x : Reported). StatusHolds (settings-of c) rs p x (analysis p .status))
-        (sym (report-is ∙ ap (λ (w : DrawWinner). reported (game (scoring-with w)) (settings-of c) p rs []) e))
+        (sym (report-is ∙ ap (λ (w : DrawWinner). reported (game (scoring-with w (c .weights))) (settings-of c) p rs []) e))
         (reported-holds ms t (settings-of c) rs);
   }

@@ -8,4 +8,5 @@ pub mod Demand1Lines
 pub mod Demand1
 pub mod Searches
 pub mod SearchesExamples
+pub mod Evaluations
 pub mod Twelve

@@ -10,6 +10,7 @@ use Rattle.rules.specs.Board.{has-line, result}
 use Rattle.rules.specs.Play.{accepts}
 use Rattle.rules.specs.Moves.{places, moves}
 use Rattle.rules.specs.Hash.{with-turn}
+use Rattle.rules.specs.Evaluation.{accepted-weights}
 use Rattle.text.specs.Bytes.{quoted}
 use Rattle.text.specs.Reading.{side-of, overall-mark, cell-mark, sections, first-bad, last-at, fault-at, first-fault, cell-in, state-in}
 use Rattle.text.specs.Reading.{said, read-cells, read-overall, read}
@@ -27,6 +28,6 @@ full-board = quoted "X;@........;XOXXOOOXX/........./........./........./.......
 
 pub no-legal-move-occurs : NoLegalMove empty-responses (game-for (read full-board)) (program-config 3) []
 unfolding quoted if_then_else_ any all filter elem concat-map bit digits all-pass first-failed has-line result accepts places moves
-    with-turn side-of overall-mark cell-mark sections first-bad last-at fault-at first-fault cell-in state-in said read-cells
-    read-overall read off look-up entry-refusal cell-at state-at row-bits state-bits
+    accepted-weights with-turn side-of overall-mark cell-mark sections first-bad last-at fault-at first-fault cell-in state-in said
+    read-cells read-overall read off look-up entry-refusal cell-at state-at row-bits state-bits
 no-legal-move-occurs = record { accepted = refl; goes-on = tt; none-listed = refl; no-entry = refl }

@@ -13,7 +13,7 @@ use Rattle.rules.specs.Play.{accepts, after, play, left-by, tried}
 use Rattle.rules.specs.Moves.{places, moves}
 use Rattle.rules.specs.Sound.{sound, proper}
 use Rattle.rules.specs.Hash.{cell-key, board-key, next-board-key, xors, cells-hash, board-hash, hash, with-turn, zobrist, hash-after}
-use Rattle.rules.specs.Evaluation.{places-in, unless-both, board-line, board-score, overall-line, score, evaluate}
+use Rattle.rules.specs.Evaluation.{accepted-weights, places-in, unless-both, board-line, board-score, overall-line, score, evaluate}
 use Rattle.rules.specs.Endgame.{completes, winning, critical, has-critical, suits, all-suit, lure, attack, prove-attacker, forced}
 use Rattle.rules.specs.Endgame.{forced-loss, winnable, proven, narrow, combine, merged, endgame-stats, or-unproven, analysis}
 use Rattle.rules.specs.Status.{from-byte, merge}
@@ -39,7 +39,7 @@ asking = tt
 computing : Unit {0}
 unfolding if_then_else_ any all filter elem concat-map update sum has-line result first-failed accepts all-pass after play left-by tried
     places moves sound proper cell-key board-key next-board-key xors cells-hash board-hash hash with-turn zobrist hash-after places-in
-    unless-both board-line board-score overall-line score evaluate completes winning critical has-critical suits all-suit lure attack
+    accepted-weights unless-both board-line board-score overall-line score evaluate completes winning critical has-critical suits all-suit lure attack
     prove-attacker forced forced-loss winnable proven narrow combine merged endgame-stats or-unproven analysis from-byte merge side-of
     overall-mark cell-mark sections first-bad last-at fault-at first-fault cell-in state-in said read-cells read-overall read parted
     depth-of in-places decimal signed move-letters read-letters from-word entry-of off begins look-up store suffices bound-of begin enter

@@ -8,10 +8,12 @@ use lib.Dec.{T}
 use lib.IntN.{negℤ}
 use lib.ListN.{getD}
 use Rattle.rules.specs.declared.Player.{Player}
+use Rattle.rules.specs.declared.DrawWinner.{DrawWinner}
+use Rattle.rules.specs.declared.DrawWinner.the-variants.{Nobody}
 use Rattle.rules.specs.Position.{Position}
 use Rattle.rules.specs.Play.{no-move, accepts, tried}
 use Rattle.rules.specs.Status.{Status, allows, alone}
-use Rattle.rules.specs.Evaluation.{Scoring, no-draw-winner}
+use Rattle.rules.specs.Evaluation.{Scoring, scoring-with}
 use Rattle.theory.specs.Memory.{Responses, fresh-memory}
 use Rattle.theory.specs.Deepening.{decided}
 use Rattle.theory.specs.Reported.{Settings, entry-refusal, Reported}
@@ -19,7 +21,11 @@ use Rattle.theory.specs.Variation.{play-out, ends-on}
 use Rattle.rules_game.specs.RulesGame.{game, plain-minimax, win-for}
 use Rattle.rules_game.specs.Answers.{entries}
 
-module _ (sc : Scoring) (c : Settings) (rs : Responses) (p : Position) where
+module _ (draws : DrawWinner) (c : Settings) (rs : Responses) (p : Position) where
+  -- how positions are scored: under the weights of the settings
+  abbrev pub sc : Scoring
+  sc = scoring-with draws (c .weights)
+
   -- what is asked for a search to run to its end: its entry passes, and the allowance covers all that the ordered search would enter
   pub record NotStopped : Type 0 where
     pub accepted : entry-refusal c 0 ≡ 0
@@ -53,6 +59,6 @@ module _ (sc : Scoring) (c : Settings) (rs : Responses) (p : Position) where
 module _ (c : Settings) (rs : Responses) (p : Position) (x : Reported) (s : Status) where
   pub record StatusHolds : Type 0 where
     -- it leaves w alone, and no draw: a search that runs to its end, three deep or deeper, has w's win for its score
-    pub alone-wins : (w : Player) → T (alone s w) → NotStopped no-draw-winner c rs p → 3 ≤ c .max-depth → x .score ≡ win-for w p
+    pub alone-wins : (w : Player) → T (alone s w) → NotStopped Nobody c rs p → 3 ≤ c .max-depth → x .score ≡ win-for w p
     -- it leaves w out: w's win is the score of no search at all
     pub left-out-never : (w : Player) → T (not (allows s w)) → x .score ≡ win-for w p → ⊥

@@ -1,4 +1,4 @@
--- Demand 1: what each entry point asks, as a list of checks with document 01's numbers in their order, and what it returns where one fails.
+-- Demand 1: what each entry point asks, as a list of checks with the refusals' numbers in their order, and what it returns where one fails.
 -- The number that it answers is that of the first that fails, 0 where all pass.
 use mathlib.Core.Path.{_≡_}
 use mathlib.Core.Bool.{Bool, false, not, _||_, _&&_}
@@ -12,6 +12,7 @@ use Rattle.base.specs.Checks.{all-pass, first-failed}
 use Rattle.rules.specs.declared.Player.{Player}
 use Rattle.rules.specs.declared.Player.the-variants.{X, O}
 use Rattle.rules.specs.declared.DrawWinner.the-variants.{Nobody}
+use Rattle.rules.specs.declared.Weights.{Weights}
 use Rattle.rules.specs.declared.CellState.the-variants.{Empty}
 use Rattle.rules.specs.declared.GameState.the-variants.{InPlay}
 use Rattle.rules.specs.Board.{blank, mine, in-play, won-by, nine, has-line}
@@ -19,6 +20,7 @@ use Rattle.rules.specs.Position.{Position}
 use Rattle.rules.specs.Play.{no-move, move-of, board-of, cell-of, checks, after}
 use Rattle.rules.specs.Moves.{moves}
 use Rattle.rules.specs.Status.{unproven}
+use Rattle.rules.specs.Evaluation.{default-weights}
 use Rattle.rules.specs.Endgame.{no-endgame-stats as no-counts, analysis}
 use Rattle.text.specs.Reading.{reads, sections, read}
 use Rattle.text.specs.MoveText.{coordinate}
@@ -46,6 +48,8 @@ use Rattle.notation.specs.declared.MoveTextAnswer.the-variants.{BadCharacter}
 use Rattle.notation.specs.declared.ParsedMove.{ParsedMove}
 use Rattle.notation.specs.Parsed.{parse-number, move-number, game-for}
 use Rattle.status.specs.Sets.{status-of}
+use Rattle.evaluation.specs.declared.Evaluation.{Evaluation}
+use Rattle.evaluation.specs.Values.{evaluation-number}
 use Rattle.endgame.specs.declared.Analysis.{Analysis}
 use Rattle.endgame.specs.declared.MoveStatus.{MoveStatus}
 use Rattle.endgame.specs.Means.{analysis-number, move-status-number, endgame-stats-of}
@@ -72,7 +76,7 @@ module _ (m : Minimax) (g : Game) (c : Config) (words : List ℕ) where
   abbrev pub depth-1-enters : ℕ
   depth-1-enters = analyze (structs (scoring-of c)) unlimited 1 g (fresh-memory (responses-of (m .responses)) words) .memory .count
 
-  -- 15 to 17 at the entry, then 18
+  -- 15 to 17 and 20 at the entry, then 18
   abbrev pub searching : List (Bool × ℕ)
   searching = entry-checks console (settings-of c) (length words) ++ ((leb depth-1-enters (c .allowance), 18) ∷ [])
 
@@ -102,9 +106,18 @@ module _ (m : Minimax) (g : Game) (c : Config) (words : List ℕ) where
     pub record Searching : Type 0 where
       pub number : x .number ≡ first-failed searching
       pub refused : (x .number ≡ 0 → ⊥) → NothingReported
-      -- 15 to 17
+      -- 15 to 17, and 20
       pub at-entry : (x .number ≡ 0 → ⊥) → (x .number ≡ 18 → ⊥) → Unchanged
       pub in-depth-1 : x .number ≡ 18 → SpentInDepth1
+
+-- ---- the evaluation alone
+-- no weight is over 1,000
+abbrev pub evaluating : Weights → List (Bool × ℕ)
+evaluating w = (leb (w .one) 1000 && (leb (w .two) 1000 && leb (w .board) 1000), 20) ∷ []
+
+pub record Evaluating (w : Weights) (r : Evaluation) : Type 0 where
+  pub number : evaluation-number (r .answer) ≡ first-failed (evaluating w)
+  pub refused : (evaluation-number (r .answer) ≡ 0 → ⊥) → r .value ≡ pos 0
 
 -- ---- the endgame analysis
 -- a side has a line of boards
@@ -243,7 +256,7 @@ digits-say (c ∷ d ∷ cs) = 10 * (c - 0x30) + (d - 0x30)
 
 -- the program's settings
 abbrev pub program-config : ℕ → Config
-program-config depth = record { «max_depth» = depth; allowance = 1000000; «draw_winner» = Nobody }
+program-config depth = record { «max_depth» = depth; allowance = 1000000; «draw_winner» = Nobody; weights = default-weights }
 
 -- of what stands before the last blank and after it: the depth's form, the position's text, the endgame analysis, and a search from no
 -- responses with the table off
@@ -282,6 +295,7 @@ module _ (text line : List ℕ) (g : Game) (m : Move) (b c : ℕ) (memory : Mini
     pub cell : LookingCell b c (r .cell)
     pub board : LookingBoard b (r .«board_state»)
     pub build : Building b c (r .built)
+    pub evaluation : Evaluating (config .weights) (r .evaluation)
     pub endgame : Analysing g (r .analysis)
     pub move-status : JudgingMove g m (r .«move_status»)
     pub search : Searching memory g config words (report-of (r .report) words')

@@ -9,7 +9,7 @@ use Rattle.rules.specs.Position.{Position, start, unfinished}
 use Rattle.rules.specs.Play.{no-move, play, tried, reached}
 use Rattle.rules.specs.Moves.{moves}
 use Rattle.rules.specs.Hash.{hash, zobrist}
-use Rattle.rules.specs.Evaluation.{evaluate}
+use Rattle.rules.specs.Evaluation.{evaluated}
 use Rattle.rules.specs.Endgame.{analysis, evaluate-move}
 use Rattle.rules.specs.Compare.{bound-depth, open-boards, equivalent}
 use Rattle.theory.specs.Reported.{filled, reported}
@@ -28,6 +28,7 @@ use Rattle.game.specs.Neat.{game-of}
 use Rattle.notation.specs.declared.Parsed.{Parsed}
 use Rattle.notation.specs.declared.ParseAnswer.the-variants.{Accepted}
 use Rattle.notation.specs.Parsed.{reading-of, game-for, move-reading-of, move-for}
+use Rattle.evaluation.specs.Values.{evaluation-number}
 use Rattle.endgame.specs.Means.{analysis-number, move-status-number, endgame-stats-of}
 use Rattle.minimax.specs.declared.Minimax.{Minimax}
 use Rattle.minimax.specs.declared.Config.{Config}
@@ -70,8 +71,9 @@ module _ (m : Move) (board cell : ℕ) (other : Game) (memory : Minimax) (c : Co
     pub after-game-is : r .played .game ≡ game-of (tried p (m .bits)) (hash (tried p (m .bits)))
     -- `zobrist`, which is the search's key
     pub key-is : r .key ≡ zobrist p
-    -- `evaluate`
-    pub value-is : r .value ≡ evaluate (scoring-of c) p
+    -- `evaluate`: number and value
+    pub evaluation-refusal-is : evaluation-number (r .evaluation .answer) ≡ evaluated (scoring-of c) p .refusal
+    pub value-is : r .evaluation .value ≡ evaluated (scoring-of c) p .value
     -- `Analysis::new`: number, set and counts; `status` is the set
     pub endgame-refusal-is : analysis-number (r .analysis .answer) ≡ analysis p .refusal
     pub proven-is : r .analysis .proven ≡ status-of (analysis p .status)

@@ -43,8 +43,8 @@ module _ (ms : List ℕ) (m : Minimax) (c : Config) (r : AfterMoves) where
     -- and, where the game is unfinished, the claims: the position is sound, and the endgame question is answered
     pub sound-is : T (unfinished p) → T (sound p)
     pub answered : T (unfinished p) → analysis-number (r .analysis .answer) ≡ 0
-    pub mark-says : T (unfinished p) → MarkSays (scoring-of c) (settings-of c) rs p (report-of (r .report) [])
-    pub right : T (unfinished p) → NotStopped (scoring-of c) (settings-of c) rs p
-        → ReportsMinimax (scoring-of c) (settings-of c) rs p (report-of (r .report) [])
-    pub status-holds : T (unfinished p) → scoring-of c .draws ≡ Nobody
+    pub mark-says : T (unfinished p) → MarkSays (c .«draw_winner») (settings-of c) rs p (report-of (r .report) [])
+    pub right : T (unfinished p) → NotStopped (c .«draw_winner») (settings-of c) rs p
+        → ReportsMinimax (c .«draw_winner») (settings-of c) rs p (report-of (r .report) [])
+    pub status-holds : T (unfinished p) → c .«draw_winner» ≡ Nobody
         → StatusHolds (settings-of c) rs p (report-of (r .report) []) (analysis p .status)

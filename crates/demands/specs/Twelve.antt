@@ -7,7 +7,7 @@ use lib.ListN.{take, replicate, length}
 use Rattle.rules.specs.Position.{start}
 use Rattle.rules.specs.Play.{tried}
 use Rattle.rules.specs.Hash.{zobrist}
-use Rattle.rules.specs.Evaluation.{no-draw-winner, evaluate}
+use Rattle.rules.specs.Evaluation.{default-weights, no-draw-winner, evaluate}
 use Rattle.text.specs.Bytes.{quoted}
 use Rattle.text.specs.Reading.{text-refusal, read}
 use Rattle.text.specs.MoveText.{reads-move, move-refusal, read-move}
@@ -37,4 +37,4 @@ pub record Twelve : Type 0 where
   pub last-move : read-move (quoted "ii") ≡ reads-move 0x88
   pub no-move-text : move-refusal (read-move (quoted "ij")) ≡ 8
   pub empty-key : zobrist start ≡ 5407203028010692663
-  pub centre : evaluate no-draw-winner (tried start 0x44) ≡ negsuc 15
+  pub centre : evaluate (no-draw-winner default-weights) (tried start 0x44) ≡ negsuc 15

@@ -1,4 +1,4 @@
-// The mission's demands, and functions of which they and the claims on every search are the promises.
+// The mission's demands, and functions of which they and the claims on every search and every evaluation are the promises.
 ghost use mathlib.Core.Path.{_≡_};
 ghost use Rattle.rules.specs.Play.{no-move};
 ghost use Rattle.theory.specs.Reported.{filled};
@@ -8,6 +8,7 @@ ghost use Rattle.demands.specs.Demand1.{Demand1};
 ghost use Rattle.demands.specs.Demand2.{Demand2, ReadAgain};
 ghost use Rattle.demands.specs.Demand3.{Demand3};
 ghost use Rattle.demands.specs.Searches.{SearchClaims};
+ghost use Rattle.demands.specs.Evaluations.{other-to-move, EvaluationClaims};
 use answer_text::AnswerText;
 use boards::Built;
 use boards::Listed;
@@ -16,6 +17,7 @@ use boards::MoveIterator;
 use boards::PLACES;
 use endgame::Analysis;
 use endgame::MoveStatus;
+use evaluation::Evaluation;
 use game::CellAnswer;
 use game::Game;
 use game::MoveResult;
@@ -26,9 +28,11 @@ use minimax::Minimax;
 use minimax::Report;
 use notation::Parsed;
 use notation::ParsedMove;
+use rules::DrawWinner;
 use rules::GameState;
 use rules::NextBoard;
 use rules::Player;
+use rules::Weights;
 use status::Status;
 
 // What each entry point that may refuse answers.
@@ -39,6 +43,7 @@ pub struct EntryAnswers {
     pub cell: CellAnswer,
     pub board_state: StateAnswer,
     pub built: Built,
+    pub evaluation: Evaluation,
     pub analysis: Analysis,
     pub move_status: MoveStatus,
     pub report: Report,
@@ -62,7 +67,7 @@ pub struct GameAnswers {
     pub legal_moves: usize,
     pub played: MoveResult,
     pub key: u64,
-    pub value: i64,
+    pub evaluation: Evaluation,
     pub analysis: Analysis,
     pub status: Status,
     pub move_status: MoveStatus,
@@ -73,6 +78,12 @@ pub struct GameAnswers {
     pub equivalent_second: bool,
 }
 
+// The evaluation of a game as it is, and with the other side to move.
+pub struct SidesEvaluations {
+    pub own: Evaluation,
+    pub others: Evaluation,
+}
+
 // What is said after a list of tried moves: the game, the endgame analysis and the search with the table off.
 pub struct AfterMoves {
     pub game: Game,
@@ -81,7 +92,7 @@ pub struct AfterMoves {
 }
 
 // Every entry point, asked: a text is read as a position and as a move, a move is tried, a cell and a board are looked at, a move is built,
-// the endgame analysis and a move's status are asked, the game is searched, and a line of the program is answered.
+// the game is evaluated, the endgame analysis and a move's status are asked, the game is searched, and a line of the program is answered.
 pub fn entry_answers(
     text: &[u8],
     line: &[u8],
@@ -96,6 +107,8 @@ pub fn entry_answers(
     ensures { λ r. ⌜ Demand1 (now (text .entry)) (now (line .entry)) game m board cell memory config
         (now (words .entry)) (now (words .exit)) r ⌝ }
 {
+    let draw_winner = config.draw_winner;
+    let weights = config.weights;
     let buffer = LineBuffer::new().push_all(line);
     EntryAnswers {
         read: notation::parse(text),
@@ -104,6 +117,7 @@ pub fn entry_answers(
         cell: game.at(board, cell),
         board_state: game.board_state(board),
         built: Move::from_coords(board, cell),
+        evaluation: evaluation::evaluate(game, draw_winner, weights),
         analysis: Analysis::new(game),
         move_status: endgame::evaluate_move(game, m),
         report: memory.analyze(game, config, words),
@@ -146,6 +160,7 @@ pub fn answers_after(
         (now (words .entry)) (now (words .exit)) r ⌝ }
 {
     let draw_winner = config.draw_winner;
+    let weights = config.weights;
     let read = notation::parse(text);
     let begun = read.game;
     let game = begun.play_all(moves);
@@ -167,7 +182,7 @@ pub fn answers_after(
         legal_moves: game.legal_moves(),
         played: game.make_move(m),
         key: game.zobrist(),
-        value: evaluation::evaluate(game, draw_winner),
+        evaluation: evaluation::evaluate(game, draw_winner, weights),
         analysis,
         status: analysis.status(),
         move_status: endgame::evaluate_move(game, m),
@@ -193,6 +208,34 @@ pub fn search(memory: Minimax, game: Game, config: Config, words: &mut [u64]) ->
     ensures { λ r. ⌜ SearchClaims memory game config (now (words .entry)) r (now (words .exit)) ⌝ }
 {
     memory.analyze(game, config, words)
+}
+
+fn other_to_move(game: Game) -> Game
+    ensures { λ r. ⌜ r ≡ other-to-move game ⌝ }
+{
+    let who = game.next_player;
+    let next_board = game.next_board;
+    let local_boards = game.local_boards;
+    let global_states = game.global_states;
+    let game_state = game.game_state;
+    Game {
+        next_player: who.other(),
+        next_board,
+        local_boards,
+        global_states,
+        game_state,
+        hash: game.hash,
+    }
+}
+
+// The evaluation alone; its promise is every claim made of it.
+pub fn evaluate_sides(game: Game, draw_winner: DrawWinner, weights: Weights) -> SidesEvaluations
+    ensures { λ r. ⌜ EvaluationClaims game «draw_winner» weights r ⌝ }
+{
+    SidesEvaluations {
+        own: evaluation::evaluate(game, draw_winner, weights),
+        others: evaluation::evaluate(other_to_move(game), draw_winner, weights),
+    }
 }
 
 // A list of moves played from the empty board, and the endgame analysis and the search, without a table, of the game reached.

@@ -1,4 +1,4 @@
--- The value of a finished game, and of one in play, for the side to move.
+-- The value of a finished game, and of one in play, for the side to move; and the evaluation alone.
 use mathlib.Core.Path.{_≡_, refl, sym, ap}
 use mathlib.Core.Bool.{not}
 use mathlib.Core.List.{List}
@@ -14,7 +14,7 @@ use Rattle.rules.specs.declared.GameState.the-variants.{InPlay, Drawn, Won}
 use Rattle.rules.specs.declared.DrawWinner.{DrawWinner}
 use Rattle.rules.specs.Board.{side-number, in-play}
 use Rattle.rules.specs.Position.{Position}
-use Rattle.rules.specs.Evaluation.{Scoring, won, lost, seen-by, draw-value, state-value, evaluate}
+use Rattle.rules.specs.Evaluation.{won, lost, Scoring, seen-by, draw-value, state-value, evaluate}
 use Rattle.evaluation.specs.Values.{score-by, evaluate-by}
 
 -- by the numbers of the two sides

@@ -15,6 +15,7 @@ use Rattle.base.specs.Integers.{sum}
 use Rattle.base.proofs.Integers.{left-sum}
 use Rattle.base.proofs.ListsEvery.{upTo, upTo-at, sameB, sameB-eq}
 use Rattle.base.proofs.Bits.{bit-masked, bit-digits}
+use Rattle.rules.specs.declared.Weights.{Weights}
 use Rattle.rules.specs.Board.{Line, lines}
 use Rattle.rules.specs.Evaluation.{places-in, unless-both, worth, board-line}
 use Rattle.lines.specs.Masks.{line-at}
@@ -43,21 +44,21 @@ eight f =
     f (line-at 7) ∷ [])
 
 -- ---- what the mask finds
--- the code's answer for the places p that it found by the mask m
+-- how many places the code takes the line to have, by those, p, that it found by the mask m
 found : ℕ → ℕ → ℕ
 found m p =
-    if eqb p 0 then (λ _. 0) else λ _. if eqb (bitAnd p (p - 1)) 0 then (λ _. 1) else λ _. if eqb p m then (λ _. 0) else λ _. 3
+    if eqb p 0 then (λ _. 0) else λ _. if eqb (bitAnd p (p - 1)) 0 then (λ _. 1) else λ _. if eqb p m then (λ _. 3) else λ _. 2
 
 -- computed for each line and each board of nine digits
-worth-test : ℕ → ℕ → Bool
-worth-test i n = eqb (found (mask-at i) (bitAnd n (mask-at i))) (worth (places-in (bit n) (line-at i)))
+found-test : ℕ → ℕ → Bool
+found-test i n = eqb (found (mask-at i) (bitAnd n (mask-at i))) (places-in (bit n) (line-at i))
 
 none-test : ℕ → ℕ → Bool
 none-test i n = sameB (eqb (bitAnd n (mask-at i)) 0) (eqb (places-in (bit n) (line-at i)) 0)
 
-small-worth : (i n : ℕ) → i < 8 → n < 512 → found (mask-at i) (bitAnd n (mask-at i)) ≡ worth (places-in (bit n) (line-at i))
-unfolding worth-test found if_then_else_ places-in bit
-small-worth i n h k = eqb→eq _ _ (upTo-at (worth-test i) 512 (upTo-at (λ i. upTo (worth-test i) 512) 8 tt i h) n k)
+small-found : (i n : ℕ) → i < 8 → n < 512 → found (mask-at i) (bitAnd n (mask-at i)) ≡ places-in (bit n) (line-at i)
+unfolding found-test found if_then_else_ places-in bit
+small-found i n h k = eqb→eq _ _ (upTo-at (found-test i) 512 (upTo-at (λ i. upTo (found-test i) 512) 8 tt i h) n k)
 
 small-none : (i n : ℕ) → i < 8 → n < 512 → eqb (bitAnd n (mask-at i)) 0 ≡ eqb (places-in (bit n) (line-at i)) 0
 unfolding none-test places-in bit
@@ -76,9 +77,8 @@ module _ (i n : ℕ) (h : i < 8) where
   low-count : places-in (bit n) (line-at i) ≡ places-in (bit (n % 512)) (line-at i)
   low-count = count-same (bit n) (bit (n % 512)) (λ k l. rw (← and-mask n 9) (sym (bit-masked 9 n k l))) (line-at i) (low i h)
 
-  worth-found : (w : ℕ) → found (mask-at i) (bitAnd n (mask-at i)) ≡ w → w ≡ worth (places-in (bit n) (line-at i))
-  worth-found w e =
-      sym e ∙ ap (found (mask-at i)) low-mask ∙ small-worth i (n % 512) h (mod-lt n (lit< tt)) ∙ ap worth (sym low-count)
+  count-found : (k : ℕ) → found (mask-at i) (bitAnd n (mask-at i)) ≡ k → k ≡ places-in (bit n) (line-at i)
+  count-found k e = sym e ∙ ap (found (mask-at i)) low-mask ∙ small-found i (n % 512) h (mod-lt n (lit< tt)) ∙ sym low-count
 
   none-found : eqb (bitAnd n (mask-at i)) 0 ≡ eqb (places-in (bit n) (line-at i)) 0
   none-found =
@@ -88,22 +88,23 @@ module _ (i n : ℕ) (h : i < 8) where
   p = bitAnd n (mask-at i)
 
   -- what the code's tests say of them
-  pub worth-none : p ≡ 0 → 0 ≡ worth (places-in (bit n) (line-at i))
+  pub worth-none : (w : Weights) → p ≡ 0 → 0 ≡ worth w (places-in (bit n) (line-at i))
   unfolding found if_then_else_
-  worth-none e = worth-found 0 (rw (eq-eqb p 0 e))
+  worth-none w e = ap (worth w) (count-found 0 (rw (eq-eqb p 0 e)))
 
-  pub worth-one : (p ≡ 0 → ⊥) → bitAnd p (p - 1) ≡ 0 → 1 ≡ worth (places-in (bit n) (line-at i))
+  pub worth-one : (w : Weights) → (p ≡ 0 → ⊥) → bitAnd p (p - 1) ≡ 0 → w .one ≡ worth w (places-in (bit n) (line-at i))
   unfolding found if_then_else_
-  worth-one q e = worth-found 1 (rw (ne-eqb p 0 q, eq-eqb (bitAnd p (p - 1)) 0 e))
+  worth-one w q e = ap (worth w) (count-found 1 (rw (ne-eqb p 0 q, eq-eqb (bitAnd p (p - 1)) 0 e)))
 
-  pub worth-all : (p ≡ 0 → ⊥) → (bitAnd p (p - 1) ≡ 0 → ⊥) → p ≡ mask-at i → 0 ≡ worth (places-in (bit n) (line-at i))
+  pub worth-all : (w : Weights) → (p ≡ 0 → ⊥) → (bitAnd p (p - 1) ≡ 0 → ⊥) → p ≡ mask-at i →
+      0 ≡ worth w (places-in (bit n) (line-at i))
   unfolding found if_then_else_
-  worth-all q r e = worth-found 0 (rw (ne-eqb p 0 q, ne-eqb (bitAnd p (p - 1)) 0 r, eq-eqb p (mask-at i) e))
+  worth-all w q r e = ap (worth w) (count-found 3 (rw (ne-eqb p 0 q, ne-eqb (bitAnd p (p - 1)) 0 r, eq-eqb p (mask-at i) e)))
 
-  pub worth-two : (p ≡ 0 → ⊥) → (bitAnd p (p - 1) ≡ 0 → ⊥) → (p ≡ mask-at i → ⊥) →
-      3 ≡ worth (places-in (bit n) (line-at i))
+  pub worth-two : (w : Weights) → (p ≡ 0 → ⊥) → (bitAnd p (p - 1) ≡ 0 → ⊥) → (p ≡ mask-at i → ⊥) →
+      w .two ≡ worth w (places-in (bit n) (line-at i))
   unfolding found if_then_else_
-  worth-two q r e = worth-found 3 (rw (ne-eqb p 0 q, ne-eqb (bitAnd p (p - 1)) 0 r, ne-eqb p (mask-at i) e))
+  worth-two w q r e = ap (worth w) (count-found 2 (rw (ne-eqb p 0 q, ne-eqb (bitAnd p (p - 1)) 0 r, ne-eqb p (mask-at i) e)))
 
   pub none-there : p ≡ 0 → places-in (bit n) (line-at i) ≡ 0
   none-there e = eqb-true _ 0 (sym none-found ∙ eq-eqb p 0 e)
@@ -112,13 +113,14 @@ module _ (i n : ℕ) (h : i < 8) where
   some-there q = let r = eqb-false (places-in (bit n) (line-at i)) 0 (sym none-found ∙ ne-eqb p 0 q) in omega (arith, r)
 
 -- ---- a line of a board
-only-x : (x o : ℕ) → o ≡ 0 → pos (worth x) ≡ unless-both x o (pos (worth x) -ℤ pos (worth o))
-unfolding unless-both if_then_else_
-only-x x o e = rw (e, and-false (ltb 0 x)) (sym (+ℤ-idr (pos (worth x))))
+module _ (w : Weights) (x o : ℕ) where
+  only-x : o ≡ 0 → pos (worth w x) ≡ unless-both x o (pos (worth w x) -ℤ pos (worth w o))
+  unfolding unless-both if_then_else_
+  only-x e = rw (e, and-false (ltb 0 x)) (sym (+ℤ-idr (pos (worth w x))))
 
-only-o : (x o : ℕ) → x ≡ 0 → negℤ (pos (worth o)) ≡ unless-both x o (pos (worth x) -ℤ pos (worth o))
-unfolding unless-both if_then_else_
-only-o x o e = rw e (sym (+ℤ-idl (negℤ (pos (worth o)))))
+  only-o : x ≡ 0 → negℤ (pos (worth w o)) ≡ unless-both x o (pos (worth w x) -ℤ pos (worth w o))
+  unfolding unless-both if_then_else_
+  only-o e = rw e (sym (+ℤ-idl (negℤ (pos (worth w o)))))
 
 -- a line with both sides in it gives nothing
 pub both-sides : (x o : ℕ) (z : ℤ) → 0 < x → 0 < o → pos 0 ≡ unless-both x o z
@@ -134,17 +136,17 @@ pub no-o : (x o : ℕ) (z : ℤ) → o ≡ 0 → z ≡ unless-both x o z
 unfolding unless-both if_then_else_
 no-o x o z e = rw (e, and-false (ltb 0 x))
 
-module _ (i x o : ℕ) (h : i < 8) where
-  pub line-x : bitAnd o (mask-at i) ≡ 0 → pos (worth (places-in (bit x) (line-at i))) ≡ board-line (bit x) (bit o) (line-at i)
+module _ (w : Weights) (i x o : ℕ) (h : i < 8) where
+  pub line-x : bitAnd o (mask-at i) ≡ 0 → pos (worth w (places-in (bit x) (line-at i))) ≡ board-line w (bit x) (bit o) (line-at i)
   unfolding board-line
-  line-x e = only-x (places-in (bit x) (line-at i)) (places-in (bit o) (line-at i)) (none-there i o h e)
+  line-x e = only-x w (places-in (bit x) (line-at i)) (places-in (bit o) (line-at i)) (none-there i o h e)
 
-  pub line-o : bitAnd x (mask-at i) ≡ 0 → negℤ (pos (worth (places-in (bit o) (line-at i))))
-      ≡ board-line (bit x) (bit o) (line-at i)
+  pub line-o : bitAnd x (mask-at i) ≡ 0 → negℤ (pos (worth w (places-in (bit o) (line-at i))))
+      ≡ board-line w (bit x) (bit o) (line-at i)
   unfolding board-line
-  line-o e = only-o (places-in (bit x) (line-at i)) (places-in (bit o) (line-at i)) (none-there i x h e)
+  line-o e = only-o w (places-in (bit x) (line-at i)) (places-in (bit o) (line-at i)) (none-there i x h e)
 
   pub line-both : (bitAnd x (mask-at i) ≡ 0 → ⊥) → (bitAnd o (mask-at i) ≡ 0 → ⊥) →
-      pos 0 ≡ board-line (bit x) (bit o) (line-at i)
+      pos 0 ≡ board-line w (bit x) (bit o) (line-at i)
   unfolding board-line
   line-both q r = both-sides (places-in (bit x) (line-at i)) (places-in (bit o) (line-at i)) _ (some-there i x h q) (some-there i o h r)

@@ -4,10 +4,13 @@ use mathlib.Core.Bool.{Bool, true, false}
 use mathlib.Core.List.{List, [], _∷_, _++_}
 use Prim.Native.Nat.{ℕ, suc, _+_, _-_, _≤_, _<_}
 use native.Mathlib.Omega.{arith}
+use lib.Dec.{T}
 use lib.ListN.{length, drop, replicate}
 use Rattle.base.specs.Branch.{if_then_else_}
 use Rattle.base.proofs.Integers.{hi, lo, zarith}
 use Rattle.rules.specs.Play.{no-move}
+use Rattle.rules.specs.Evaluation.{accepted-weights}
+use Rattle.theory.specs.Limits.{console}
 use Rattle.theory.specs.PlainMinimax.{lowest, highest}
 use Rattle.theory.specs.Memory.{Memory, begin, fresh-memory}
 use Rattle.theory.specs.OrderedSearch.{at-most, Outcome, stopped, found, search}
@@ -32,9 +35,13 @@ use Rattle.minimax.proofs.StateOutcomes.{outcome-stopped, outcome-found
 use Rattle.minimax.proofs.ReportPlaces.{take-next, rest-next}
 use Rattle.minimax.proofs.ReportAnswers.{drop-bytes, bytes-empty}
 
--- what is left to search from the completed depths w on
+-- k depths more, after the completed ones, w
+abbrev deepened : Game → Config → ℕ → Completed → Memory → SearchAnswer
+deepened g c k w m = deepen (structs (scoring-of c)) (at-most (c .allowance)) k g w m
+
+-- what is left to search from there on
 abbrev left-from : Game → Config → Completed → Memory → SearchAnswer
-left-from g c w m = deepen (structs (scoring-of c)) (at-most (c .allowance)) (c .«max_depth» - w .depth) g w m
+left-from g c w m = deepened g c (c .«max_depth» - w .depth) w m
 
 pub record Going (g : Game) (c : Config) (words₀ : List ℕ) (whole₀ : CompletedDepths) (s₀ : SearchState) (words : List ℕ)
     (whole : CompletedDepths) (s : SearchState) : Type 0 where
@@ -44,181 +51,223 @@ pub record Going (g : Game) (c : Config) (words₀ : List ℕ) (whole₀ : Compl
   pub allowed : s .count ≤ c .allowance
   pub long : length words ≡ length words₀
 
-module _ (m : Minimax) (g : Game) (c : Config) (words : List ℕ) (whole : CompletedDepths) (s : SearchState)
-    (none : (completed-of whole ≡ nothing-yet) × Empty-on whole)
-    (begun : (ws : List ℕ) → memory-of s ws ≡ fresh-memory (responses-of (m .responses)) ws) where
-  pub going-first : Going g c words whole s words whole s
-  going-first =
-      let d : whole .depth ≡ 0 = ap (λ (w : Completed). w .depth) (none .0) in
-      let n : s .count ≡ 0 = ap (λ (x : Memory). x .count) (begun []) in
-      record { same = refl; empty = none .1; most = omega arith; allowed = omega arith; long = refl }
+-- ---- the loop at its beginning
+-- the values of the root's boards
+abbrev root-values : Game → Config → Values
+root-values g c = record { boards = values-of (c .weights) (position-of g); weights = c .weights }
 
-  pub going-all : left-from g c (completed-of whole) (memory-of s words) ≡ answer-of m g c words
-  unfolding analyze
-  going-all = let e : c .«max_depth» - 0 ≡ c .«max_depth» = omega arith in
-      ap₂ (λ (w : Completed) (x : Memory). left-from g c w x) (none .0) (begun words)
-      ∙ ap (λ (k : ℕ). deepen (structs (scoring-of c)) (at-most (c .allowance)) k g nothing-yet
-      (fresh-memory (responses-of (m .responses)) words)) e
+pub record Begun : Type 0 where
+  pub m : Minimax
+  pub g : Game
+  pub c : Config
+  pub words : List ℕ
+  pub limits : (c .«max_depth» ≤ console .deepest) × (c .allowance ≤ console .positions) × T (accepted-weights (c .weights))
+  pub values : Values
+  pub values-are : values ≡ root-values g c
+  pub whole : CompletedDepths
+  pub s : SearchState
+  pub none : (completed-of whole ≡ nothing-yet) × Empty-on whole
+  pub fresh : (ws : List ℕ) → memory-of s ws ≡ fresh-memory (responses-of (m .responses)) ws
 
-module _ (g : Game) (c : Config) (words₀ : List ℕ) (whole₀ : CompletedDepths) (s₀ : SearchState) (words : List ℕ)
-    (whole : CompletedDepths) (s : SearchState) (going : Going g c words₀ whole₀ s₀ words whole s) where
+module _ (b : Begun) where
+  abbrev Goes : List ℕ → CompletedDepths → SearchState → Type 0
+  Goes words whole s = Going (b .g) (b .c) (b .words) (b .whole) (b .s) words whole s
+
   abbrev all-of-it : SearchAnswer
-  all-of-it = left-from g c (completed-of whole₀) (memory-of s₀ words₀)
+  all-of-it = answer-of (b .m) (b .g) (b .c) (b .words)
+
+  pub going-first : Goes (b .words) (b .whole) (b .s)
+  going-first =
+      let d : b .whole .depth ≡ 0 = ap (λ (w : Completed). w .depth) (b .none .0) in
+      let n : b .s .count ≡ 0 = ap (λ (x : Memory). x .count) (b .fresh []) in
+      record { same = refl; empty = b .none .1; most = omega arith; allowed = omega arith; long = refl }
+
+  abbrev left-first : SearchAnswer
+  left-first = left-from (b .g) (b .c) (completed-of (b .whole)) (memory-of (b .s) (b .words))
+
+  going-all : left-first ≡ all-of-it
+  unfolding analyze
+  going-all = let e : b .c .«max_depth» - 0 ≡ b .c .«max_depth» = omega arith in
+      ap₂ (λ (w : Completed) (x : Memory). left-from (b .g) (b .c) w x) (b .none .0) (b .fresh (b .words))
+      ∙ ap (λ (k : ℕ). deepened (b .g) (b .c) k nothing-yet (fresh-memory (responses-of (b .m .responses)) (b .words))) e
 
   -- the limit is reached
-  pub going-done : c .«max_depth» ≤ whole .depth → record {
-    is-stopped = false;
-    completed = completed-of whole;
-    memory = memory-of s words;
-  } ≡ all-of-it
-  unfolding deepen
-  going-done h = let e : 0 ≡ c .«max_depth» - whole .depth = omega arith in
-      ap (λ (k : ℕ). deepen (structs (scoring-of c)) (at-most (c .allowance)) k g (completed-of whole) (memory-of s words)) e
-      ∙ going .same
-
-  -- one depth more
-  module _ (most : c .«max_depth» ≤ 81) (allowance : c .allowance ≤ 1000000000) (more : whole .depth < c .«max_depth»)
-      (values : Values) (valued : values .boards ≡ values-of (position-of g)) (ask : Node)
-      (ask-is : ask ≡ record {
-        game = g;
-        depth = whole .depth + 1;
-        alpha = lowest;
-        beta = highest;
-        prev = record { bits = no-move };
-        «draw_winner» = c .«draw_winner»;
-        allowance = c .allowance;
-        values = values;
-      })
-      (t : SearchState) (begun : (ws : List ℕ) → memory-of t ws ≡ begin (memory-of s ws)) where
-    pub root-asked : NodeFits ask
-    unfolding hi lo
-    root-asked =
-        subst NodeFits (sym ask-is)
-        (record {
-          valued = valued;
-          deep = omega arith;
-          alpha-within = record { low = omega zarith; high = omega zarith };
-          beta-within = record { low = omega zarith; high = omega zarith };
-          allowed = allowance;
-        })
-
-    pub root-counted : Counted ask t
-    unfolding begin
-    root-counted =
-        let n : t .count ≡ s .count = ap (λ (x : Memory). x .count) (begun []) in
-        let v : t .visited ≡ 0 = ap (λ (x : Memory). x .tally .visited) (begun []) in
-        let l : t .terminal ≡ 0 = ap (λ (x : Memory). x .tally .terminal) (begun []) in
-        let k : t .cuts ≡ 0 = ap (λ (x : Memory). x .tally .cuts) (begun []) in
-        let h : t .«tt_hit» ≡ 0 = ap (λ (x : Memory). x .tally .tt-hit) (begun []) in
-        let f : t .«tt_suffice» ≡ 0 = ap (λ (x : Memory). x .tally .tt-suffice) (begun []) in
-        let a : ask .allowance ≡ c .allowance = ap (λ (y : Node). y .allowance) ask-is in
-        record {
-          within = omega (arith, going .allowed);
-          visited-within = omega arith;
-          terminal-within = omega arith;
-          cuts-within = omega arith;
-          hits-within = omega arith;
-          suffice-within = omega arith;
-        }
-
-    abbrev searched-next : Outcome
-    searched-next =
-        search (structs (scoring-of c)) (at-most (c .allowance)) (suc (whole .depth)) g lowest highest
-        (pv-of (whole .pv) (whole .depth) ++ (no-move ∷ [])) no-move (begin (memory-of s words))
-
-    one : whole .depth + 1 ≡ suc (whole .depth)
-    one = omega arith
-
-    -- the variation is longer by an empty move
-    line-longer : pv-of (whole .pv) (suc (whole .depth)) ≡ pv-of (whole .pv) (whole .depth) ++ (no-move ∷ [])
-    line-longer = take-next (whole .depth) (bytes-of (whole .pv .moves)) (replicate (81 - (whole .depth + 1)) no-move) no-move
-        (drop-bytes (whole .depth) (whole .pv .moves) ∙ ap bytes-of (going .empty .line-empty) ∙ bytes-empty (81 - whole .depth)
-        ∙ rest-next (whole .depth) no-move (omega arith))
-
-    module _ (r : NodeResult) (words' : List ℕ) (gives : NodeGives ask (whole .pv) r words' (node-outcome ask t (whole .pv) words))
-        (long : length words' ≡ length words) where
-      outcome-is : searched-next ≡ outcome-of ask r words'
-      unfolding node-outcome
-      outcome-is =
-          (λ i. search (structs (scoring-of c)) (at-most (c .allowance)) (suc (whole .depth)) g lowest highest (sym line-longer i) no-move
-          (sym (begun words) i))
-          ∙ ap (λ (d : ℕ). search (structs (scoring-of c)) (at-most (c .allowance)) d g lowest highest (pv-of (whole .pv) d) no-move
-          (memory-of t words)) (sym one)
-          ∙ sym (ap (λ (y : Node). node-outcome y t (whole .pv) words) ask-is) ∙ sym (gives .same)
-
-      abbrev next-depth : ℕ → Outcome → SearchAnswer
-      next-depth k o = on-outcome o
-          (λ x. record { is-stopped = true; completed = completed-of whole; memory = x })
-          (λ z pv x. let w = one-deeper (completed-of whole) z pv (x .tally) in
-          if decided z then (λ _. record { is-stopped = false; completed = w; memory = x })
-          else λ _. deepen (structs (scoring-of c)) (at-most (c .allowance)) k g w x)
-
-      next-is : next-depth (c .«max_depth» - (whole .depth + 1)) (outcome-of ask r words') ≡ all-of-it
-      unfolding deepen
-      next-is =
-          let e : suc (c .«max_depth» - (whole .depth + 1)) ≡ c .«max_depth» - whole .depth = omega arith in
-          ap (next-depth (c .«max_depth» - (whole .depth + 1))) (sym outcome-is)
-          ∙ ap (λ (k : ℕ). deepen (structs (scoring-of c)) (at-most (c .allowance)) k g (completed-of whole) (memory-of s words)) e
-          ∙ going .same
-
-      -- the allowance is spent
-      pub going-stopped : r .stopped ≡ true → record {
-        is-stopped = true;
+  pub going-done : {words : List ℕ} {whole : CompletedDepths} {s : SearchState} → Goes words whole s →
+      b .c .«max_depth» ≤ whole .depth → record {
+        is-stopped = false;
         completed = completed-of whole;
-        memory = memory-of (r .state) words';
+        memory = memory-of s words;
       } ≡ all-of-it
-      unfolding on-outcome
-      going-stopped e = sym (ap (next-depth (c .«max_depth» - (whole .depth + 1))) (outcome-stopped ask r words' e)) ∙ next-is
+  unfolding deepen
+  going-done {words} {whole} {s} going h = let e : 0 ≡ b .c .«max_depth» - whole .depth = omega arith in
+      ap (λ (k : ℕ). deepened (b .g) (b .c) k (completed-of whole) (memory-of s words)) e ∙ going .same ∙ going-all
 
-      module _ (e : r .stopped ≡ false) where
-        pub line-kept : drop (whole .depth + 1) (r .pv .moves) ≡ drop (whole .depth + 1) (whole .pv .moves)
-        line-kept =
-            subst (λ (d : ℕ). drop d (r .pv .moves) ≡ drop d (whole .pv .moves)) (ap (λ (y : Node). y .depth) ask-is)
-            (gives .places e)
+-- ---- one depth more
+-- its root's node
+abbrev root-node : Game → Config → CompletedDepths → Values → Node
+root-node g c whole values = record {
+  game = g;
+  depth = whole .depth + 1;
+  alpha = lowest;
+  beta = highest;
+  prev = record { bits = no-move };
+  «draw_winner» = c .«draw_winner»;
+  allowance = c .allowance;
+  values = values;
+}
 
-        found-is : outcome-of ask r words' ≡ found (r .score) (pv-of (r .pv) (whole .depth + 1)) (memory-of (r .state) words')
-        found-is =
-            outcome-found ask r words' e ∙ ap (λ (d : ℕ). found (r .score) (pv-of (r .pv) d) (memory-of (r .state) words'))
-            (ap (λ (y : Node). y .depth) ask-is)
+-- where the loop stands, and what it asks of the search
+pub record Turn : Type 0 where
+  pub begun : Begun
+  pub words : List ℕ
+  pub whole : CompletedDepths
+  pub s : SearchState
+  pub going : Goes begun words whole s
+  pub more : whole .depth < begun .c .«max_depth»
+  pub root : Node
+  pub root-is : root ≡ root-node (begun .g) (begun .c) whole (begun .values)
+  pub t : SearchState
+  pub begins : (ws : List ℕ) → memory-of t ws ≡ begin (memory-of s ws)
 
-        allowed-on : r .state .count ≤ c .allowance
-        unfolding Ends begin
-        allowed-on = subst (Ends (λ x. x .count ≤ c .allowance)) (outcome-is ∙ found-is)
-            (search-allowed (structs (scoring-of c)) (c .allowance) (suc (whole .depth)) g lowest highest
-            (pv-of (whole .pv) (whole .depth) ++ (no-move ∷ [])) no-move (begin (memory-of s words)) (going .allowed))
+module _ (x : Turn) where
+  abbrev g : Game
+  g = x .begun .g
 
-        module _ (whole' : CompletedDepths)
-            (deeper : (completed-of whole' ≡ one-deeper (completed-of whole) (r .score) (pv-of (r .pv) (whole .depth + 1))
-            (tally-of (r .state))) × Empty-on whole' × (whole' .pv ≡ r .pv)) (x : Bool) (xe : x ≡ decided (whole' .score)) where
-          decided-is : (b : Bool) → x ≡ b → decided (r .score) ≡ b
-          decided-is b q = ap decided (sym (ap (λ (w : Completed). w .score) (deeper .0))) ∙ sym xe ∙ q
+  abbrev c : Config
+  c = x .begun .c
 
-          -- the score ends the search
-          pub going-decided : x ≡ true → record {
-            is-stopped = false;
-            completed = completed-of whole';
-            memory = memory-of (r .state) words';
-          } ≡ all-of-it
-          unfolding on-outcome if_then_else_
-          going-decided q =
-              ap (λ (w : Completed). record { is-stopped = false; completed = w; memory = memory-of (r .state) words' }) (deeper .0)
-              ∙ sym (ap (next-depth (c .«max_depth» - (whole .depth + 1))) found-is ∙ rw (decided-is true q)) ∙ next-is
+  abbrev whole : CompletedDepths
+  whole = x .whole
 
-          -- it does not
-          pub going-on : x ≡ false → Going g c words₀ whole₀ s₀ words' whole' (r .state)
-          unfolding on-outcome if_then_else_
-          going-on q =
-              let d : whole' .depth ≡ suc (whole .depth) = ap (λ (w : Completed). w .depth) (deeper .0) in
-              let k : c .«max_depth» - whole' .depth ≡ c .«max_depth» - (whole .depth + 1) = omega arith in
-              record {
-                same =
-                    ap (λ (n : ℕ). deepen (structs (scoring-of c)) (at-most (c .allowance)) n g (completed-of whole')
-                    (memory-of (r .state) words')) k
-                    ∙ ap (λ (w : Completed). deepen (structs (scoring-of c)) (at-most (c .allowance))
-                    (c .«max_depth» - (whole .depth + 1)) g w (memory-of (r .state) words')) (deeper .0)
-                    ∙ sym (ap (next-depth (c .«max_depth» - (whole .depth + 1))) found-is ∙ rw (decided-is false q)) ∙ next-is;
-                empty = deeper .1;
-                most = omega arith;
-                allowed = allowed-on;
-                long = long ∙ going .long;
-              }
+  root-valued : x .root ≡ root-node g c whole (root-values g c)
+  root-valued = x .root-is ∙ ap (root-node g c whole) (x .begun .values-are)
+
+  pub root-asked : NodeFits (x .root)
+  unfolding hi lo
+  root-asked = subst NodeFits (sym root-valued) (record {
+    valued = refl;
+    weighted = x .begun .limits .2;
+    deep = omega (arith, x .begun .limits .0, x .more);
+    alpha-within = record { low = omega zarith; high = omega zarith };
+    beta-within = record { low = omega zarith; high = omega zarith };
+    allowed = x .begun .limits .1;
+  })
+
+  pub root-counted : Counted (x .root) (x .t)
+  unfolding begin
+  root-counted =
+      let n : x .t .count ≡ x .s .count = ap (λ (y : Memory). y .count) (x .begins []) in
+      let v : x .t .visited ≡ 0 = ap (λ (y : Memory). y .tally .visited) (x .begins []) in
+      let l : x .t .terminal ≡ 0 = ap (λ (y : Memory). y .tally .terminal) (x .begins []) in
+      let k : x .t .cuts ≡ 0 = ap (λ (y : Memory). y .tally .cuts) (x .begins []) in
+      let h : x .t .«tt_hit» ≡ 0 = ap (λ (y : Memory). y .tally .tt-hit) (x .begins []) in
+      let f : x .t .«tt_suffice» ≡ 0 = ap (λ (y : Memory). y .tally .tt-suffice) (x .begins []) in
+      let a : x .root .allowance ≡ c .allowance = ap (λ (y : Node). y .allowance) root-valued in
+      record {
+        within = omega (arith, x .going .allowed);
+        visited-within = omega arith;
+        terminal-within = omega arith;
+        cuts-within = omega arith;
+        hits-within = omega arith;
+        suffice-within = omega arith;
+      }
+
+  -- the search of the root, to a depth and along a variation
+  abbrev searched : ℕ → List ℕ → Memory → Outcome
+  searched d pv m = search (structs (scoring-of c)) (at-most (c .allowance)) d g lowest highest pv no-move m
+
+  abbrev searched-next : Outcome
+  searched-next = searched (suc (whole .depth)) (pv-of (whole .pv) (whole .depth) ++ (no-move ∷ [])) (begin (memory-of (x .s) (x .words)))
+
+  one : whole .depth + 1 ≡ suc (whole .depth)
+  one = omega arith
+
+  -- the variation is longer by an empty move
+  line-longer : pv-of (whole .pv) (suc (whole .depth)) ≡ pv-of (whole .pv) (whole .depth) ++ (no-move ∷ [])
+  line-longer = take-next (whole .depth) (bytes-of (whole .pv .moves)) (replicate (81 - (whole .depth + 1)) no-move) no-move
+      (drop-bytes (whole .depth) (whole .pv .moves) ∙ ap bytes-of (x .going .empty .line-empty) ∙ bytes-empty (81 - whole .depth)
+      ∙ rest-next (whole .depth) no-move (omega (arith, x .begun .limits .0, x .more)))
+
+  abbrev rest : ℕ
+  rest = c .«max_depth» - (whole .depth + 1)
+
+  abbrev next-depth : Outcome → SearchAnswer
+  next-depth o = on-outcome o
+      (λ y. record { is-stopped = true; completed = completed-of whole; memory = y })
+      (λ z pv y. let w = one-deeper (completed-of whole) z pv (y .tally) in
+      if decided z then (λ _. record { is-stopped = false; completed = w; memory = y }) else λ _. deepened g c rest w y)
+
+  module _ {r : NodeResult} {words : List ℕ}
+      (gives : NodeGives (x .root) (whole .pv) r words (node-outcome (x .root) (x .t) (whole .pv) (x .words)))
+      (long : length words ≡ length (x .words)) where
+    outcome-is : searched-next ≡ outcome-of (x .root) r words
+    unfolding node-outcome
+    outcome-is =
+        (λ i. searched (suc (whole .depth)) (sym line-longer i) (sym (x .begins (x .words)) i))
+        ∙ ap (λ (d : ℕ). searched d (pv-of (whole .pv) d) (memory-of (x .t) (x .words))) (sym one)
+        ∙ sym (ap (λ (y : Node). node-outcome y (x .t) (whole .pv) (x .words)) root-valued) ∙ sym (gives .same)
+
+    next-is : next-depth (outcome-of (x .root) r words) ≡ left-first (x .begun)
+    unfolding deepen
+    next-is =
+        let e : suc rest ≡ c .«max_depth» - whole .depth = omega (arith, x .more) in
+        ap next-depth (sym outcome-is) ∙ ap (λ (k : ℕ). deepened g c k (completed-of whole) (memory-of (x .s) (x .words))) e
+        ∙ x .going .same
+
+    -- the allowance is spent
+    pub going-stopped : r .stopped ≡ true → record {
+      is-stopped = true;
+      completed = completed-of whole;
+      memory = memory-of (r .state) words;
+    } ≡ all-of-it (x .begun)
+    unfolding on-outcome
+    going-stopped e = sym (ap next-depth (outcome-stopped (x .root) r words e)) ∙ next-is ∙ going-all (x .begun)
+
+    module _ (e : r .stopped ≡ false) where
+      depth-is : x .root .depth ≡ whole .depth + 1
+      depth-is = ap (λ (y : Node). y .depth) root-valued
+
+      pub line-kept : drop (whole .depth + 1) (r .pv .moves) ≡ drop (whole .depth + 1) (whole .pv .moves)
+      line-kept = subst (λ (d : ℕ). drop d (r .pv .moves) ≡ drop d (whole .pv .moves)) depth-is (gives .places e)
+
+      found-is : outcome-of (x .root) r words ≡ found (r .score) (pv-of (r .pv) (whole .depth + 1)) (memory-of (r .state) words)
+      found-is =
+          outcome-found (x .root) r words e ∙ ap (λ (d : ℕ). found (r .score) (pv-of (r .pv) d) (memory-of (r .state) words)) depth-is
+
+      allowed-on : r .state .count ≤ c .allowance
+      unfolding Ends begin
+      allowed-on =
+          subst (Ends (λ y. y .count ≤ c .allowance)) (outcome-is ∙ found-is) (search-allowed _ _ _ _ _ _ _ _ _ (x .going .allowed))
+
+      module _ {whole' : CompletedDepths}
+          (deeper : (completed-of whole' ≡ one-deeper (completed-of whole) (r .score) (pv-of (r .pv) (whole .depth + 1))
+          (tally-of (r .state))) × Empty-on whole' × (whole' .pv ≡ r .pv)) {b : Bool} (b-is : b ≡ decided (whole' .score)) where
+        decided-is : {a : Bool} → b ≡ a → decided (r .score) ≡ a
+        decided-is q = ap decided (sym (ap (λ (w : Completed). w .score) (deeper .0))) ∙ sym b-is ∙ q
+
+        -- the score ends the search
+        pub going-decided : b ≡ true → record {
+          is-stopped = false;
+          completed = completed-of whole';
+          memory = memory-of (r .state) words;
+        } ≡ all-of-it (x .begun)
+        unfolding on-outcome if_then_else_
+        going-decided q =
+            ap (λ (w : Completed). record { is-stopped = false; completed = w; memory = memory-of (r .state) words }) (deeper .0)
+            ∙ sym (ap next-depth found-is ∙ rw (decided-is q)) ∙ next-is ∙ going-all (x .begun)
+
+        -- it does not
+        pub going-on : b ≡ false → Goes (x .begun) words whole' (r .state)
+        unfolding on-outcome if_then_else_
+        going-on q =
+            let d : whole' .depth ≡ suc (whole .depth) = ap (λ (w : Completed). w .depth) (deeper .0) in
+            let k : c .«max_depth» - whole' .depth ≡ rest = omega arith in
+            record {
+              same =
+                  (λ i. deepened g c (k i) (deeper .0 i) (memory-of (r .state) words))
+                  ∙ sym (ap next-depth found-is ∙ rw (decided-is q)) ∙ next-is;
+              empty = deeper .1;
+              most = omega (arith, x .more);
+              allowed = allowed-on;
+              long = long ∙ x .going .long;
+            }

@@ -14,7 +14,7 @@ use Rattle.base.proofs.Integers.{hi, lo, zarith}
 use mathlib.Core.Logic.{inl, inr}
 use Rattle.rules.specs.Position.{unfinished}
 use Rattle.rules.specs.Play.{board-of, accepts, no-move}
-use Rattle.rules.specs.Evaluation.{Scoring, evaluate}
+use Rattle.rules.specs.Evaluation.{accepted-weights, Scoring, evaluate}
 use Rattle.rules.proofs.Evaluation.{value-inside, finished-within}
 use Rattle.rules.specs.Position.{Position}
 use Rattle.theory.specs.PlainMinimax.{lowest, highest}
@@ -64,10 +64,11 @@ module _ {g : Game} {w : MoveOrder} {child : NextMove} (n : NextOf g w child) wh
       go (m ∷ ms) q h = (q ∙ ap₂ _∷_ (sym (h .0)) (sym (h .2)), h .1 ∙ ap (game-after g) (sym (h .0)))
 
 -- ---- every value is within the root's window
-pub value-within : (sc : Scoring) (p : Position) → (lowest ≤ℤ evaluate sc p) × (evaluate sc p ≤ℤ highest)
+pub value-within : (sc : Scoring) → T (accepted-weights (sc .weights)) → (p : Position) →
+    (lowest ≤ℤ evaluate sc p) × (evaluate sc p ≤ℤ highest)
 unfolding hi lo
-value-within sc p = elim (is (unfinished p)) [
-  | inl t ↦ let h = value-inside sc p t in (omega (zarith, h .0), omega (zarith, h .1))
+value-within sc a p = elim (is (unfinished p)) [
+  | inl t ↦ let h = value-inside sc a p t in (omega (zarith, h .0), omega (zarith, h .1))
   | inr t ↦ let h = finished-within sc p t in (omega (zarith, h .0), omega (zarith, h .1))
 ]
 
@@ -205,8 +206,9 @@ module _ {h : Held} (m : Met h) where
   pub under-asked : NodeFits (m .under)
   under-asked = subst NodeFits (sym (m .under-is)) (record {
     valued =
-        carried (a h .game) (m .child .game) (m .child .m .bits) (board-of (m .child .m .bits)) (a h .values .boards) (h .begun .three)
-        (h .begun .asked .valued) (order-goes (m .next) (m .is-some) .1) refl;
+        carried (a h .values .weights) (a h .game) (m .child .game) (m .child .m .bits) (board-of (m .child .m .bits))
+        (a h .values .boards) (h .begun .three) (h .begun .asked .valued) (order-goes (m .next) (m .is-some) .1) refl;
+    weighted = h .begun .asked .weighted;
     deep = omega (arith, h .begun .asked .deep);
     alpha-within = neg-within (a h .beta) (h .begun .asked .beta-within);
     beta-within = neg-within (at h .best .score) (h .turn .score);
@@ -323,8 +325,8 @@ module _ {h : Held} {m : Met h} (x : Brought m false) where
       let low = neg-within (a h .beta) (h .begun .asked .beta-within) in
       let high = neg-within (at h .best .score) (h .turn .score) in
       let w = subst (Finds (λ z _ _. (lowest ≤ℤ z) × (z ≤ℤ highest))) found-is
-      (search-range (node-game (a h)) (λ g. value-within (node-scoring (a h)) (position-of g)) _ _ _ _ _ _ _ _ (low .low) (low .high)
-      (high .low) (high .high)) in
+      (search-range (node-game (a h)) (λ g. value-within (node-scoring (a h)) (h .begun .asked .weighted) (position-of g)) _ _ _ _ _ _ _ _
+      (low .low) (low .high) (high .low) (high .high)) in
       record { low = w .0; high = w .1 }
 
   -- what raising the lower edge asks

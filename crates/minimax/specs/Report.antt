@@ -16,7 +16,7 @@ use Rattle.minimax.specs.declared.Stats.{Stats}
 use Rattle.minimax.specs.declared.Config.{Config}
 use Rattle.minimax.specs.declared.Minimax.{Minimax}
 use Rattle.minimax.specs.declared.SearchError.{SearchError}
-use Rattle.minimax.specs.declared.SearchError.the-variants.{Depth, Allowance, Words, Spent}
+use Rattle.minimax.specs.declared.SearchError.the-variants.{Depth, Allowance, Words, Weights, Spent}
 use Rattle.minimax.specs.declared.Ending.{Ending}
 use Rattle.minimax.specs.declared.Ending.the-variants.{Whole as EndsWhole, Stopped, Refused}
 use Rattle.minimax.specs.declared.Report.{Report}
@@ -32,11 +32,12 @@ bytes-of ms = map byte-of ms
 abbrev pub responses-of : ResponseTables → Responses
 responses-of t = record { to-x = bytes-of (t .x); to-o = bytes-of (t .o) }
 
--- ---- document 01's numbers
+-- ---- the refusals' numbers
 abbrev pub search-error-number : SearchError → ℕ
 search-error-number Depth = 15
 search-error-number Allowance = 16
 search-error-number Words = 17
+search-error-number Weights = 20
 search-error-number Spent = 18
 
 abbrev pub ending-number : Ending → ℕ
@@ -49,6 +50,7 @@ abbrev pub is-spent : SearchError → Bool
 is-spent Depth = false
 is-spent Allowance = false
 is-spent Words = false
+is-spent Weights = false
 is-spent Spent = true
 
 abbrev pub ending-stopped : Ending → Bool
@@ -65,10 +67,10 @@ stats-of s = record {
 }
 
 abbrev pub settings-of : Config → Settings
-settings-of c = record { max-depth = c .«max_depth»; allowance = c .allowance }
+settings-of c = record { max-depth = c .«max_depth»; allowance = c .allowance; weights = c .weights }
 
 abbrev pub scoring-of : Config → Scoring
-scoring-of c = scoring-with (c .«draw_winner»)
+scoring-of c = scoring-with (c .«draw_winner») (c .weights)
 
 abbrev pub report-of : Report → List ℕ → Reported
 report-of r words = record {

@@ -3,12 +3,13 @@ use mathlib.Core.Path.{_≡_}
 use mathlib.Core.Bool.{false}
 use mathlib.Core.List.{List}
 use Prim.Native.Nat.{ℕ, _-_, _≤_, _<_}
+use lib.Dec.{T}
 use lib.IntN.{ℤ}
 use lib.ListN.{take, drop, replicate, set}
 use lib.Signed.{_≤ℤ_}
 use Rattle.base.specs.Branch.{if_then_else_}
 use Rattle.rules.specs.Play.{board-of, no-move}
-use Rattle.rules.specs.Evaluation.{Scoring, scoring-with}
+use Rattle.rules.specs.Evaluation.{accepted-weights, Scoring, scoring-with}
 use Rattle.theory.specs.Limits.{console}
 use Rattle.theory.specs.Game.{Game as Searched}
 use Rattle.theory.specs.PlainMinimax.{lowest, highest}
@@ -53,7 +54,7 @@ empty-pv = record { moves = replicate (console .deepest) (record { bits = no-mov
 
 -- ---- nodes and their results
 abbrev pub node-scoring : Node → Scoring
-node-scoring a = scoring-with (a .«draw_winner»)
+node-scoring a = scoring-with (a .«draw_winner») (a .values .weights)
 
 abbrev pub node-game : Node → Searched
 node-game a = structs (node-scoring a)
@@ -65,8 +66,10 @@ outcome-of a r words =
 
 -- the values after a move: its own board's anew
 abbrev pub values-below : Node → NextMove → Values
-values-below a child = let b = board-of (child .m .bits) in
-    record { boards = set (a .values .boards) b (board-value (position-of (child .game)) b) }
+values-below a child =
+    let b = board-of (child .m .bits) in
+    let w = a .values .weights in
+    record { boards = set (a .values .boards) b (board-value w (position-of (child .game)) b); weights = w }
 
 -- the definition's outcome
 unfoldable pub node-outcome : Node → SearchState → Pv → List ℕ → Outcome
@@ -99,11 +102,12 @@ pub record Within (z : ℤ) : Type 0 where
 
 -- the values are those of the game's boards
 abbrev pub Valued : Node → Type 0
-Valued a = a .values .boards ≡ values-of (position-of (a .game))
+Valued a = a .values .boards ≡ values-of (a .values .weights) (position-of (a .game))
 
--- a depth of at most the deepest, a window within the root's, and an allowance that a count of 64 bits holds with room
+-- accepted weights, a depth of at most the deepest, a window within the root's, and an allowance that a count of 64 bits holds with room
 pub record NodeFits (a : Node) : Type 0 where
   pub valued : Valued a
+  pub weighted : T (accepted-weights (a .values .weights))
   pub deep : a .depth ≤ console .deepest
   pub alpha-within : Within (a .alpha)
   pub beta-within : Within (a .beta)

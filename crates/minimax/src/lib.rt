@@ -7,11 +7,11 @@ ghost use mathlib.Core.Path.{_≡_};
 ghost use mathlib.Core.Bool.{_&&_};
 ghost use mathlib.Core.List.{List};
 ghost use Prim.Native.Nat.{ℕ, _+_, _≤_, _<_};
-ghost use lib.Dec.{eqb};
+ghost use lib.Dec.{T, eqb};
 ghost use lib.ListN.{drop};
 ghost use Rattle.base.specs.Branch.{if_then_else_};
 ghost use Rattle.rules.specs.Play.{no-move};
-ghost use Rattle.rules.specs.Evaluation.{Scoring};
+ghost use Rattle.rules.specs.Evaluation.{accepted-weights, Scoring};
 ghost use Rattle.theory.specs.Limits.{console};
 ghost use Rattle.theory.specs.PlainMinimax.{lowest, highest};
 ghost use Rattle.theory.specs.Memory.{fresh-memory};
@@ -30,6 +30,7 @@ use evaluation::EVAL_WON;
 use evaluation::Values;
 use game::Game;
 use rules::DrawWinner;
+use rules::Weights;
 use search::Node;
 use search::NodeResult;
 use search::Pv;
@@ -55,6 +56,7 @@ pub struct Config {
     pub max_depth: u64,
     pub allowance: u64,
     pub draw_winner: DrawWinner,
+    pub weights: Weights,
 }
 
 // The responses to X's moves and to O's, by the move's byte.
@@ -72,6 +74,7 @@ pub enum SearchError {
     Depth,
     Allowance,
     Words,
+    Weights,
     Spent,
 }
 
@@ -83,6 +86,7 @@ impl SearchError {
             SearchError::Depth => 15,
             SearchError::Allowance => 16,
             SearchError::Words => 17,
+            SearchError::Weights => 20,
             SearchError::Spent => 18,
         }
     }
@@ -160,7 +164,7 @@ impl Stats {
 }
 
 impl Config {
-    // Refusals 15 to 17.
+    // Refusals 15 to 17, and 20.
     fn check(self, words: usize) -> EntryAnswer
         ensures { λ r. ⌜ entry-number r ≡ entry-refusal (settings-of self) words ⌝ }
     {
@@ -181,6 +185,10 @@ impl Config {
         }
         if words > MOST_WORDS {
             return EntryAnswer::Refused(SearchError::Words);
+        }
+        let weights = self.weights;
+        if !weights.are_accepted() {
+            return EntryAnswer::Refused(SearchError::Weights);
         }
         EntryAnswer::Allowed
     }
@@ -341,11 +349,13 @@ impl Minimax {
     }
 
     fn deepen(self, game: Game, config: Config, words: &mut [u64]) -> Report
-        requires { ⌜ (config .«max_depth» ≤ console .deepest) × (config .allowance ≤ console .positions) ⌝ }
+        requires { ⌜ (config .«max_depth» ≤ console .deepest) × (config .allowance ≤ console .positions)
+            × T (accepted-weights (config .weights)) ⌝ }
         ensures { λ r. ⌜ report-of r (now (words .exit))
             ≡ report (structs (scoring-of config)) game (answer-of self game config (now (words .entry))) ⌝ }
     {
-        let values = Values::new(game);
+        let weights = config.weights;
+        let values = Values::new(game, weights);
         let mut completed = CompletedDepths::none();
         let mut s = self.begin();
         while (completed.depth as u64) < config.max_depth {

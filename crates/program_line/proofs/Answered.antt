@@ -18,7 +18,7 @@ use Rattle.rules.specs.Moves.{moves}
 use Rattle.rules.specs.Hash.{hash}
 use Rattle.rules.specs.Status.{Status as Set}
 use Rattle.rules.specs.Endgame.{Analysis as Analysed, analysis}
-use Rattle.rules.specs.Evaluation.{no-draw-winner}
+use Rattle.rules.specs.Evaluation.{default-weights}
 use Rattle.rules.proofs.Endgame.{analysis-cases}
 use Rattle.theory.specs.Memory.{no-responses}
 use Rattle.theory.specs.Reported.{Reported, reported}
@@ -38,6 +38,7 @@ use Rattle.notation.specs.declared.Parsed.{Parsed}
 use Rattle.notation.specs.Parsed.{kind-number, reading-of, game-for, Parses}
 use Rattle.notation.proofs.ParsedGames.{read-gives-a-game}
 use Rattle.minimax.specs.declared.Minimax.{Minimax}
+use Rattle.minimax.specs.declared.Config.{Config}
 use Rattle.minimax.specs.declared.Report.{Report}
 use Rattle.minimax.specs.Report.{empty-responses, report-of, reported-of}
 use Rattle.minimax.specs.Structs.{structs}
@@ -48,20 +49,24 @@ use Rattle.line_buffer.specs.declared.Depth.the-variants.{Of, Lacking}
 use Rattle.answer_text.specs.declared.AnswerText.{AnswerText}
 use Rattle.line_buffer.specs.Buffer.{DepthIs, new-buffer, pushed-all, buffer-asks, Same-question}
 use Rattle.answer_text.specs.AnswerBytes.{text-of-bytes, written-bytes}
-use Rattle.program_line.specs.Answered.{settings, program-search, report-text, position-text, reading-text, asked-text, answer-line}
+use Rattle.program_line.specs.Answered.{settings, program-scoring, program-search, report-text, position-text, reading-text}
+use Rattle.program_line.specs.Answered.{asked-text, answer-line}
 use Rattle.line_buffer.proofs.Buffer.{held-asks-the-same}
 use Rattle.answer_text.proofs.AnswerBytes.{written-whole}
 use Rattle.program_line.proofs.AnsweredBounds.{moves-short, Small, searched-small}
 
 -- ---- the search, from fresh memory and with no words
+abbrev config : ℕ → Config
+config depth = record { «max_depth» = depth; allowance = 1000000; «draw_winner» = Nobody; weights = default-weights }
+
 pub search-searched : (r : Report) (m : Minimax) (g : Game) (depth : ℕ) (words : List ℕ) → T (neat g) →
     g .hash ≡ hash (position-of g) → m ≡ empty-responses → length words ≡ 0 →
-    report-of r words ≡ reported-of m g (record { «max_depth» = depth; allowance = 1000000; «draw_winner» = Nobody }) [] →
+    report-of r words ≡ reported-of m g (config depth) [] →
     report-of r [] ≡ program-search depth (position-of g)
 search-searched r m g depth [] n f e l h =
-    h ∙ ap (λ (m : Minimax). reported-of m g (record { «max_depth» = depth; allowance = 1000000; «draw_winner» = Nobody }) []) e
-    ∙ ap (λ (xs : List ℕ). reported (structs no-draw-winner) (settings depth) g (record { to-x = xs; to-o = xs }) []) (bytes-empty 256)
-    ∙ reported-rules no-draw-winner (settings depth) g n f no-responses []
+    h ∙ ap (λ (m : Minimax). reported-of m g (config depth) []) e
+    ∙ ap (λ (xs : List ℕ). reported (structs program-scoring) (settings depth) g (record { to-x = xs; to-o = xs }) []) (bytes-empty 256)
+    ∙ reported-rules program-scoring (settings depth) g n f no-responses []
 search-searched r m g depth (w ∷ ws) n f e l h = absurd (omega arith)
 
 -- ---- its report
@@ -141,7 +146,7 @@ same-text (asks t n) no-depth h = absurd h
 same-text (asks t n) (asks u m) h = rw (h .0, h .1)
 
 -- ---- 201 bytes are the most
-refusal-room : (n : ℕ) → n ≤ 19 → length (refusal-text n) ≤ 201
+refusal-room : (n : ℕ) → n ≤ 20 → length (refusal-text n) ≤ 201
 refusal-room n h = omega (arith, decimal-short 1 n (omega arith))
 
 report-room : (s : Set) (legal : ℕ) (r : Reported) → legal ≤ 81 → Small r → length (report-text s legal r) ≤ 201
@@ -158,7 +163,7 @@ position-room : (p : Position) (depth : ℕ) → length (position-text p depth) 
 unfolding position-text
 position-room p depth = if-ind (λ (t : List ℕ). length t ≤ 201) (eqb (analysis p .refusal) 0) _ _
     (λ _. report-room (analysis p .status) (length (moves p)) (program-search depth p) (moves-short p) (searched-small depth p))
-    (λ _. refusal-room (analysis p .refusal) (analysis-cases p (λ (a : Analysed). a .refusal ≤ 19) (λ _. omega arith)
+    (λ _. refusal-room (analysis p .refusal) (analysis-cases p (λ (a : Analysed). a .refusal ≤ 20) (λ _. omega arith)
     (λ _ _. omega arith) (λ _ _. omega arith)))
 
 reading-room : (text : List ℕ) (r : Reading) → read text ≡ r → (depth : ℕ) → length (reading-text r depth) ≤ 201

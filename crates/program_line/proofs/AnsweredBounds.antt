@@ -1,28 +1,32 @@
 -- What the program's search reports, depth after depth: no score leaves the root's window, and no count the allowance.
 use mathlib.Core.Path.{_≡_, sym}
 use mathlib.Core.List.{List, [], _∷_, _++_}
+use mathlib.Core.Logic.{inl, inr}
 use Prim.Native.Nat.{ℕ, zero, suc, _+_, _^_, _≤_}
 use native.Mathlib.Omega.{arith}
-use lib.Dec.{eqb→eq}
+use lib.Dec.{leb, eqb→eq, leb→le}
 use lib.IntN.{ℤ, natAbs}
 use lib.ListN.{length, length-append, length-replicate}
 use lib.Signed.{_≤ℤ_}
-use Rattle.base.specs.Lists.{concat-map}
-use Rattle.base.specs.Checks.{first-failed}
+use denote.Floats.{passes}
+use Rattle.base.specs.Lists.{all, concat-map}
+use Rattle.base.specs.Checks.{all-pass}
+use Rattle.base.proofs.Bool.{is}
+use Rattle.base.proofs.Checks.{all-pass-0, failed-number}
 use Rattle.base.proofs.Branch.{if-ind}
 use Rattle.base.proofs.Lists.{filter-short}
 use Rattle.base.proofs.Integers.{hi, lo, zarith, hi-le, lo-le, within-abs}
 use Rattle.rules.specs.Position.{Position}
 use Rattle.rules.specs.Play.{no-move, accepts}
 use Rattle.rules.specs.Moves.{places, moves}
-use Rattle.rules.specs.Evaluation.{no-draw-winner}
+use Rattle.rules.proofs.Evaluation.{defaults-accepted}
 use Rattle.theory.specs.Limits.{console}
 use Rattle.theory.specs.Game.{Game}
 use Rattle.theory.specs.PlainMinimax.{lowest, highest}
 use Rattle.theory.specs.Memory.{Responses, no-responses, Memory, begin, fresh-memory}
 use Rattle.theory.specs.OrderedSearch.{at-most, Outcome, stopped, found}
 use Rattle.theory.specs.Deepening.{Completed, nothing-yet, one-deeper, SearchAnswer, decided, on-outcome, deepen, analyze}
-use Rattle.theory.specs.Reported.{Settings, entry-refusal, Reported, report, refused-entry, reported}
+use Rattle.theory.specs.Reported.{Settings, entry-checks, entry-refusal, Reported, report, refused-entry, reported}
 use Rattle.theory.proofs.OrderedSearch.{Gives}
 use Rattle.theory.proofs.OrderedSearchRange.{search-range}
 use Rattle.theory.proofs.OrderedSearchGrowth.{Ends, search-allowed}
@@ -30,7 +34,7 @@ use Rattle.theory.proofs.OrderedSearchPlaces.{analyze-places, analyze-no-deeper
 use Rattle.rules_game.specs.RulesGame.{game}
 use Rattle.minimax.proofs.ReportRefusals.{limits}
 use Rattle.minimax.proofs.StateMoves.{value-within}
-use Rattle.program_line.specs.Answered.{settings, program-search}
+use Rattle.program_line.specs.Answered.{settings, program-scoring, program-search}
 
 -- ---- there are 81 moves at most
 pub moves-short : (p : Position) → length (moves p) ≤ 81
@@ -71,23 +75,23 @@ module _ (G : Game) (values : (p : G .Pos) → (lowest ≤ℤ G .value p) × (G 
 
 -- ---- what is reported
 pub record Small (r : Reported) : Type 0 where
-  pub number-small : r .number ≤ 18
+  pub number-small : r .number ≤ 20
   pub depth-small : r .depth ≤ console .deepest
   pub score-small : natAbs (r .score) ≤ 2 ^ 60 + 1
   pub count-small : r .count ≤ 1000000
   pub line-long : length (r .pv) ≡ console .deepest
 
-module _ (c : Settings) (words : ℕ) where
-  entry-small : entry-refusal c words ≤ 18
-  unfolding entry-refusal first-failed
-  entry-small = if-ind (λ (n : ℕ). n ≤ 18) _ _ _
-      (λ _. if-ind (λ (n : ℕ). n ≤ 18) _ _ _
-      (λ _. if-ind (λ (n : ℕ). n ≤ 18) _ _ _ (λ _. omega arith) (λ _. omega arith)) (λ _. omega arith)) (λ _. omega arith)
+entry-small : (c : Settings) (words : ℕ) → entry-refusal c words ≤ 20
+unfolding entry-refusal all
+entry-small c words = let checks = entry-checks console c words in elim (is (all-pass checks)) [
+  | inl t ↦ omega (arith, all-pass-0 checks t)
+  | inr t ↦ leb→le _ 20 (failed-number (λ n. leb n 20) checks tt t)
+]
 
 report-small : (G : Game) (p : G .Pos) (x : SearchAnswer) → Bounded 1000000 x → x .completed .depth ≤ console .deepest →
     length (x .completed .pv) ≡ x .completed .depth → Small (report G p x)
 report-small G p x b d e = record {
-  number-small = if-ind (λ (n : ℕ). n ≤ 18) _ _ _ (λ _. omega arith) (λ _. omega arith);
+  number-small = if-ind (λ (n : ℕ). n ≤ 20) _ _ _ (λ _. omega arith) (λ _. omega arith);
   depth-small = d;
   score-small =
       within-abs (2 ^ 60 + 1) (x .completed .score) (hi-le (x .completed .score) _ (b .high), lo-le (x .completed .score) _ (b .low));
@@ -95,7 +99,7 @@ report-small G p x b d e = record {
   line-long = simp (length-append, length-replicate) (omega arith);
 }
 
-refused-small : (n : ℕ) (rs : Responses) (words : List ℕ) → n ≤ 18 → Small (refused-entry n rs words)
+refused-small : (n : ℕ) (rs : Responses) (words : List ℕ) → n ≤ 20 → Small (refused-entry n rs words)
 refused-small n rs words h =
     record {
       number-small = h;
@@ -112,8 +116,9 @@ searched-small depth p =
     (λ t. let l = limits (settings depth) 0 (sym (eqb→eq _ 0 t)) in
     let s = fresh-memory no-responses [] in
     let limit = settings depth .max-depth in
-    report-small (game no-draw-winner) p (analyze (game no-draw-winner) (at-most 1000000) limit p s)
-    (analyze-bounded (game no-draw-winner) (value-within no-draw-winner) 1000000 p limit s (omega arith))
-    (omega (arith, analyze-no-deeper (game no-draw-winner) (at-most 1000000) limit p s))
-    (analyze-places (game no-draw-winner) (at-most 1000000) limit p s))
+    let sc = program-scoring in
+    report-small (game sc) p (analyze (game sc) (at-most 1000000) limit p s)
+    (analyze-bounded (game sc) (value-within sc (passes _ defaults-accepted)) 1000000 p limit s (omega arith))
+    (omega (arith, analyze-no-deeper (game sc) (at-most 1000000) limit p s))
+    (analyze-places (game sc) (at-most 1000000) limit p s))
     (λ _. refused-small _ no-responses [] (entry-small (settings depth) 0))

@@ -8,19 +8,22 @@ use Rattle.rules.specs.Position.{Position}
 use Rattle.rules.specs.Moves.{moves}
 use Rattle.rules.specs.Status.{Status}
 use Rattle.rules.specs.Endgame.{analysis}
-use Rattle.rules.specs.Evaluation.{no-draw-winner}
+use Rattle.rules.specs.Evaluation.{default-weights, Scoring, no-draw-winner}
 use Rattle.theory.specs.Memory.{no-responses}
 use Rattle.theory.specs.Reported.{Settings, Reported, reported}
 use Rattle.rules_game.specs.RulesGame.{game}
 use Rattle.text.specs.Reading.{Reading, reads, refuses, read}
 use Rattle.text.specs.ProgramLine.{Question, no-depth, asks, asked, answer-text, refusal-text}
 
--- ---- the program's search: no draw winner, no responses yet, the table off
+-- ---- the program's search: no draw winner, the default weights, no responses yet, the table off
 abbrev pub settings : ℕ → Settings
-settings depth = record { max-depth = depth; allowance = 1000000 }
+settings depth = record { max-depth = depth; allowance = 1000000; weights = default-weights }
+
+abbrev pub program-scoring : Scoring
+program-scoring = no-draw-winner default-weights
 
 abbrev pub program-search : ℕ → Position → Reported
-program-search depth p = reported (game no-draw-winner) (settings depth) p no-responses []
+program-search depth p = reported (game program-scoring) (settings depth) p no-responses []
 
 -- ---- the answer
 -- 15 or 18; else what is reported, with the status and the number of legal moves

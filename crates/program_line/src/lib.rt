@@ -26,6 +26,7 @@ use minimax::Report;
 use notation::ParseAnswer;
 use notation::Parsed;
 use rules::DrawWinner;
+use rules::Weights;
 use status::Status;
 
 pub const ALLOWANCE: u64 = 1000000;
@@ -40,6 +41,7 @@ fn search(game: Game, depth: u8) -> Report
         max_depth: depth as u64,
         allowance: ALLOWANCE,
         draw_winner: DrawWinner::Nobody,
+        weights: Weights::DEFAULT,
     };
     Minimax::new().analyze(game, config, &mut words)
 }

@@ -4,10 +4,12 @@ use mathlib.Core.Bool.{true, false}
 use mathlib.Core.List.{List}
 use Prim.Native.Nat.{ℕ}
 use lib.Dec.{eqb}
+use lib.IntN.{ℤ}
 use Rattle.base.specs.Branch.{if_then_else_}
 use Rattle.base.specs.Lists.{count}
 use Rattle.rules.specs.declared.DrawWinner.{DrawWinner}
-use Rattle.rules.specs.Evaluation.{scoring-with, evaluate}
+use Rattle.rules.specs.Evaluation.{default-weights, scoring-with, Evaluated, evaluated}
+use Rattle.rules.proofs.Evaluation.{evaluated-accepted, defaults-accepted}
 use Rattle.text.specs.Reading.{read, reads}
 use Rattle.game.specs.Meaning.{position-of}
 use Rattle.decimals.specs.Numbers.{read-signed}
@@ -32,9 +34,12 @@ module _ (position draw score : List ℕ) (r : Parsed) (parses : Parses position
   pub no-draw-differs : r .answer ≡ Accepted → draw-of draw ≡ Bad → false ≡ agrees position draw score
   no-draw-differs q d = rw (read-as q, d)
 
-  pub scored : {w : DrawWinner} → r .answer ≡ Accepted → draw-of draw ≡ To w →
-      is-score (read-signed score) (evaluate (scoring-with w) (position-of (r .game))) ≡ agrees position draw score
-  scored q d = rw (read-as q, d)
+  pub scored : {w : DrawWinner} {v : ℤ} → r .answer ≡ Accepted → draw-of draw ≡ To w →
+      v ≡ evaluated (scoring-with w default-weights) (position-of (r .game)) .value →
+      is-score (read-signed score) v ≡ agrees position draw score
+  scored {w} q d e =
+      rw (read-as q, d) (ap (is-score (read-signed score))
+      (e ∙ ap (λ (x : Evaluated). x .value) (evaluated-accepted (scoring-with w default-weights) _ defaults-accepted)))
 
 module _ (line : List ℕ) where
   pub fields-said : {a b d : List ℕ} → a ≡ field 0 line → b ≡ field 1 line → d ≡ field 2 line →

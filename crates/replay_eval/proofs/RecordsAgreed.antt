@@ -9,7 +9,7 @@ use Rattle.base.proofs.Bool.{and→}
 use Rattle.base.proofs.Branch.{if-ind}
 use Rattle.rules.specs.declared.DrawWinner.{DrawWinner}
 use Rattle.rules.specs.Position.{Position}
-use Rattle.rules.specs.Evaluation.{scoring-with, evaluate}
+use Rattle.rules.specs.Evaluation.{default-weights, scoring-with, evaluate}
 use Rattle.text.specs.Reading.{Reading, reads, refuses, read}
 use Rattle.decimals.specs.declared.number.Signed.{Signed}
 use Rattle.decimals.specs.declared.number.Signed.the-variants.{Is, Bad}
@@ -35,16 +35,16 @@ score-said (Is z) score t = ap Is (same-integer-equal z score t)
 score-said Bad score t = absurd t
 
 evaluation-said : (r : Reading) (d : Draw) (said : Signed) → T (is-evaluation r d said) →
-    (p : Position) × (w : DrawWinner) × (r ≡ reads p) × (d ≡ To w) × (said ≡ Is (evaluate (scoring-with w) p))
+    (p : Position) × (w : DrawWinner) × (r ≡ reads p) × (d ≡ To w) × (said ≡ Is (evaluate (scoring-with w default-weights) p))
 evaluation-said (refuses n offset size) d said t = absurd t
 evaluation-said (reads p) Bad-draw said t = absurd t
-evaluation-said (reads p) (To w) said t = (p, w, refl, refl, score-said said (evaluate (scoring-with w) p) t)
+evaluation-said (reads p) (To w) said t = (p, w, refl, refl, score-said said (evaluate (scoring-with w default-weights) p) t)
 
 module _ (line : List ℕ) where
   -- a line that does not differ has three fields: a position that is read, a draw winner, and the position's evaluation with it
   pub agreed-means : (outcome-of line ≡ Differs → ⊥) →
       (p : Position) × (w : DrawWinner) × (tabs line ≡ 2) × (read (field 0 line) ≡ reads p) × (draw-of (field 1 line) ≡ To w)
-      × (read-signed (field 2 line) ≡ Is (evaluate (scoring-with w) p))
+      × (read-signed (field 2 line) ≡ Is (evaluate (scoring-with w default-weights) p))
   unfolding outcome-of
   agreed-means h =
       let same = agrees (field 0 line) (field 1 line) (field 2 line) in

@@ -5,7 +5,7 @@ use Prim.Native.Nat.{ℕ}
 use lib.Dec.{eqb}
 use lib.IntN.{ℤ, pos, negsuc}
 use Rattle.base.specs.Branch.{if_then_else_}
-use Rattle.rules.specs.Evaluation.{scoring-with, evaluate}
+use Rattle.rules.specs.Evaluation.{default-weights, scoring-with, evaluate}
 use Rattle.text.specs.Reading.{Reading, reads, refuses, read}
 use Rattle.decimals.specs.declared.number.Signed.{Signed}
 use Rattle.decimals.specs.declared.number.Signed.the-variants.{Is, Bad}
@@ -28,11 +28,11 @@ abbrev pub is-score : Signed → ℤ → Bool
 is-score (Is z) score = same-integer z score
 is-score Bad score = false
 
--- the score is that of a position, with this draw winner
+-- the score is that of a position, with this draw winner and the default weights
 abbrev pub is-evaluation : Reading → Draw → Signed → Bool
 is-evaluation (refuses n offset size) draw said = false
 is-evaluation (reads p) Bad-draw said = false
-is-evaluation (reads p) (To w) said = is-score said (evaluate (scoring-with w) p)
+is-evaluation (reads p) (To w) said = is-score said (evaluate (scoring-with w default-weights) p)
 
 -- what three fields say
 abbrev pub agrees : List ℕ → List ℕ → List ℕ → Bool

@@ -10,6 +10,7 @@ use notation::ParseAnswer;
 use replay::Comparison;
 use replay::Draw;
 use replay::Totals;
+use rules::Weights;
 
 fn is_score(text: &[u8], score: i64) -> bool
     ensures { λ r. ⌜ r ≡ is-score (read-signed (now (text .entry))) score ⌝ }
@@ -20,7 +21,7 @@ fn is_score(text: &[u8], score: i64) -> bool
     }
 }
 
-// Whether the score is the evaluation of the position, with this draw winner.
+// Whether the score is the evaluation of the position, with this draw winner and the default weights.
 fn agrees(position: &[u8], draw: &[u8], score: &[u8]) -> bool
     ensures { λ r. ⌜ r ≡ agrees (now (position .entry)) (now (draw .entry)) (now (score .entry)) ⌝ }
 {
@@ -32,7 +33,8 @@ fn agrees(position: &[u8], draw: &[u8], score: &[u8]) -> bool
     let Draw::To(winner) = replay::draw_of(draw) else {
         return false;
     };
-    is_score(score, evaluation::evaluate(parsed.game, winner))
+    let evaluated = evaluation::evaluate(parsed.game, winner, Weights::DEFAULT);
+    is_score(score, evaluated.value)
 }
 
 // What is found of a line. One that can't be read differs.

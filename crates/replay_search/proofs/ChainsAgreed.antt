@@ -11,10 +11,8 @@ use Rattle.base.specs.Branch.{if_then_else_}
 use Rattle.base.proofs.Bool.{and→}
 use Rattle.rules.specs.declared.DrawWinner.{DrawWinner}
 use Rattle.rules.specs.Position.{Position}
-use Rattle.rules.specs.Evaluation.{scoring-with}
 use Rattle.theory.specs.Memory.{Responses}
-use Rattle.theory.specs.Reported.{Reported, reported}
-use Rattle.rules_game.specs.RulesGame.{game}
+use Rattle.theory.specs.Reported.{Reported}
 use Rattle.text.specs.Reading.{Reading, reads, refuses, read}
 use Rattle.decimals.specs.declared.number.Number.{Number}
 use Rattle.decimals.specs.declared.number.Number.the-variants.{Is, Bad}
@@ -30,8 +28,8 @@ use Rattle.replay.specs.Agreement.{same-numbers}
 use Rattle.replay.proofs.AgreementCompared.{same-numbers-equal}
 use Rattle.replay.proofs.TotalsComparison.{test-passed}
 use Rattle.replay_search.specs.Records.{search-numbers}
-use Rattle.replay_search.specs.Chains.{most-numbers, start-of, matching, matching-search, search-of, going-on, chain-of}
-use Rattle.replay_search.specs.Chains.{for-number, for-draw, for-start, run-of, has-searches, outcome-of}
+use Rattle.replay_search.specs.Chains.{most-numbers, start-of, matching, matching-search, record-search, search-of}
+use Rattle.replay_search.specs.Chains.{going-on, chain-of, for-number, for-draw, for-start, run-of, has-searches, outcome-of}
 
 -- ---- one search
 matched : (ns : List ℕ) (r s : Reported) → matching ns r ≡ some s → (ns ≡ search-numbers r) × (r ≡ s)
@@ -60,7 +58,7 @@ module _ (line : List ℕ) (w : DrawWinner) (allowance : ℕ) where
     pub depth : ℕ
     pub position-is : read (field (3 * k + 4) line) ≡ reads position
     pub depth-is : read-number (field (3 * k + 5) line) ≡ Is depth
-    pub found-is : found ≡ reported (game (scoring-with w)) (record { max-depth = depth; allowance = allowance }) position rs words
+    pub found-is : found ≡ record-search w allowance rs words position depth
     pub numbers-are : list-of most-numbers (field (3 * k + 6) line) ≡ some (search-numbers found)
 
   -- n searches from search k on, each from the memory that the one before left
@@ -75,7 +73,7 @@ module _ (line : List ℕ) (w : DrawWinner) (allowance : ℕ) where
   search-agreed k rs words found e =
       let m = search-matched (read (field (3 * k + 4) line)) (read-number (field (3 * k + 5) line))
       (list-of most-numbers (field (3 * k + 6) line))
-      (λ p depth. reported (game (scoring-with w)) (record { max-depth = depth; allowance = allowance }) p rs words) found e in
+      (record-search w allowance rs words) found e in
       record {
         position = m .0;
         depth = m .1;

@@ -10,9 +10,8 @@ use Rattle.base.specs.Branch.{if_then_else_}
 use Rattle.rules.specs.declared.DrawWinner.{DrawWinner}
 use Rattle.rules.specs.Position.{Position}
 use Rattle.rules.specs.Hash.{hash}
-use Rattle.rules.specs.Evaluation.{scoring-with}
-use Rattle.theory.specs.Reported.{Reported, reported}
-use Rattle.rules_game.specs.RulesGame.{game}
+use Rattle.rules.specs.Evaluation.{default-weights, scoring-with}
+use Rattle.theory.specs.Reported.{Reported}
 use Rattle.text.specs.Reading.{Reading, reads, refuses, read, known}
 use Rattle.game.specs.declared.Game.{Game}
 use Rattle.game.specs.Meaning.{position-of}
@@ -37,7 +36,7 @@ use Rattle.replay.specs.Fields.{field}
 use Rattle.replay.specs.Agreement.{same-numbers}
 use Rattle.replay_search.specs.declared.chain.ChainStep.{ChainStep}
 use Rattle.replay_search.specs.Records.{search-numbers}
-use Rattle.replay_search.specs.Chains.{most-numbers, matching, matching-search, search-of, Searched}
+use Rattle.replay_search.specs.Chains.{most-numbers, matching, matching-search, record-search, search-of, Searched}
 
 -- ---- what was read
 module _ (text : List ℕ) (r : Parsed) (h : Parses text r) where
@@ -87,8 +86,7 @@ not-searched found step state after e f = record {
 
 module _ (line : List ℕ) (w : DrawWinner) (allowance k : ℕ) (m : Minimax) (words : List ℕ) where
   abbrev search : Position → ℕ → Reported
-  search p depth =
-      reported (game (scoring-with w)) (record { max-depth = depth; allowance = allowance }) p (responses-of (m .responses)) words
+  search = record-search w allowance (responses-of (m .responses)) words
 
   abbrev found : Option Reported
   found = search-of line w allowance k (responses-of (m .responses)) words
@@ -134,7 +132,8 @@ module _ (line : List ℕ) (w : DrawWinner) (allowance k : ℕ) (m : Minimax) (w
           pub is-searched : (ns after : List ℕ) (report : Report) (agrees refused : Bool) (number : ℕ) →
               list-of most-numbers text'' ≡ some ns →
               report-of report after
-              ≡ reported-of m (r .game) (record { «max_depth» = depth; allowance = allowance; «draw_winner» = w }) words →
+              ≡ reported-of m (r .game)
+              (record { «max_depth» = depth; allowance = allowance; «draw_winner» = w; weights = default-weights }) words →
               agrees ≡ same-numbers ns (search-numbers (report-of report after)) → number ≡ ending-number (report .ending) →
               refused ≡ not (eqb number 0) →
               Searched found (record { agrees = agrees; refused = refused; state = report .state }) after
@@ -143,8 +142,9 @@ module _ (line : List ℕ) (w : DrawWinner) (allowance k : ℕ) (m : Minimax) (w
               let made : found ≡ matching ns (search p depth) = has-depth ∙ ap (λ (x : Option (List ℕ)).
               matching-search (reads p) (Is depth) x search) (ap (list-of most-numbers) (sym at-numbers) ∙ e) in
               let by-rules : report-of report after ≡ search p depth = is-report
-              ∙ reported-rules (scoring-with w) (record { max-depth = depth; allowance = allowance }) (r .game) (is-neat text r h a)
-              (is-fresh text r h a) (responses-of (m .responses)) words in record {
+              ∙ reported-rules (scoring-with w default-weights)
+              (record { max-depth = depth; allowance = allowance; weights = default-weights })
+              (r .game) (is-neat text r h a) (is-fresh text r h a) (responses-of (m .responses)) words in record {
                 agrees-is = same ∙ ap (λ (x : Reported). same-numbers ns (search-numbers x)) by-rules
                     ∙ sym (ap known made ∙ matching-known ns (search p depth));
                 leaves = λ x g.

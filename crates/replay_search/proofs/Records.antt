@@ -17,7 +17,7 @@ use Rattle.theory.specs.Deepening.{Stats as Meant}
 use Rattle.theory.specs.Reported.{Reported}
 use Rattle.minimax.specs.declared.Stats.{Stats}
 use Rattle.minimax.specs.declared.SearchError.{SearchError}
-use Rattle.minimax.specs.declared.SearchError.the-variants.{Depth, Allowance, Words, Spent}
+use Rattle.minimax.specs.declared.SearchError.the-variants.{Depth, Allowance, Words, Weights, Spent}
 use Rattle.minimax.specs.declared.Ending.{Ending}
 use Rattle.minimax.specs.declared.Ending.the-variants.{Refused}
 use Rattle.minimax.specs.Report.{search-error-number, ending-number, is-spent, ending-stopped, stats-of}
@@ -43,6 +43,7 @@ unfolding ending if_then_else_
 refusal-number Depth = refl
 refusal-number Allowance = refl
 refusal-number Words = refl
+refusal-number Weights = refl
 refusal-number Spent = refl
 
 pub refused-ending : (e : Ending) (why : SearchError) (n : ℕ) → e ≡ Refused why → n ≡ search-error-number why →

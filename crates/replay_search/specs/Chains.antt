@@ -11,9 +11,9 @@ use Rattle.base.specs.Branch.{if_then_else_}
 use Rattle.rules.specs.Board.{side-from}
 use Rattle.rules.specs.declared.DrawWinner.{DrawWinner}
 use Rattle.rules.specs.Position.{Position}
-use Rattle.rules.specs.Evaluation.{scoring-with}
+use Rattle.rules.specs.Evaluation.{default-weights, scoring-with}
 use Rattle.theory.specs.Memory.{Responses, no-responses, with-response}
-use Rattle.theory.specs.Reported.{Reported, reported}
+use Rattle.theory.specs.Reported.{Settings, Reported, reported}
 use Rattle.rules_game.specs.RulesGame.{game}
 use Rattle.text.specs.Reading.{Reading, reads, refuses, read, known}
 use Rattle.minimax.specs.Report.{responses-of}
@@ -66,12 +66,18 @@ matching-search (reads p) Bad ns search = none
 matching-search (reads p) (Is depth) none search = none
 matching-search (reads p) (Is depth) (some ns) search = matching ns (search p depth)
 
+-- a record's search, with its draw winner and allowance and the default weights
+abbrev pub record-search : DrawWinner → ℕ → Responses → List ℕ → Position → ℕ → Reported
+record-search w allowance rs words p depth =
+    let c : Settings = record { max-depth = depth; allowance = allowance; weights = default-weights } in
+    reported (game (scoring-with w default-weights)) c p rs words
+
 module _ (line : List ℕ) (w : DrawWinner) (allowance : ℕ) where
   -- search k, from the memory before it: what is reported, if all can be read and the record says the same
   unfoldable pub search-of : ℕ → Responses → List ℕ → Option Reported
   search-of k rs words =
       matching-search (read (field (3 * k + 4) line)) (read-number (field (3 * k + 5) line)) (list-of most-numbers (field (3 * k + 6) line))
-      (λ p depth. reported (game (scoring-with w)) (record { max-depth = depth; allowance = allowance }) p rs words)
+      (record-search w allowance rs words)
 
   abbrev pub going-on : Option Reported → (Reported → Comparison) → Comparison
   going-on none next = Differs

@@ -19,6 +19,7 @@ use notation::ParseAnswer;
 use replay::Comparison;
 use replay::Draw;
 use rules::DrawWinner;
+use rules::Weights;
 
 // The most numbers of a field.
 const MOST: usize = 1024;
@@ -135,6 +136,7 @@ fn searched(
         max_depth,
         allowance,
         draw_winner,
+        weights: Weights::DEFAULT,
     };
     let found = state.analyze(parsed.game, config, table);
     let ending = found.ending;

@@ -4,7 +4,7 @@ use mathlib.Core.Bool.{true, false}
 use mathlib.Core.List.{List, [], _∷_}
 use Prim.Native.Nat.{ℕ, suc, _+_, _*_}
 use lib.ListN.{length, getD}
-use lib.IntN.{pos, negsuc}
+use lib.IntN.{ℤ, pos, negsuc}
 use Rattle.base.specs.Branch.{if_then_else_}
 use Rattle.base.specs.Lists.{any, all, filter, concat-map}
 use Rattle.base.specs.Update.{update}
@@ -16,6 +16,7 @@ use Rattle.rules.specs.declared.CellState.the-variants.{Empty, Played}
 use Rattle.rules.specs.declared.GameState.{GameState}
 use Rattle.rules.specs.declared.GameState.the-variants.{InPlay, Drawn, Won}
 use Rattle.rules.specs.declared.DrawWinner.the-variants.{Side}
+use Rattle.rules.specs.declared.Weights.{Weights}
 use Rattle.rules.specs.declared.NextBoard.{NextBoard}
 use Rattle.rules.specs.declared.NextBoard.the-variants.{Any, Only}
 use Rattle.rules.specs.Board.{line, has-line, result}
@@ -27,8 +28,8 @@ use Rattle.rules.specs.Sound.{sound, proper}
 use Rattle.rules.specs.Keys.{x-cell-keys, o-cell-keys, drawn-keys, x-board-keys, o-board-keys, next-board-keys}
 use Rattle.rules.specs.Hash.{cell-key, board-key, next-board-key, xors, cells-hash, board-hash, hash, with-turn, zobrist}
 use Rattle.rules.specs.Hash.{hash-after}
-use Rattle.rules.specs.Evaluation.{scoring-with, no-draw-winner, won, lost, places-in, unless-both, board-line, board-score}
-use Rattle.rules.specs.Evaluation.{overall-line, score, evaluate}
+use Rattle.rules.specs.Evaluation.{won, lost, default-weights, accepted-weights, Scoring, scoring-with, no-draw-winner, places-in}
+use Rattle.rules.specs.Evaluation.{unless-both, board-line, board-score, overall-line, score, evaluate, evaluated}
 use Rattle.rules.specs.Status.{unproven, for-player, as-byte, from-byte, merge}
 use Rattle.rules.specs.Endgame.{completes, winning, critical, has-critical, suits, all-suit, lure, attack, prove-attacker, forced}
 use Rattle.rules.specs.Endgame.{forced-loss, winnable, proven, narrow, combine, merged, endgame-stats, or-unproven, analysis, judge}
@@ -70,6 +71,10 @@ o = Played O
 abbrev e : CellState
 e = Empty
 
+-- no draw winner, and the default weights
+abbrev pub by-default : Scoring
+by-default = no-draw-winner default-weights
+
 -- ---- the empty board
 pub start-moves : length (moves start) ≡ 81
 unfolding listing
@@ -84,7 +89,7 @@ unfolding analysing
 start-status = refl
 
 -- after `ee`
-pub centre-value : evaluate no-draw-winner (tried start 0x44) ≡ negsuc 15
+pub centre-value : evaluate by-default (tried start 0x44) ≡ negsuc 15
 unfolding playing valuing
 centre-value = refl
 
@@ -122,7 +127,7 @@ pub over-hash : hash-after second 2 2 (hash second) ≡ hash over
 unfolding over second position playing hashing hash-after
 over-hash = refl
 
-pub over-is-won : (over .state ≡ Won X) × (moves over ≡ []) × (evaluate no-draw-winner over ≡ lost)
+pub over-is-won : (over .state ≡ Won X) × (moves over ≡ []) × (evaluate by-default over ≡ lost)
 unfolding over second position listing valuing
 over-is-won = (refl, refl, refl)
 
@@ -186,8 +191,8 @@ unfolding drawn-game playing hashing
 drawn-game-is = (refl, refl, refl)
 
 -- X is to move: nothing, or as won or lost by the draw winner
-pub drawn-game-value : (evaluate no-draw-winner drawn-game ≡ pos 0) × (evaluate (scoring-with (Side X)) drawn-game ≡ won) ×
-    (evaluate (scoring-with (Side O)) drawn-game ≡ lost)
+pub drawn-game-value : (evaluate by-default drawn-game ≡ pos 0) × (evaluate (scoring-with (Side X) default-weights) drawn-game ≡ won) ×
+    (evaluate (scoring-with (Side O) default-weights) drawn-game ≡ lost)
 unfolding drawn-game playing valuing
 drawn-game-value = (refl, refl, refl)
 
@@ -208,7 +213,7 @@ keys-are = (refl, refl, refl, refl, refl, refl)
 unfoldable pub three-in-line : Position
 three-in-line = position X Any [] ((x ∷ x ∷ x ∷ []) ∷ [])
 
-pub three-in-line-value : evaluate no-draw-winner three-in-line ≡ pos 15
+pub three-in-line-value : evaluate by-default three-in-line ≡ pos 15
 unfolding three-in-line position valuing
 three-in-line-value = refl
 
@@ -216,7 +221,7 @@ three-in-line-value = refl
 unfoldable pub beside-drawn : Position
 beside-drawn = position X Any (Drawn ∷ Won X ∷ []) []
 
-pub beside-drawn-value : evaluate no-draw-winner beside-drawn ≡ pos 40
+pub beside-drawn-value : evaluate by-default beside-drawn ≡ pos 40
 unfolding beside-drawn position valuing
 beside-drawn-value = refl
 
@@ -226,8 +231,9 @@ unfoldable pub both-sides : Position
 both-sides = position X Any (Won X ∷ Won O ∷ []) ([] ∷ [] ∷ (e ∷ e ∷ e ∷ e ∷ x ∷ []) ∷ [])
 
 pub both-sides-value : let p =
-    both-sides in (board-score p 2 ≡ pos 4) × (overall-line (won-boards p X) (won-boards p O) (board-score p) (line 0 1 2) ≡ pos 0) ×
-    (evaluate no-draw-winner p ≡ pos 28)
+    both-sides in (board-score default-weights p 2 ≡ pos 4) ×
+    (overall-line default-weights (won-boards p X) (won-boards p O) (board-score default-weights p) (line 0 1 2) ≡ pos 0) ×
+    (evaluate by-default p ≡ pos 28)
 unfolding both-sides position valuing
 both-sides-value = (refl, refl, refl)
 
@@ -236,10 +242,47 @@ unfoldable pub three-boards : Position
 three-boards = position X Any (Won X ∷ Won X ∷ Won X ∷ []) []
 
 pub three-boards-value : let p =
-    three-boards in (overall-line (won-boards p X) (won-boards p O) (board-score p) (line 0 1 2) ≡ pos 60) ×
-    (evaluate no-draw-winner p ≡ pos 160)
+    three-boards in (overall-line default-weights (won-boards p X) (won-boards p O) (board-score default-weights p) (line 0 1 2) ≡ pos 60) ×
+    (evaluate by-default p ≡ pos 160)
 unfolding three-boards position valuing
 three-boards-value = (refl, refl)
+
+-- ---- other weights
+abbrev weights-of : ℕ → ℕ → ℕ → Weights
+weights-of a b w = record { one = a; two = b; board = w }
+
+abbrev pub by-others : Scoring
+by-others = no-draw-winner (weights-of 5 70 900)
+
+-- w's cells 0 and 1 of board 4 give one line of two places and three of one, in four overall lines, and w's board 0 counts in three
+unfoldable pub two-and-a-board : Player → Player → Position
+two-and-a-board turn w = position turn Any (Won w ∷ []) ([] ∷ [] ∷ [] ∷ [] ∷ (Played w ∷ Played w ∷ []) ∷ [])
+
+pub other-weights : let value : Weights → ℤ = λ w. evaluate (no-draw-winner w) (two-and-a-board X X) in
+    (value (weights-of 5 70 900) ≡ pos 3040) × (value (weights-of 1000 0 0) ≡ pos 12000) × (value (weights-of 0 1000 0) ≡ pos 4000) ×
+    (value (weights-of 0 0 1000) ≡ pos 3000)
+unfolding two-and-a-board position valuing
+other-weights = (refl, refl, refl, refl)
+
+-- the same for O, and as the other side sees it
+pub other-sides : (evaluate by-others (two-and-a-board O X) ≡ negsuc 3039) × (evaluate by-others (two-and-a-board X O) ≡ negsuc 3039) ×
+    (evaluate by-others (two-and-a-board O O) ≡ pos 3040)
+unfolding two-and-a-board position valuing
+other-sides = (refl, refl, refl)
+
+-- three in a line give nothing, a drawn board is nobody's, and a line with both sides gives nothing
+pub other-positions : (evaluate by-others three-in-line ≡ pos 75) × (evaluate by-others beside-drawn ≡ pos 1800) ×
+    (evaluate by-others both-sides ≡ pos 940) × (evaluate by-others three-boards ≡ pos 7200)
+unfolding three-in-line beside-drawn both-sides three-boards position valuing
+other-positions = (refl, refl, refl, refl)
+
+-- 1,000 is accepted and 1,001 is not, of a finished game too
+pub refused-weights : let number : Weights → ℕ = λ w. evaluated (no-draw-winner w) start .refusal in
+    (evaluated (no-draw-winner (weights-of 1000 1000 1000)) over ≡ record { refusal = 0; value = lost }) ×
+    (evaluated (no-draw-winner (weights-of 1 3 1001)) over ≡ record { refusal = 20; value = pos 0 }) ×
+    (number (weights-of 0 0 0) ≡ 0) × (number (weights-of 1001 3 20) ≡ 20) × (number (weights-of 1 1001 20) ≡ 20)
+unfolding over second position playing valuing accepted-weights evaluated
+refused-weights = (refl, refl, refl, refl, refl)
 
 -- ---- the endgame
 -- X wins by board 2, but O is sent there and can take the cell that X needs: no loss is said

@@ -1,11 +1,12 @@
-// The sides, the cells, the states of a board or of the game, the next board, and what a drawn game counts as.
-// Ported from src/lib/game.rs of nelhage/ultimattt at commit 87ef0d9c7c (Apache-2.0, see NOTICE), changed: methods take
-// `self` by value, and the draw winner is an enum of its own.
+// The sides, the cells, the states of a board or of the game, the next board, what a drawn game counts as, and the weights.
+// Ported from src/lib/game.rs, the weights from src/lib/minimax.rs, of nelhage/ultimattt at commit 87ef0d9c7c (Apache-2.0, see NOTICE),
+// changed: methods take `self` by value, the draw winner is an enum of its own, and the evaluation's weights are a struct.
 ghost use mathlib.Core.Path.{_≡_};
 ghost use mathlib.Core.Bool.{not};
 ghost use Rattle.rules.specs.Board.{other, side-number, in-play, state-number};
 ghost use Rattle.rules.specs.Position.{same-next-board};
 ghost use Rattle.rules.specs.Play.{may};
+ghost use Rattle.rules.specs.Evaluation.{accepted-weights};
 
 pub enum Player {
     X,
@@ -106,4 +107,37 @@ impl NextBoard {
 pub enum DrawWinner {
     Nobody,
     Side(Player),
+}
+
+// What the evaluation gives for one place of a board's line, for two places, and for a won board.
+pub struct Weights {
+    pub one: u16,
+    pub two: u16,
+    pub board: u16,
+}
+
+impl Weights {
+    pub const DEFAULT: Weights = Weights {
+        one: 1,
+        two: 3,
+        board: 20,
+    };
+
+    pub const MOST: u16 = 1000;
+
+    // Whether none is over 1,000.
+    pub fn are_accepted(self) -> bool
+        ensures { λ r. ⌜ r ≡ accepted-weights self ⌝ }
+    {
+        if self.one > Weights::MOST {
+            return false;
+        }
+        if self.two > Weights::MOST {
+            return false;
+        }
+        if self.board > Weights::MOST {
+            return false;
+        }
+        true
+    }
 }

@@ -12,10 +12,13 @@ use Rattle.base.proofs.Bool.{is}
 use Rattle.base.proofs.Integers.{hi, lo, zarith}
 use Rattle.rules.specs.declared.Player.{Player}
 use Rattle.rules.specs.declared.Player.the-variants.{X, O}
+use Rattle.rules.specs.declared.DrawWinner.{DrawWinner}
+use Rattle.rules.specs.declared.DrawWinner.the-variants.{Nobody}
+use Rattle.rules.specs.declared.Weights.{Weights}
 use Rattle.rules.specs.Position.{Position, start, unfinished}
 use Rattle.rules.specs.Play.{reached}
 use Rattle.rules.specs.Status.{allows, alone}
-use Rattle.rules.specs.Evaluation.{Scoring, no-draw-winner, won, seen-by}
+use Rattle.rules.specs.Evaluation.{accepted-weights, Scoring, scoring-with, no-draw-winner, won, seen-by}
 use Rattle.rules.specs.Endgame.{analysis}
 use Rattle.rules.proofs.Sound.{Good, start-is-good, reached-good}
 use Rattle.theory.specs.Table.{off}
@@ -41,16 +44,19 @@ not-nothing X O e = omega zarith
 not-nothing O X e = omega zarith
 not-nothing O O e = omega zarith
 
--- for every list of tried moves, refused ones among them, that leaves the game unfinished; response tables of any kind
-module _ (ms : List ℕ) (t : T (unfinished (reached start ms))) (s : Memory) (table-off : T (off (s .table))) (from-none : s .count ≡ 0)
-    (k : ℕ) where
+-- for accepted weights, every list of tried moves, refused ones too, that leaves the game unfinished, and response tables of any kind
+module _ (weights : Weights) (accepted : T (accepted-weights weights)) (ms : List ℕ) (t : T (unfinished (reached start ms)))
+    (s : Memory) (table-off : T (off (s .table))) (from-none : s .count ≡ 0) (k : ℕ) where
   abbrev p : Position
   p = reached start ms
 
   g : Good p
   g = reached-good start start-is-good ms
 
-  module _ (sc : Scoring) (n : ℕ) where
+  module _ (draws : DrawWinner) (n : ℕ) where
+    abbrev sc : Scoring
+    sc = scoring-with draws weights
+
     limited : LimitedBeside (game sc) n (suc k) p s
     limited = allowance-limits (game sc) n (suc k) p s (omega arith)
 
@@ -62,7 +68,7 @@ module _ (ms : List ℕ) (t : T (unfinished (reached start ms))) (s : Memory) (t
         unmarked = subst (λ (x : SearchAnswer). T (not (x .is-stopped))) (sym (limited .enough h)) (limited .unlimited-whole)
 
         r : AttainsMinimax (game sc) k p (analyze (game sc) (at-most n) (suc k) p s .completed)
-        r = analyze-right (game sc) (rules-lawful sc) (at-most n) k p g s table-off unmarked
+        r = analyze-right (game sc) (rules-lawful sc accepted) (at-most n) k p g s table-off unmarked
 
     -- else the search is stopped, and its answer is right for the last completed depth
     pub stopped-right-too : n < entries sc (suc k) p s → AnswersSpent sc n k p s (analyze (game sc) (at-most n) (suc k) p s)
@@ -73,43 +79,44 @@ module _ (ms : List ℕ) (t : T (unfinished (reached start ms))) (s : Memory) (t
       shallower = omega (arith, z .shallower);
       fits = z .fits;
       next-too-many = z .next-too-many;
-      right-so-far = stopped-right (game sc) (rules-lawful sc) n (suc k) p g s table-off (omega arith) (z .marked);
+      right-so-far = stopped-right (game sc) (rules-lawful sc accepted) n (suc k) p g s table-off (omega arith) (z .marked);
       nothing-so-far = λ e. z .whole-is ∙ ap (λ (d : ℕ). analyze (game sc) unlimited d p s .completed) e;
     }
 
   -- ---- with no draw winner, what the endgame status says
-  tells : StatusTells p
-  tells = good-status-tells p g t
+  abbrev nobody : Scoring
+  nobody = no-draw-winner weights
+
+  tells : StatusTells weights p
+  tells = good-status-tells weights accepted p g t
 
   -- a side that it leaves alone, without a draw: every search that is not stopped, to a limit of three or more, scores that side's win
-  pub alone-scores : (n : ℕ) → entries no-draw-winner (suc k) p s ≤ n → 2 ≤ k → (w : Player) →
-      T (alone (analysis p .status) w) →
-      analyze (game no-draw-winner) (at-most n) (suc k) p s .completed .score ≡ win-for w p
-  alone-scores n h two w a = unstopped-right no-draw-winner n h .right .score-is ∙ tells .alone-wins w a (suc k) (omega arith)
+  pub alone-scores : (n : ℕ) → entries nobody (suc k) p s ≤ n → 2 ≤ k → (w : Player) → T (alone (analysis p .status) w) →
+      analyze (game nobody) (at-most n) (suc k) p s .completed .score ≡ win-for w p
+  alone-scores n h two w a = unstopped-right Nobody n h .right .score-is ∙ tells .alone-wins w a (suc k) (omega arith)
 
   module _ (w : Player) (out : T (not (allows (analysis p .status) w))) where
-    never-right : (j : ℕ) (x : Completed) → AttainsMinimax (game no-draw-winner) j p x → x .score ≡ win-for w p → ⊥
+    never-right : (j : ℕ) (x : Completed) → AttainsMinimax (game nobody) j p x → x .score ≡ win-for w p → ⊥
     never-right j x r e = tells .left-out-never w out (suc j) (sym (r .score-is) ∙ e)
 
-    stopped-never : (a : Allowance) → T (analyze (game no-draw-winner) a (suc k) p s .is-stopped) →
-        analyze (game no-draw-winner) a (suc k) p s .completed .score ≡ win-for w p → ⊥
-    stopped-never unlimited u e =
-        T-not (analyze (game no-draw-winner) unlimited (suc k) p s .is-stopped) (limited no-draw-winner 0 .unlimited-whole) u
+    stopped-never : (a : Allowance) → T (analyze (game nobody) a (suc k) p s .is-stopped) →
+        analyze (game nobody) a (suc k) p s .completed .score ≡ win-for w p → ⊥
+    stopped-never unlimited u e = T-not (analyze (game nobody) unlimited (suc k) p s .is-stopped) (limited Nobody 0 .unlimited-whole) u
     stopped-never (at-most n) u e = by-depth (x .completed .depth) refl
       where
         x : SearchAnswer
-        x = analyze (game no-draw-winner) (at-most n) (suc k) p s
+        x = analyze (game nobody) (at-most n) (suc k) p s
 
-        z : AnswersSpent no-draw-winner n k p s x
-        z = stopped-right-too no-draw-winner n (mark-means-spent (game no-draw-winner) n (suc k) p s (omega arith) u)
+        z : AnswersSpent nobody n k p s x
+        z = stopped-right-too Nobody n (mark-means-spent (game nobody) n (suc k) p s (omega arith) u)
 
         by-depth : (d : ℕ) → x .completed .depth ≡ d → ⊥
         by-depth zero h = not-nothing (p .turn) w (sym (ap (λ (y : Completed). y .score) (z .nothing-so-far h)) ∙ e)
         by-depth (suc j) h = never-right j (x .completed) (z .right-so-far j h) e
 
     -- a side that it leaves out: no search, stopped or not, scores that side's win
-    pub left-out-never-scores : (a : Allowance) → analyze (game no-draw-winner) a (suc k) p s .completed .score ≡ win-for w p → ⊥
-    left-out-never-scores a e = elim (is (analyze (game no-draw-winner) a (suc k) p s .is-stopped)) [
+    pub left-out-never-scores : (a : Allowance) → analyze (game nobody) a (suc k) p s .completed .score ≡ win-for w p → ⊥
+    left-out-never-scores a e = elim (is (analyze (game nobody) a (suc k) p s .is-stopped)) [
       | inl u ↦ stopped-never a u e
-      | inr u ↦ never-right k _ (analyze-right (game no-draw-winner) (rules-lawful no-draw-winner) a k p g s table-off u) e
+      | inr u ↦ never-right k _ (analyze-right (game nobody) (rules-lawful nobody accepted) a k p g s table-off u) e
     ]

@@ -8,7 +8,7 @@ use lib.ListN.{set, replicate}
 use Rattle.base.specs.Branch.{if_then_else_}
 use Rattle.base.specs.Lists.{any, all, filter, elem, concat-map}
 use Rattle.base.specs.Update.{update}
-use Rattle.base.specs.Integers.{sum}
+use Rattle.base.specs.Integers.{sum, maxZ}
 use Rattle.rules.specs.declared.Player.the-variants.{X, O}
 use Rattle.rules.specs.declared.CellState.{CellState}
 use Rattle.rules.specs.declared.CellState.the-variants.{Empty, Played}
@@ -20,16 +20,17 @@ use Rattle.base.specs.Checks.{all-pass, first-failed}
 use Rattle.rules.specs.Play.{no-move, accepts, after, play, left-by, tried}
 use Rattle.rules.specs.Moves.{places, moves}
 use Rattle.rules.specs.Hash.{cell-key, board-key, next-board-key, xors, cells-hash, board-hash, hash, with-turn, zobrist}
-use Rattle.rules.specs.Evaluation.{no-draw-winner, won, lost, places-in, unless-both, board-line, board-score, overall-line, score}
-use Rattle.rules.specs.Evaluation.{evaluate}
-use Rattle.rules.proofs.Examples.{position, second}
+use Rattle.rules.specs.Evaluation.{won, lost, places-in, unless-both, board-line}
+use Rattle.rules.specs.Evaluation.{board-score, overall-line, score, evaluate}
+use Rattle.rules.proofs.Examples.{by-default, by-others, position, second}
+use Rattle.theory.specs.PlainMinimax.{best, plain}
 use Rattle.theory.specs.Table.{from-word, entry-of, off, begins, look-up, store, suffices, bound-of}
 use Rattle.theory.specs.Memory.{Tally, Memory, fresh-memory, begin, enter, leaf, hit, answered, cut, some-move, hints, counts}
 use Rattle.theory.specs.Memory.{no-responses}
 use Rattle.theory.specs.OrderedSearch.{unlimited, at-most, unless-stopped, entering, probed, on-probe, with-stored, set-first, fresh}
 use Rattle.theory.specs.OrderedSearch.{candidates, over-moves, search}
 use Rattle.theory.specs.Deepening.{Stats, Completed, nothing-yet, SearchAnswer, on-outcome, deepen, analyze}
-use Rattle.rules_game.specs.RulesGame.{game}
+use Rattle.rules_game.specs.RulesGame.{game, plain-minimax}
 
 -- ---- what the facts compute with
 playing : Unit {0}
@@ -74,27 +75,27 @@ abbrev one-depth : Completed
 one-depth = record { depth = 1; score = pos 16; pv = 0x44 ∷ []; stats = at-depth 1 (pos 16) (counts 82 81 0 0 0) ∷ [] }
 
 -- depth 1: the best of 81 moves is the centre
-pub empty-board : analyze (game no-draw-winner) unlimited 1 start no-table ≡ gives false one-depth (counted 82 (counts 82 81 0 0 0))
+pub empty-board : analyze (game by-default) unlimited 1 start no-table ≡ gives false one-depth (counted 82 (counts 82 81 0 0 0))
 unfolding searching
 empty-board = refl
 
 -- 82 positions are just enough for depth 1, and one less is not
-pub just-enough : analyze (game no-draw-winner) (at-most 82) 1 start no-table ≡ gives false one-depth (counted 82 (counts 82 81 0 0 0))
+pub just-enough : analyze (game by-default) (at-most 82) 1 start no-table ≡ gives false one-depth (counted 82 (counts 82 81 0 0 0))
 unfolding searching
 just-enough = refl
 
-pub one-short : analyze (game no-draw-winner) (at-most 81) 1 start no-table ≡ gives true nothing-yet (counted 81 (counts 81 80 0 0 0))
+pub one-short : analyze (game by-default) (at-most 81) 1 start no-table ≡ gives true nothing-yet (counted 81 (counts 81 80 0 0 0))
 unfolding searching
 one-short = refl
 
 -- nor are they for depth 2: its root is one too many
-pub one-depth-whole : analyze (game no-draw-winner) (at-most 82) 2 start no-table ≡ gives true one-depth (counted 82 (counts 0 0 0 0 0))
+pub one-depth-whole : analyze (game by-default) (at-most 82) 2 start no-table ≡ gives true one-depth (counted 82 (counts 0 0 0 0 0))
 unfolding searching
 one-depth-whole = refl
 
 -- ---- X;XX@......; and XXX....../XXX....../XX......., the other boards empty: won at depth 1, which ends the search, with all seven moves
 -- tried
-pub second-won : analyze (game no-draw-winner) unlimited 3 second no-table
+pub second-won : analyze (game by-default) unlimited 3 second no-table
     ≡ gives false (record { depth = 1; score = won; pv = 0x22 ∷ []; stats = at-depth 1 won (counts 8 7 0 0 0) ∷ [] })
     (counted 8 (counts 8 7 0 0 0))
 unfolding searching second position
@@ -124,7 +125,7 @@ late = position X (Only 5) (InPlay ∷ Won X ∷ InPlay ∷ Won O ∷ Won O ∷ 
 
 -- responses: to 0x26 one in a closed board, to 0x07 one in no board, and to the root's empty move a legal one, which is tried first
 pub illegal-responses :
-    analyze (game no-draw-winner) unlimited 4 late
+    analyze (game by-default) unlimited 4 late
     (fresh-memory (record { to-x = set (set none-yet 0x55 0x80) 0x26 0x13; to-o = set (set none-yet 0x07 0x99) no-move 0x55 }) [])
     ≡ gives false (record {
       depth = 4;
@@ -146,9 +147,15 @@ pub illegal-responses :
 unfolding searching late position
 illegal-responses = refl
 
+-- under other weights: plain minimax and the search score by them
+pub by-other-weights : (plain-minimax by-others 1 late ≡ negsuc 1719) ×
+    (analyze (game by-others) unlimited 1 late no-table .completed .score ≡ negsuc 1719)
+unfolding searching late position plain best maxZ
+by-other-weights = (refl, refl)
+
 -- a table of seven entries, all zero: some positions are hit, and some of the hits suffice
 pub table-on :
-    analyze (game no-draw-winner) unlimited 4 late (fresh-memory no-responses (replicate 21 0))
+    analyze (game by-default) unlimited 4 late (fresh-memory no-responses (replicate 21 0))
     ≡ gives false (record {
       depth = 4;
       score = lost;

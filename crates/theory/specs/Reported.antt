@@ -7,30 +7,35 @@ use lib.IntN.{ℤ, pos}
 use lib.ListN.{length, replicate}
 use Rattle.base.specs.Branch.{if_then_else_}
 use Rattle.base.specs.Checks.{first-failed}
+use Rattle.rules.specs.declared.Weights.{Weights}
 use Rattle.rules.specs.Play.{no-move}
+use Rattle.rules.specs.Evaluation.{accepted-weights}
 use Rattle.theory.specs.Limits.{Limits, console}
 use Rattle.theory.specs.Game.{Game}
 use Rattle.theory.specs.Memory.{no-tally, Responses, fresh-memory}
 use Rattle.theory.specs.OrderedSearch.{at-most}
 use Rattle.theory.specs.Deepening.{Stats, SearchAnswer, analyze}
 
+-- the weights are tested here; the game that is searched scores by them
 pub record Settings : Type 0 where
   pub max-depth : ℕ
   pub allowance : ℕ
+  pub weights : Weights
 
 -- what is asked of the settings and of the number of the table's words, each with the number of its refusal, in order
 abbrev pub entry-checks : Limits → Settings → ℕ → List (Bool × ℕ)
 entry-checks l c words =
     (leb 1 (c .max-depth) && leb (c .max-depth) (l .deepest), 15) ∷
     (leb 1 (c .allowance) && leb (c .allowance) (l .positions), 16) ∷
-    (eqb (words % 3) 0 && leb words (l .words), 17) ∷ []
+    (eqb (words % 3) 0 && leb words (l .words), 17) ∷
+    (accepted-weights (c .weights), 20) ∷ []
 
 -- 0 where nothing is refused
 unfoldable pub entry-refusal : Settings → ℕ → ℕ
 entry-refusal c words = first-failed (entry-checks console c words)
 
 pub record Reported : Type 0 where
-  -- 15 to 18, or 0 where nothing is refused
+  -- 15 to 18 or 20, or 0 where nothing is refused
   pub number : ℕ
   -- the allowance stopped the search
   pub is-stopped : Bool

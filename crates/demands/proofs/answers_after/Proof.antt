@@ -1,7 +1,5 @@
 -- Each call's promise, of what it gave.
-use mathlib.Core.Path.{_∙_}
 use denote.Ref.{now}
-use Rattle.base.proofs.Signed.{back}
 use Rattle.demands.proofs.Demand2.{demand-2}
 use borrow.Author.Needs.{needs}
 use Rattle.demands.proofs.answers_after.Statement.{statement}
@@ -115,7 +113,7 @@ returns c =
     let searched = analysed .before .before .before in
     let played = searched .before .before in
     let parsed = played .before .before in
-    let a = parsed .before .before .before .before .args in
+    let a = parsed .before .before .before .before .before .args in
     demand-2 (now (a .text)) (now (a .moves)) (a .m) (a .board) (a .cell) (a .other) (a .memory) (a .config) (now (a .words))
     (searched .analyze .last .1 .1 .1 .0) _ (record {
       parsed = parsed .parse .ensures;
@@ -135,7 +133,7 @@ returns c =
       counted = counted .legal-moves .ensures;
       tried-one = made .make-move .ensures;
       keyed = keyed .zobrist .ensures;
-      valued = back (valued .evaluate .result) (record { sfits = valued .evaluate .ok }) ∙ valued .evaluate .ensures;
+      valued = valued .evaluate .ensures;
       analysed = analysed .new .ensures;
       status-given = status-given .status .ensures;
       judged = judged .evaluate-move .ensures;

@@ -29,6 +29,9 @@ board-state-requires c κs = search needs
 from-coords-requires : tie.Need-from-coords-requires
 from-coords-requires c κs = search needs
 
+evaluate-requires : tie.Need-evaluate-requires
+evaluate-requires c κs = search needs
+
 new-requires-2 : tie.Need-new-requires-2
 new-requires-2 c κs = search needs
 
@@ -49,7 +52,8 @@ returns c =
     let searched = c .before .before .before in
     let judged = searched .before .before in
     let analysed = judged .before in
-    let built = analysed .before in
+    let valued = analysed .before in
+    let built = valued .before in
     let looked-board = built .before in
     let looked-cell = looked-board .before in
     let tried = looked-cell .before in
@@ -57,7 +61,7 @@ returns c =
     let parsed = move-parsed .before in
     let held = parsed .before in
     let empty = held .before in
-    let a = empty .before .before .before .before .args in
+    let a = empty .before .before .before .before .before .args in
     demand-1 (now (a .text)) (now (a .line)) (a .game) (a .m) (a .board) (a .cell) (a .memory) (a .config) (now (a .words))
     (searched .analyze .last .1 .1 .1 .0) _ (record {
       parsed = parsed .parse .ensures;
@@ -66,6 +70,7 @@ returns c =
       looked-cell = looked-cell .at .ensures;
       looked-board = looked-board .board-state .ensures;
       built = built .from-coords .ensures;
+      valued = valued .evaluate .ensures;
       analysed = analysed .new2 .ensures;
       judged = judged .evaluate-move .ensures;
       searched = searched .analyze .ensures;
@@ -88,6 +93,7 @@ entry-answers-spec =
     at-requires
     board-state-requires
     from-coords-requires
+    evaluate-requires
     new-requires-2
     evaluate-move-requires
     analyze-requires

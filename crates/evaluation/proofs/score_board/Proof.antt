@@ -1,8 +1,8 @@
--- Eight lines of at most 3 do not overflow, and the digits of each side are its cells.
+-- Eight lines of at most 65,535 do not overflow, and the digits of each side are its cells.
 use mathlib.Core.Path.{_∙_}
 use Rattle.rules.specs.Evaluation.{board-line}
-use Rattle.rules.proofs.Evaluation.{board-line-within}
-use Rattle.base.proofs.Signed.{Held, held, held-fits, held-reads, plus}
+use mir.Syntax.{w32}
+use Rattle.base.proofs.Signed.{Held, held-promised, held-fits, held-reads, plus}
 use Rattle.evaluation.proofs.ValuesLines.{eight}
 use Rattle.evaluation.proofs.ValuesBoards.{board-sum}
 use borrow.Author.Needs.{needs}
@@ -21,9 +21,8 @@ score-line-requires c κs = search needs
 score-line-requires-2 : tie.Need-score-line-requires-2
 score-line-requires-2 c κs = search needs
 
-abbrev to-2 : tie.After-score-line2 → Held 6
-to-2 c =
-    plus (held (c .before .score-line .ensures) (board-line-within _ _ _)) (held (c .score-line2 .ensures) (board-line-within _ _ _)) tt tt
+abbrev to-2 : tie.After-score-line2 → Held w32 131070
+to-2 c = plus (held-promised (c .before .score-line .ensures)) (held-promised (c .score-line2 .ensures)) tt tt
 
 add-result : tie.Need-add-result
 add-result c = held-fits (to-2 c) tt
@@ -31,8 +30,8 @@ add-result c = held-fits (to-2 c) tt
 score-line-requires-3 : tie.Need-score-line-requires-3
 score-line-requires-3 c κs = search needs
 
-abbrev to-3 : tie.After-score-line3 → Held 9
-to-3 c = plus (to-2 (c .before)) (held (c .score-line3 .ensures) (board-line-within _ _ _)) tt tt
+abbrev to-3 : tie.After-score-line3 → Held w32 196605
+to-3 c = plus (to-2 (c .before)) (held-promised (c .score-line3 .ensures)) tt tt
 
 add-result-2 : tie.Need-add-result-2
 add-result-2 c = held-fits (to-3 c) tt
@@ -40,8 +39,8 @@ add-result-2 c = held-fits (to-3 c) tt
 score-line-requires-4 : tie.Need-score-line-requires-4
 score-line-requires-4 c κs = search needs
 
-abbrev to-4 : tie.After-score-line4 → Held 12
-to-4 c = plus (to-3 (c .before)) (held (c .score-line4 .ensures) (board-line-within _ _ _)) tt tt
+abbrev to-4 : tie.After-score-line4 → Held w32 262140
+to-4 c = plus (to-3 (c .before)) (held-promised (c .score-line4 .ensures)) tt tt
 
 add-result-3 : tie.Need-add-result-3
 add-result-3 c = held-fits (to-4 c) tt
@@ -49,8 +48,8 @@ add-result-3 c = held-fits (to-4 c) tt
 score-line-requires-5 : tie.Need-score-line-requires-5
 score-line-requires-5 c κs = search needs
 
-abbrev to-5 : tie.After-score-line5 → Held 15
-to-5 c = plus (to-4 (c .before)) (held (c .score-line5 .ensures) (board-line-within _ _ _)) tt tt
+abbrev to-5 : tie.After-score-line5 → Held w32 327675
+to-5 c = plus (to-4 (c .before)) (held-promised (c .score-line5 .ensures)) tt tt
 
 add-result-4 : tie.Need-add-result-4
 add-result-4 c = held-fits (to-5 c) tt
@@ -58,8 +57,8 @@ add-result-4 c = held-fits (to-5 c) tt
 score-line-requires-6 : tie.Need-score-line-requires-6
 score-line-requires-6 c κs = search needs
 
-abbrev to-6 : tie.After-score-line6 → Held 18
-to-6 c = plus (to-5 (c .before)) (held (c .score-line6 .ensures) (board-line-within _ _ _)) tt tt
+abbrev to-6 : tie.After-score-line6 → Held w32 393210
+to-6 c = plus (to-5 (c .before)) (held-promised (c .score-line6 .ensures)) tt tt
 
 add-result-5 : tie.Need-add-result-5
 add-result-5 c = held-fits (to-6 c) tt
@@ -67,8 +66,8 @@ add-result-5 c = held-fits (to-6 c) tt
 score-line-requires-7 : tie.Need-score-line-requires-7
 score-line-requires-7 c κs = search needs
 
-abbrev to-7 : tie.After-score-line7 → Held 21
-to-7 c = plus (to-6 (c .before)) (held (c .score-line7 .ensures) (board-line-within _ _ _)) tt tt
+abbrev to-7 : tie.After-score-line7 → Held w32 458745
+to-7 c = plus (to-6 (c .before)) (held-promised (c .score-line7 .ensures)) tt tt
 
 add-result-6 : tie.Need-add-result-6
 add-result-6 c = held-fits (to-7 c) tt
@@ -76,8 +75,8 @@ add-result-6 c = held-fits (to-7 c) tt
 score-line-requires-8 : tie.Need-score-line-requires-8
 score-line-requires-8 c κs = search needs
 
-abbrev to-8 : tie.After-score-line8 → Held 24
-to-8 c = plus (to-7 (c .before)) (held (c .score-line8 .ensures) (board-line-within _ _ _)) tt tt
+abbrev to-8 : tie.After-score-line8 → Held w32 524280
+to-8 c = plus (to-7 (c .before)) (held-promised (c .score-line8 .ensures)) tt tt
 
 add-result-7 : tie.Need-add-result-7
 add-result-7 c = held-fits (to-8 c) tt
@@ -85,7 +84,7 @@ add-result-7 c = held-fits (to-8 c) tt
 returns : tie.Need-returns
 returns c =
     let d = c .before .before .before .before .before .before .before .before in
-    held-reads (to-8 c) tt ∙ eight (board-line _ _) ∙ board-sum _ _ _ _ (d .before .xbits .ensures) (d .obits .ensures)
+    held-reads (to-8 c) tt ∙ eight (board-line _ _ _) ∙ board-sum _ _ _ _ _ (d .before .xbits .ensures) (d .obits .ensures)
 
 pub score-board-spec : {M : Type 1} → statement M
 score-board-spec =

@@ -1,4 +1,4 @@
--- A number of 8 bits fits 64, so the cast leaves it as it is.
+-- A number of 32 bits fits 64, so the cast leaves it as it is.
 use Rattle.base.proofs.Signed.{widens, widened}
 use Rattle.evaluation.proofs.wide.Statement.{statement}
 use Rattle.evaluation.proofs.wide.Tie as tie

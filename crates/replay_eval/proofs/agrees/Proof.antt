@@ -1,8 +1,6 @@
 -- Each field is read, or the record differs.
-use mathlib.Core.Path.{sym, ap, _∙_}
+use mathlib.Core.Path.{sym, _∙_}
 use Rattle.base.proofs.Signed.{result}
-use Rattle.decimals.specs.Numbers.{read-signed}
-use Rattle.replay_eval.specs.Records.{is-score}
 use Rattle.replay_eval.proofs.Records.{refused-differs, no-draw-differs, scored}
 use borrow.Author.Needs.{needs}
 use Rattle.replay_eval.proofs.agrees.Statement.{statement}
@@ -43,11 +41,13 @@ is-score-requires c κs = search needs
 
 returns-3 : tie.Need-returns-3
 returns-3 c =
-    let at-draw = c .before .before .before .before .before in
+    let at-evaluate = c .before .before in
+    let at-draw = at-evaluate .before .before .before .before in
     let at-parse = at-draw .before .before .before in
-    c .is-score .ensures ∙ ap (is-score (read-signed _)) (result (c .before .evaluate .ok) (c .before .evaluate .ensures)) ∙
+    c .is-score .ensures ∙
     scored _ _ _ _ (at-parse .parse .ensures) (at-draw .before .enum-told .given .1)
-    (sym (at-draw .draw-of .ensures) ∙ c .before .before .before .winner .given .1)
+    (sym (at-draw .draw-of .ensures) ∙ at-evaluate .before .before .winner .given .1)
+    (result (c .before .struct-told .given .1 .0 .1) (at-evaluate .evaluate .ensures .value))
 
 pub agrees-spec : {M : Type 1} → statement M
 agrees-spec =

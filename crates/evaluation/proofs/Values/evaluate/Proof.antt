@@ -1,8 +1,7 @@
 -- A finished game by its end, and one in play by its score, turned for O.
-use mathlib.Core.Path.{ap, _∙_}
-use lib.IntN.{negℤ}
+use mathlib.Core.Path.{_∙_}
+use mir.Syntax.{w64}
 use Rattle.rules.specs.declared.Player.the-variants.{X, O}
-use Rattle.base.proofs.Integers.{within-neg}
 use Rattle.game.specs.Meaning.{position-of}
 use Rattle.base.proofs.Signed.{result, Held, held-promised, held-fits, held-reads, minus}
 use Rattle.evaluation.proofs.ValuesEnds.{eval-ended, eval-open}
@@ -34,11 +33,8 @@ enum-told-3 c = search needs
 enum-told-4 : tie.Need-enum-told-4
 enum-told-4 c = search needs
 
-abbrev for-o : tie.After-enum-told4 → Held 3072
-for-o c =
-    let d = c .before .before in
-    minus (d .score .result) (record { sfits = d .score .ok }) (ap negℤ (d .score .ensures .0))
-    (within-neg 3072 _ (held-promised (d .score .ensures) .near))
+abbrev for-o : tie.After-enum-told4 → Held w64 51539607552
+for-o c = minus (held-promised (c .before .before .score .ensures)) tt
 
 sub-result : tie.Need-sub-result
 sub-result c = held-fits (for-o c) tt

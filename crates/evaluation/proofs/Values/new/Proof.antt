@@ -1,8 +1,10 @@
 -- The nine values, one after the other.
-use mathlib.Core.Path.{refl, ap₂}
-use mathlib.Core.List.{_∷_}
+use mathlib.Core.Path.{refl, ap, ap₂}
+use mathlib.Core.List.{List, _∷_}
+use lib.IntN.{ℤ}
+use mir.Syntax.{w32}
 use Rattle.evaluation.specs.Values.{values-of}
-use Rattle.base.proofs.Signed.{result8}
+use Rattle.base.proofs.Signed.{result-at}
 use borrow.Author.Needs.{needs}
 use Rattle.evaluation.proofs.Values.new.Statement.{statement}
 use Rattle.evaluation.proofs.Values.new.Tie as tie
@@ -45,15 +47,16 @@ returns c =
     let c3 = c4 .before in
     let c2 = c3 .before in
     let c1 = c2 .before in
-    ap₂ _∷_ (result8 (c1 .value-of .ok) (c1 .value-of .ensures))
-    (ap₂ _∷_ (result8 (c2 .value-of2 .ok) (c2 .value-of2 .ensures))
-    (ap₂ _∷_ (result8 (c3 .value-of3 .ok) (c3 .value-of3 .ensures))
-    (ap₂ _∷_ (result8 (c4 .value-of4 .ok) (c4 .value-of4 .ensures))
-    (ap₂ _∷_ (result8 (c5 .value-of5 .ok) (c5 .value-of5 .ensures))
-    (ap₂ _∷_ (result8 (c6 .value-of6 .ok) (c6 .value-of6 .ensures))
-    (ap₂ _∷_ (result8 (c7 .value-of7 .ok) (c7 .value-of7 .ensures))
-    (ap₂ _∷_ (result8 (c8 .value-of8 .ok) (c8 .value-of8 .ensures))
-    (ap₂ _∷_ (result8 (c .value-of9 .ok) (c .value-of9 .ensures)) refl))))))))
+    ap (λ (l : List ℤ). record { boards = l; weights = c1 .before .args .weights })
+    (ap₂ _∷_ (result-at w32 (c1 .value-of .ok) (c1 .value-of .ensures))
+    (ap₂ _∷_ (result-at w32 (c2 .value-of2 .ok) (c2 .value-of2 .ensures))
+    (ap₂ _∷_ (result-at w32 (c3 .value-of3 .ok) (c3 .value-of3 .ensures))
+    (ap₂ _∷_ (result-at w32 (c4 .value-of4 .ok) (c4 .value-of4 .ensures))
+    (ap₂ _∷_ (result-at w32 (c5 .value-of5 .ok) (c5 .value-of5 .ensures))
+    (ap₂ _∷_ (result-at w32 (c6 .value-of6 .ok) (c6 .value-of6 .ensures))
+    (ap₂ _∷_ (result-at w32 (c7 .value-of7 .ok) (c7 .value-of7 .ensures))
+    (ap₂ _∷_ (result-at w32 (c8 .value-of8 .ok) (c8 .value-of8 .ensures))
+    (ap₂ _∷_ (result-at w32 (c .value-of9 .ok) (c .value-of9 .ensures)) refl)))))))))
 
 pub new-spec : {M : Type 1} → statement M
 new-spec =

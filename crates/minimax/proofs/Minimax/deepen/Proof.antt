@@ -3,11 +3,11 @@ use mathlib.Core.Path.{ap, _∙_}
 use Prim.Native.Nat.{_-_}
 use native.Mathlib.Omega.{arith}
 use denote.Ref.{now}
-use Rattle.theory.specs.Deepening.{Completed}
-use Rattle.theory.specs.Reported.{report}
+use Rattle.theory.specs.Deepening.{Completed, SearchAnswer}
+use Rattle.theory.specs.Reported.{Reported, report}
 use Rattle.minimax.specs.Structs.{structs}
 use Rattle.minimax.specs.Report.{scoring-of}
-use Rattle.minimax.proofs.ReportDeepening.{Going, going-first, going-all, going-done, root-asked, root-counted, going-stopped}
+use Rattle.minimax.proofs.ReportDeepening.{Going, Begun, going-first, going-done, Turn, root-asked, root-counted, going-stopped}
 use Rattle.minimax.proofs.ReportDeepening.{line-kept, going-decided, going-on}
 use Rattle.minimax.proofs.Minimax.deepen.Statement.{statement}
 use Rattle.minimax.proofs.Minimax.deepen.Tie as tie
@@ -27,109 +27,83 @@ none-requires c κs = tt
 begin-requires : tie.Need-begin-requires Inv-loop μ-loop
 begin-requires c κs = tt
 
+abbrev begun : tie.After-begin Inv-loop μ-loop → Begun
+begun c =
+    let at-new = c .before .before in
+    let start = at-new .before .before .before in
+    record {
+      m = start .args .self;
+      g = start .args .game;
+      c = start .args .config;
+      words = now (start .args .words);
+      limits = start .pre;
+      values = at-new .new .result;
+      values-are = at-new .new .ensures;
+      whole = c .before .none .result;
+      s = c .begin .result;
+      none = c .before .none .ensures;
+      fresh = c .begin .ensures;
+    }
+
 loop-holds : tie.Need-loop-holds Inv-loop μ-loop
-loop-holds c =
-    let start = c .before .before .before .before in
-    going-first (start .args .self) (start .args .game) (start .args .config) (now (start .args .words)) (c .before .none .result)
-    (c .begin .result) (c .before .none .ensures) (c .begin .ensures)
+loop-holds c = going-first (begun c)
 
 cast-if1 : tie.Need-cast-if1 Inv-loop μ-loop
 cast-if1 c = record { fits = omega (arith, c .before .loop .inv .empty .most) }
 
 root-requires : tie.Need-root-requires Inv-loop μ-loop
-root-requires c κs = omega (arith, c .if1 .taken, c .before .before .before .before .before .before .before .before .pre .0)
+root-requires c κs = omega (arith, c .if1 .taken, begun (c .before .before .before .before) .limits .0)
 
 begin-requires-2 : tie.Need-begin-requires-2 Inv-loop μ-loop
 begin-requires-2 c κs = tt
 
+-- what a turn asks of the search
+abbrev turn : tie.After-begin2 Inv-loop μ-loop → Turn
+turn c =
+    let at-loop = c .before .before .before .before .before in
+    record {
+      begun = begun (at-loop .before);
+      words = at-loop .loop .words;
+      whole = at-loop .loop .completed;
+      s = at-loop .loop .s;
+      going = at-loop .loop .inv;
+      more = c .before .before .if1 .taken;
+      root = c .before .root .result;
+      root-is = c .before .root .ensures;
+      t = c .begin2 .result;
+      begins = c .begin2 .ensures;
+    }
+
 minimax-requires : tie.Need-minimax-requires Inv-loop μ-loop
-minimax-requires c κs =
-    let at-begin2 = c .before in
-    let at-root = at-begin2 .before in
-    let at-if1 = at-root .before in
-    let at-place = at-if1 .before .before in
-    let at-place-2 = at-place .before in
-    let at-begin = at-place-2 .before in
-    let at-none = at-begin .before in
-    let at-new = at-none .before in
-    let at-place-3 = at-new .before .before in
-    let start = at-place-3 in
-    let turn = at-place-2 in (
-      root-asked (start .args .game) (start .args .config) (now (start .args .words)) (at-place
-          .before .before .before .none .result) (at-begin .begin .result) (turn .loop
-          .words) (turn .loop .completed) (turn .loop .s) (turn .loop .inv) (start .pre .0) (start .pre .1) (at-if1 .if1
-          .taken) (at-new .new .result) (at-if1
-          .before .before .before .before .before .before .new .ensures) (at-root .root .result) (at-root .root
-          .ensures) (at-begin2 .begin2 .result) (at-begin2 .begin2 .ensures),
-      root-counted (start .args .game) (start .args .config) (now
-          (start .args .words)) (at-none .none .result) (at-root
-          .before .before .before .before .before .begin .result) (turn .loop .words) (turn .loop .completed) (turn .loop .s) (turn .loop
-          .inv) (start .pre .0) (start .pre .1) (at-if1 .if1 .taken) (at-place
-          .before .before .before .before .new .result) (at-new .new
-          .ensures) (at-root .root .result) (at-root .root .ensures) (at-begin2 .begin2 .result) (at-begin2 .begin2
-          .ensures),
-    )
+minimax-requires c κs = let x = turn (c .before) in (root-asked x, root-counted x)
 
 report-requires : tie.Need-report-requires Inv-loop μ-loop
-report-requires c κs = c .before .before .before .before .before .before .before .before .before .before .loop .inv .empty
+report-requires c κs = turn (c .before .before .before .before .before) .going .empty
 
 same-length : tie.Need-same-length Inv-loop μ-loop
 same-length c =
-    let turn = c .before .before .before .before .before .before .before .before .before .before .before in
-    c .before .before .before .before .minimax .kept .1 .1 .1 .0 ∙ turn .loop .inv .long
+    let at-minimax = c .before .before .before .before in
+    at-minimax .minimax .kept .1 .1 .1 .0 ∙ turn (at-minimax .before .before) .going .long
+
+-- what is reported of an answer
+abbrev reports : Begun → SearchAnswer → Reported
+reports b a = report (structs (scoring-of (b .c))) (b .g) a
 
 returns : tie.Need-returns Inv-loop μ-loop
 returns c =
     let at-minimax = c .before .before .before .before in
-    let at-place = at-minimax .before in
-    let at-begin2 = at-place .before in
-    let at-root = at-begin2 .before in
-    let at-place-2 = at-root .before in
-    let at-place-3 = at-place-2 .before in
-    let at-place-4 = at-place-3 .before .before in
-    let at-place-5 = at-place-4 .before .before .before .before .before in
-    let start = at-place-5 in
-    let turn = at-place-4 in
-    c .report .ensures (scoring-of (start .args .config)) (start .args .game) _ ∙ ap (report (structs (scoring-of (start .args
-    .config))) (start .args .game)) (going-stopped (start .args .game) (start .args .config) (now (start .args .words)) (c .before
-    .before .before .before .before .before .before .before .before .before .before .before .before .none .result) (c .before
-    .before .before .before .before .before .before .before .before .before .before .before .begin .result) (turn .loop .words)
-    (turn .loop .completed) (turn .loop .s) (turn .loop .inv) (start .pre .0) (start .pre .1) (at-minimax
-    .before .before .before .before .if1 .taken) (at-place-3
-    .before .before .before .before .before .new .result) (at-place-2
-    .before .before .before .before .before .before .new .ensures) (at-root .root
-    .result) (at-root .root .ensures) (at-place
-    .before .begin2 .result) (at-begin2 .begin2 .ensures) (c .before .before .before
-    .before .minimax .result) (at-minimax .minimax .last .1 .1 .1 .0) (at-minimax
-    .minimax .ensures) (at-minimax .minimax .kept .1 .1 .1 .0) (c .before .if2 .taken) ∙ going-all (start
-    .args .self) (start .args .game) (start .args .config) (now (start .args .words)) (at-place
-    .before .before .before .before .before .before .before .before .none .result) (at-place
-    .before .before .before .before .before .before .before .begin .result) (at-begin2
-    .before .before .before .before .before .before .before .none .ensures) (at-begin2
-    .before .before .before .before .before .before .begin .ensures))
+    let x = turn (at-minimax .before .before) in
+    c .report .ensures (scoring-of (x .begun .c)) (x .begun .g) _
+    ∙ ap (reports (x .begun))
+    (going-stopped x (at-minimax .minimax .ensures) (at-minimax .minimax .kept .1 .1 .1 .0) (c .before .if2 .taken))
 
 deeper-requires : tie.Need-deeper-requires Inv-loop μ-loop
 deeper-requires c κs =
     let at-minimax = c .before .before .before in
-    let at-begin2 = at-minimax .before .before in
-    let at-root = at-begin2 .before in
-    let at-if1 = at-root .before in
-    let at-place = at-if1 .before .before .before in
-    let at-place-2 = at-place .before .before .before .before .before in
-    let start = at-place-2 in
-    let turn = at-place in (
-      omega (arith, at-if1 .if1 .taken, start .pre .0),
-      turn .loop .inv .empty,
-      line-kept (start .args .game) (start .args .config) (now (start .args .words)) (at-begin2
-          .before .before .before .before .before .before .before .none .result) (at-root
-          .before .before .before .before .before .begin .result) (turn .loop .words) (turn .loop .completed) (turn .loop .s) (turn .loop
-          .inv) (start .pre .0) (start .pre .1) (at-if1 .if1 .taken) (c .before
-          .before .before .before .before .before .before .before .before .before .before .before .before .new .result) (c .before
-          .before .before .before .before .before .before .before .before .before .before .before .before .new .ensures) (c .before
-          .before .before .before .before .before .root .result) (at-root .root .ensures) (c
-          .before .before .before .before .before .begin2 .result) (at-begin2 .begin2 .ensures) (c
-          .before .before .before .minimax .result) (at-minimax .minimax .last .1 .1 .1 .0) (at-minimax
-          .minimax .ensures) (at-minimax .minimax .kept .1 .1 .1 .0) (c .if2 .left),
+    let x = turn (at-minimax .before .before) in (
+      omega (arith, x .more, x .begun .limits .0),
+      x .going .empty,
+      line-kept x (at-minimax .minimax .ensures) (at-minimax .minimax .kept .1 .1 .1 .0) (c .if2 .left),
     )
 
 is-decided-requires : tie.Need-is-decided-requires Inv-loop μ-loop
@@ -140,83 +114,30 @@ report-requires-2 c κs = c .before .before .before .deeper .ensures .1
 
 same-length-2 : tie.Need-same-length-2 Inv-loop μ-loop
 same-length-2 c =
-    let turn = c .before .before .before .before .before .before .before .before .before .before .before .before .before .before .before in
-    c .before .before .before .before .before .before .before .before .minimax .kept .1 .1 .1 .0 ∙ turn .loop .inv .long
+    let at-minimax = c .before .before .before .before .before .before .before .before in
+    at-minimax .minimax .kept .1 .1 .1 .0 ∙ turn (at-minimax .before .before) .going .long
 
 returns-2 : tie.Need-returns-2 Inv-loop μ-loop
 returns-2 c =
-    let at-is-decided = c .before .before in
-    let at-deeper = at-is-decided .before .before in
-    let at-if2 = at-deeper .before in
-    let at-place = at-if2 .before in
-    let at-place-2 = at-place .before in
-    let at-minimax = at-place-2 .before in
-    let at-place-3 = at-minimax .before in
-    let at-place-4 = at-place-3 .before .before in
-    let at-place-5 = at-place-4 .before in
-    let at-place-6 = at-place-5 .before .before .before in
-    let at-place-7 = at-place-6 .before .before .before .before .before in
-    let start = at-place-7 in
-    let turn = at-place-6 in
-    c .report2 .ensures (scoring-of (start .args .config)) (start .args .game) _ ∙ ap (report (structs (scoring-of (start .args
-    .config))) (start .args .game)) (going-decided (start .args .game) (start .args .config) (now (start .args .words)) (c .before
-    .before .before .before .before .before .before .before .before .before .before .before .before .before .before .before
-    .before .none .result) (at-place-5
-    .before .before .before .before .begin .result) (turn .loop .words) (turn .loop .completed) (turn .loop .s) (turn .loop .inv)
-    (start .pre .0) (start .pre .1) (at-place-4
-    .before .if1 .taken) (at-place-5
-    .before .before .before .before .before .before .new .result) (at-place-2
-    .before .before .before .before .before .before .before .before .before .before .before .new .ensures) (at-is-decided
-    .before .before .before .before .before .before .before .before .before .root .result) (at-deeper
-    .before .before .before .before .before .before .before .root .ensures) (at-place
-    .before .before .before .before .begin2 .result) (at-place-3
-    .before .begin2 .ensures) (at-minimax .minimax .result) (c .before
-    .before .before .before .before .before .before .before .minimax .last .1 .1 .1 .0) (at-if2
-    .before .before .before .minimax .ensures) (at-minimax .minimax .kept
-    .1 .1 .1 .0) (at-if2 .if2 .left) (at-deeper .deeper .result) (c
-    .before .before .before .before .deeper .ensures) _ (at-is-decided .is-decided .ensures) (c .before .if3 .taken) ∙
-    going-all (start .args .self) (start .args .game) (start .args .config) (now (start .args .words)) (at-is-decided .before
-    .before .before .before .before .before .before .before .before .before .before .before .before .before .before .none .result)
-    (at-place-6
-    .before .begin .result) (at-place-5
-    .before .before .before .before .before .none .ensures) (at-minimax
-    .before .before .before .before .before .before .before .before .begin .ensures))
+    let at-deeper = c .before .before .before .before in
+    let at-minimax = at-deeper .before .before .before .before in
+    let x = turn (at-minimax .before .before) in
+    c .report2 .ensures (scoring-of (x .begun .c)) (x .begun .g) _
+    ∙ ap (reports (x .begun)) (going-decided x (at-minimax .minimax .ensures) (at-minimax .minimax .kept .1 .1 .1 .0)
+    (at-deeper .before .if2 .left) (at-deeper .deeper .ensures) (c .before .before .is-decided .ensures) (c .before .if3 .taken))
 
 loop-less : tie.Need-loop-less Inv-loop μ-loop
 loop-less c =
-    let e = ap (λ (w : Completed). w .depth) (c .before .before .before .deeper .ensures .0) in omega (
-      arith,
-      c .before .before
-          .before .before .before .before .before .before .before .before .before .if1 .taken,
-    )
+    let at-deeper = c .before .before .before in
+    let e = ap (λ (w : Completed). w .depth) (at-deeper .deeper .ensures .0) in
+    omega (arith, turn (at-deeper .before .before .before .before .before .before) .more)
 
 loop-again : tie.Need-loop-again Inv-loop μ-loop
 loop-again c =
-    let at-is-decided = c .before in
-    let at-deeper = at-is-decided .before .before in
-    let at-place = at-deeper .before .before in
-    let at-place-2 = at-place .before in
-    let at-minimax = at-place-2 .before in
-    let at-root = at-minimax .before .before .before in
-    let at-place-3 = at-root .before .before .before .before in
-    let at-place-4 = at-place-3 .before .before .before .before .before in
-    let start = at-place-4 in
-    let turn = at-place-3 in
-    going-on (start .args .game) (start .args .config) (now (start .args .words)) (at-place
-    .before .before .before .before .before .before .before .before .before .before .before .none .result) (at-is-decided .before
-    .before .before .before .before .before .before .before .before .before .before .before .before .before .begin .result) (turn
-    .loop .words) (turn .loop .completed) (turn .loop .s) (turn .loop .inv) (start .pre .0) (start .pre .1) (at-deeper
-    .before .before .before .before .before .before .before .before .if1 .taken) (at-place
-    .before .before .before .before .before .before .before .before .before .before .before .before .new .result) (at-is-decided
-    .before .before .before .before .before .before .before .before .before .before .before .before .before .before .before
-    .before .new .ensures) (at-root .root .result) (c
-    .before .before .before .before .before .before .before .before .before .before .root .ensures) (at-deeper
-    .before .before .before .before .before .before .begin2 .result) (at-minimax
-    .before .before .begin2 .ensures) (at-minimax .minimax .result) (at-is-decided
-    .before .before .before .before .before .before .minimax .last .1 .1 .1 .0) (at-place-2
-    .before .minimax .ensures) (at-minimax .minimax .kept .1 .1 .1 .0) (at-is-decided
-    .before .before .before .if2 .left) (at-deeper .deeper .result) (at-deeper .deeper .ensures) _
-    (at-is-decided .is-decided .ensures) (c .if3 .left)
+    let at-deeper = c .before .before .before in
+    let at-minimax = at-deeper .before .before .before .before in
+    going-on (turn (at-minimax .before .before)) (at-minimax .minimax .ensures) (at-minimax .minimax .kept .1 .1 .1 .0)
+    (at-deeper .before .if2 .left) (at-deeper .deeper .ensures) (c .before .is-decided .ensures) (c .if3 .left)
 
 report-requires-3 : tie.Need-report-requires-3 Inv-loop μ-loop
 report-requires-3 c κs = c .before .before .before .loop .inv .empty
@@ -226,18 +147,9 @@ same-length-3 c = c .before .before .before .before .loop .inv .long
 
 returns-3 : tie.Need-returns-3 Inv-loop μ-loop
 returns-3 c =
-    let at-begin = c .before .before .before .before .before in
-    let at-none = at-begin .before in
-    let at-place = at-none .before .before .before in
-    let start = at-place in
-    let turn = c .before .before .before .before in
-    c .report3 .ensures (scoring-of (start .args .config)) (start .args .game) _ ∙ ap (report (structs (scoring-of (start .args
-    .config))) (start .args .game)) (going-done (start .args .game) (start .args .config) (now (start .args .words)) (c .before
-    .before .before .before .before .before .none .result) (at-begin .begin .result) (turn .loop
-    .words) (turn .loop .completed) (turn .loop .s) (turn .loop .inv) (c .before .if1 .left) ∙ going-all (start .args .self) (start
-    .args .game) (start .args .config) (now (start .args .words)) (at-none .none
-    .result) (at-begin .begin .result) (at-none .none
-    .ensures) (at-begin .begin .ensures))
+    let at-loop = c .before .before .before .before in
+    let b = begun (at-loop .before) in
+    c .report3 .ensures (scoring-of (b .c)) (b .g) _ ∙ ap (reports b) (going-done b (at-loop .loop .inv) (c .before .if1 .left))
 
 pub deepen-spec : {M : Type 1} → statement M
 deepen-spec =

@@ -32,8 +32,10 @@ returns c =
     let child = start .args .child in
     let x = minus-reads _ (start .pre .1) in
     let y = minus-reads _ (start .pre .2) in
-    let v = called .after .ensures ∙ ap (λ (b : ℕ). set (a .values .boards) b (board-value (position-of (child .game)) b))
-    (called .before .global .ensures) in
+    let v = called .after .ensures ∙ ap (λ (b : ℕ). record {
+      boards = set (a .values .boards) b (board-value (a .values .weights) (position-of (child .game)) b);
+      weights = a .values .weights;
+    }) (called .before .global .ensures) in
     λ i. record {
       game = child .game;
       depth = a .depth - 1;
@@ -42,7 +44,7 @@ returns c =
       prev = child .m;
       «draw_winner» = a .«draw_winner»;
       allowance = a .allowance;
-      values = record { boards = v i };
+      values = v i;
     }
 
 pub below-spec : {M : Type 1} → statement M
