@@ -5,7 +5,7 @@
 //!        bench one ENGINE NAME DEPTH ENTRIES     one search, for a count of its instructions; ENGINE is rust or proved
 use engine::game::notation;
 use engine::minimax::{probe, Minimax};
-use proved::{Memory, Position, Settings};
+use proved::{Memory, Position, Settings, Weights};
 
 const EMPTY: &str = "X;.........;........./........./........./........./........./........./........./........./.........";
 // after 12, 24 and 36 moves played at random
@@ -54,7 +54,7 @@ pub extern "C" fn search_rust(minimax: &mut Minimax, game: &engine::game::Game, 
 #[no_mangle]
 #[inline(never)]
 pub extern "C" fn search_proved(memory: &mut Memory, position: &Position, depth: u64, said: &mut Said) {
-    let settings = Settings { depth, allowance: 1_000_000_000, draw_winner: None };
+    let settings = Settings { depth, allowance: 1_000_000_000, draw_winner: None, weights: Weights::default() };
     let report = proved::analyze(position, &[], settings, memory);
     assert_eq!(report.number, 0);
     *said = (report.count, report.score);

@@ -5,8 +5,9 @@
  *
  * Asked wrongly (a slice too short, words that are no position, a draw winner over 2) a call returns ULTIMATTT_BAD_ARGUMENT and changes
  * nothing; ultimattt_answer alone returns a length in any case. The other numbers are those of the refusals: 1 to 6 of a text, 9 to 13
- * of a move, 14 of the endgame analysis, 15 to 18 of the search. 15: the depth is 0 or over 81. 16: the allowance is 0 or over
- * 1,000,000,000. 17: the words are no table. 18: the allowance was spent before depth 1 was whole.
+ * of a move, 14 of the endgame analysis, 15 to 18 and 20 of the search, 20 of the evaluation. 15: the depth is 0 or over 81. 16: the
+ * allowance is 0 or over 1,000,000,000. 17: the words are no table. 20: a weight is over 1,000. 18: the allowance was spent before depth 1
+ * was whole. The search tests them in this order.
  *
  * Nothing is kept between calls, so threads may call at once, each with slices of its own. ultimattt_answer and ultimattt_analyze use
  * up to 400 KB of the caller's stack; with less the process may end.
@@ -36,6 +37,23 @@ extern "C" {
 
 #define ULTIMATTT_TEXT 101
 #define ULTIMATTT_RESPONSES 512
+
+/* Settings: six words, of which the last three are the weights. */
+#define ULTIMATTT_SETTINGS 6
+enum {
+    ULTIMATTT_SETTINGS_DEPTH = 0,       /* 1 to 81 */
+    ULTIMATTT_SETTINGS_ALLOWANCE = 1,   /* positions that may be entered, 1 to 1,000,000,000 */
+    ULTIMATTT_SETTINGS_DRAW_WINNER = 2, /* for whom a drawn game counts as won: 0 nobody, 1 X, 2 O */
+    ULTIMATTT_SETTINGS_WEIGHTS = 3
+};
+
+/* What the evaluation gives, each 0 to 1,000; the defaults are 1, 3 and 20. */
+#define ULTIMATTT_WEIGHTS 3
+enum {
+    ULTIMATTT_WEIGHTS_ONE = 0,  /* for one place of a board's line */
+    ULTIMATTT_WEIGHTS_TWO = 1,  /* for two places */
+    ULTIMATTT_WEIGHTS_BOARD = 2 /* for a won board, in each overall line */
+};
 
 /* A report: seven words, then 81 moves, then seven words for each of 81 depths. Places after the last whole depth are empty: no move,
  * zeros. Moves of the line after one that ends the game say nothing, and with the table on it may hold moves left over from other lines.
@@ -84,14 +102,19 @@ uint64_t ultimattt_render(const uint64_t *position, size_t position_len, uint8_t
 uint64_t ultimattt_play(uint64_t *position, size_t position_len, const uint8_t *moves, size_t moves_len, uint8_t *answers,
                         size_t answers_len);
 
-/* Tries moves from a position, then searches and analyses the position reached. depth: 1 to 81; allowance: positions that may be
- * entered, 1 to 1,000,000,000; draw_winner: for whom a drawn game counts as won, 0 nobody, 1 X, 2 O. responses: 512 of them, to X's
- * moves and then to O's, each at the move that it responds to; 0xff for none. words: the table, three words an entry, at first zeros;
- * empty, the table is off. A number of words that is no multiple of 3, or over 196,608, is 17. responses and words are as the search
- * left them. 14, which the endgame analysis alone gives, is in the report. Returns the report's number: 0, or 15 to 18. */
-uint64_t ultimattt_analyze(const uint64_t *position, size_t position_len, const uint8_t *moves, size_t moves_len, uint64_t depth,
-                           uint64_t allowance, uint64_t draw_winner, uint8_t *responses, size_t responses_len, uint64_t *words,
-                           size_t words_len, uint64_t *report, size_t report_len);
+/* Tries moves from a position, then searches and analyses the position reached. responses: 512 of them, to X's moves and then to O's,
+ * each at the move that it responds to; 0xff for none. words: the table, three words an entry, at first zeros; empty, the table is off.
+ * A number of words that is no multiple of 3, or over 196,608, is 17. responses and words are as the search left them; what other weights
+ * have left in them is taken as it is. 14, which the endgame analysis alone gives, is in the report. Returns the report's number: 0, or 15
+ * to 18 or 20. */
+uint64_t ultimattt_analyze(const uint64_t *position, size_t position_len, const uint8_t *moves, size_t moves_len, const uint64_t *settings,
+                           size_t settings_len, uint8_t *responses, size_t responses_len, uint64_t *words, size_t words_len,
+                           uint64_t *report, size_t report_len);
+
+/* The evaluation of a position for the side to move, by three weights, in two's complement: 2^60 for a game that is won or counts as won,
+ * -2^60 for the opposite. Returns 0, or 20 with a score of 0. */
+uint64_t ultimattt_evaluate(const uint64_t *position, size_t position_len, uint64_t draw_winner, const uint64_t *weights,
+                            size_t weights_len, uint64_t *score, size_t score_len);
 
 #ifdef __cplusplus
 }

@@ -34,6 +34,13 @@ cp -pf "$texts"/lib/{game,endgame,table,prove}.rs "$out/engine/src/"
 cp -pf "$texts/lib/minimax.rs" "$texts/lib/game/notation.rs" "$out/engine/src/texts/"
 rm -rf "$out/engine_stop/src"
 cp -Rpf "$out/engine/src" "$out/engine_stop/src"
+# a stand-in with the three constants of the evaluation replaced by weights that a caller sets
+rm -rf "$out/engine_weights/src"
+cp -Rpf "$out/engine/src" "$out/engine_weights/src"
+sed -e 's/^const EVAL_PARTIAL_ONE: i64 = 1;$/const EVAL_PARTIAL_ONE: Weight = Weight(0);/' \
+    -e 's/^const EVAL_PARTIAL_TWO: i64 = 3;$/const EVAL_PARTIAL_TWO: Weight = Weight(1);/' \
+    -e 's/^const OVERALL_PARTIAL_WIN: i64 = 20;$/const OVERALL_PARTIAL_WIN: Weight = Weight(2);/' \
+    "$texts/lib/minimax.rs" | cat - "$here/parts/engine_weights/weights.rs" > "$out/engine_weights/src/texts/minimax.rs"
 cat > "$out/.cargo/config.toml" << END
 [source.crates-io]
 replace-with = "debian"

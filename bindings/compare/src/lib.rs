@@ -1,5 +1,6 @@
 //! Games and texts drawn at random, and what the Rust engine says of them in the library's terms.
 use engine::game::{notation, Game, GameState, Move, MoveError, Player};
+use proved::Stats;
 use std::panic::{catch_unwind, AssertUnwindSafe};
 
 /// Numbers from a seed (splitmix64).
@@ -98,6 +99,19 @@ pub fn words(g: &Game) -> [u64; 12] {
         },
         g.oracle_hash(),
     ]
+}
+
+/// The counts of one depth.
+pub fn stats(s: [i64; 7]) -> Stats {
+    Stats {
+        depth: s[0] as u64,
+        score: s[1],
+        visited: s[2] as u64,
+        terminal: s[3] as u64,
+        cuts: s[4] as u64,
+        tt_hit: s[5] as u64,
+        tt_suffice: s[6] as u64,
+    }
 }
 
 /// What the Rust reads: the words, or number and place of the refusal. Document 01 has 1 for more than 256 bytes, and 5 where the Rust panics.

@@ -1,9 +1,9 @@
 // The search and the endgame analysis: the proved engine and the Rust from the same memory.
-use compare::{legal, playout, Draw};
+use compare::{legal, playout, stats, Draw};
 use engine::endgame;
 use engine::game::{notation, Game, Player};
 use engine::minimax::{probe, Minimax};
-use proved::{Memory, Move, Position, Report, Settings, Stats};
+use proved::{Memory, Move, Position, Report, Settings, Stats, Weights};
 
 const TABLES: [usize; 4] = [0, 1, 7, 1000];
 
@@ -16,18 +16,6 @@ fn ours(side: Option<Player>) -> Option<proved::Player> {
         Player::X => proved::Player::X,
         Player::O => proved::Player::O,
     })
-}
-
-fn stats(s: [i64; 7]) -> Stats {
-    Stats {
-        depth: s[0] as u64,
-        score: s[1],
-        visited: s[2] as u64,
-        terminal: s[3] as u64,
-        cuts: s[4] as u64,
-        tt_hit: s[5] as u64,
-        tt_suffice: s[6] as u64,
-    }
 }
 
 /// A position reached by moves, and the moves from there on, refused ones among them, with the Rust's game at their end.
@@ -61,7 +49,7 @@ fn chains_of_searches_are_the_same() {
         for _ in 0..1 + draw.below(5) {
             let (position, moves, game) = drawn(&mut draw);
             let depth = 1 + draw.below(if legal(&game).len() > 20 { 3 } else { 5 });
-            let settings = Settings { depth: depth as u64, allowance: 1_000_000_000, draw_winner: ours(side) };
+            let settings = Settings { depth: depth as u64, allowance: 1_000_000_000, draw_winner: ours(side), weights: Weights::default() };
             let report = proved::analyze(&position, &moves, settings, &mut memory);
             probe::set_depth(&mut rust, Some(depth as i64));
             let (line, counted) = rust.analyze(&game);
@@ -103,7 +91,7 @@ fn stopped_searches_are_the_same() {
         let allowance = 1 + draw.next() % draw.one_of(&[10, 100, 3000, 100_000]);
         let side = a_side(&mut draw);
         let mut memory = Memory::new(entries);
-        let settings = Settings { depth: depth as u64, allowance, draw_winner: ours(side) };
+        let settings = Settings { depth: depth as u64, allowance, draw_winner: ours(side), weights: Weights::default() };
         let report = proved::analyze(&position, &moves, settings, &mut memory);
         let st_side = side.map(|p| match p {
             Player::X => StPlayer::X,

@@ -1,4 +1,4 @@
-//! A safe wrapper of the proved engine. The `unsafe` blocks are the six calls of the library, each with pointers and lengths of slices.
+//! A safe wrapper of the proved engine. The `unsafe` blocks are the seven calls of the library, each with pointers and lengths of slices.
 
 mod calls {
     extern "C" {
@@ -19,15 +19,23 @@ mod calls {
             position_len: usize,
             moves: *const u8,
             moves_len: usize,
-            depth: u64,
-            allowance: u64,
-            draw_winner: u64,
+            settings: *const u64,
+            settings_len: usize,
             responses: *mut u8,
             responses_len: usize,
             words: *mut u64,
             words_len: usize,
             report: *mut u64,
             report_len: usize,
+        ) -> u64;
+        pub fn ultimattt_evaluate(
+            position: *const u64,
+            position_len: usize,
+            draw_winner: u64,
+            weights: *const u64,
+            weights_len: usize,
+            score: *mut u64,
+            score_len: usize,
         ) -> u64;
     }
 }
@@ -175,6 +183,53 @@ impl Default for Position {
     }
 }
 
+/// What the evaluation gives for one place of a board's line, for two places, and for a won board, each 0 to 1,000.
+#[derive(Clone, Copy, Debug, PartialEq, Eq)]
+pub struct Weights {
+    pub one: u64,
+    pub two: u64,
+    pub board: u64,
+}
+
+impl Weights {
+    fn words(&self) -> [u64; 3] {
+        [self.one, self.two, self.board]
+    }
+}
+
+impl Default for Weights {
+    fn default() -> Weights {
+        Weights { one: 1, two: 3, board: 20 }
+    }
+}
+
+fn draw_word(draw_winner: Option<Player>) -> u64 {
+    match draw_winner {
+        None => 0,
+        Some(Player::X) => 1,
+        Some(Player::O) => 2,
+    }
+}
+
+/// The evaluation of a position for the side to move, or 20.
+pub fn evaluate(position: &Position, draw_winner: Option<Player>, weights: Weights) -> Result<i64, u64> {
+    let weights = weights.words();
+    let mut score = [0; 1];
+    let number = unsafe {
+        calls::ultimattt_evaluate(
+            position.words.as_ptr(),
+            position.words.len(),
+            draw_word(draw_winner),
+            weights.as_ptr(),
+            weights.len(),
+            score.as_mut_ptr(),
+            score.len(),
+        )
+    };
+    assert_ne!(number, BAD_ARGUMENT);
+    if number == 0 { Ok(score[0] as i64) } else { Err(number) }
+}
+
 /// What is asked of a search.
 #[derive(Clone, Copy, Debug, PartialEq, Eq)]
 pub struct Settings {
@@ -184,6 +239,14 @@ pub struct Settings {
     pub allowance: u64,
     /// for whom a drawn game counts as won
     pub draw_winner: Option<Player>,
+    pub weights: Weights,
+}
+
+impl Settings {
+    fn words(&self) -> [u64; 6] {
+        let [one, two, board] = self.weights.words();
+        [self.depth, self.allowance, draw_word(self.draw_winner), one, two, board]
+    }
 }
 
 /// What a search keeps for the next: the responses to X's moves and to O's, and the table, three words an entry.
@@ -214,7 +277,7 @@ pub struct Stats {
 
 #[derive(Clone, Debug, PartialEq, Eq)]
 pub struct Report {
-    /// 0, or the search's refusal, 15 to 18
+    /// 0, or the search's refusal, 15 to 18 or 20
     pub number: u64,
     /// the allowance stopped the search
     pub stopped: bool,
@@ -267,11 +330,7 @@ fn report_of(words: &[u64; REPORT]) -> Report {
 /// of the thread's stack.
 pub fn analyze(position: &Position, moves: &[Move], settings: Settings, memory: &mut Memory) -> Report {
     let bytes: Vec<u8> = moves.iter().map(|m| m.0).collect();
-    let draw_winner = match settings.draw_winner {
-        None => 0,
-        Some(Player::X) => 1,
-        Some(Player::O) => 2,
-    };
+    let settings = settings.words();
     let mut report = [0; REPORT];
     let number = unsafe {
         calls::ultimattt_analyze(
@@ -279,9 +338,8 @@ pub fn analyze(position: &Position, moves: &[Move], settings: Settings, memory: 
             position.words.len(),
             bytes.as_ptr(),
             bytes.len(),
-            settings.depth,
-            settings.allowance,
-            draw_winner,
+            settings.as_ptr(),
+            settings.len(),
             memory.responses.as_mut_ptr(),
             memory.responses.len(),
             memory.words.as_mut_ptr(),
@@ -303,7 +361,9 @@ mod tests {
         unsafe { calls::ultimattt_read(text.as_ptr(), text.len(), position.as_mut_ptr(), position.len(), place.as_mut_ptr(), place.len()) }
     }
 
-    fn asked(draw_winner: u64, answers: &mut [u8], words: &mut [u64], report: &mut [u64]) -> u64 {
+    const SETTINGS: [u64; 6] = [1, 1000, 0, 1, 3, 20];
+
+    fn asked(settings: &[u64], answers: &mut [u8], words: &mut [u64], report: &mut [u64]) -> u64 {
         let p = Position::new().words;
         unsafe {
             calls::ultimattt_analyze(
@@ -311,9 +371,8 @@ mod tests {
                 p.len(),
                 [].as_ptr(),
                 0,
-                1,
-                1000,
-                draw_winner,
+                settings.as_ptr(),
+                settings.len(),
                 answers.as_mut_ptr(),
                 answers.len(),
                 words.as_mut_ptr(),
@@ -348,9 +407,13 @@ mod tests {
 
     #[test]
     fn wrongly_asked_searches_change_nothing() {
-        for (draw_winner, answers, report) in [(3, 512, REPORT), (0, 511, REPORT), (0, 512, REPORT - 1)] {
+        let wrong = [1, 1000, 3, 1, 3, 20];
+        let full = &SETTINGS[..];
+        for (settings, answers, report) in
+            [(&wrong[..], 512, REPORT), (&full[..5], 512, REPORT), (full, 511, REPORT), (full, 512, REPORT - 1)]
+        {
             let (mut answers, mut words, mut report) = (vec![7; answers], vec![0; 3], vec![7; report]);
-            assert_eq!(asked(draw_winner, &mut answers, &mut words, &mut report), BAD_ARGUMENT);
+            assert_eq!(asked(settings, &mut answers, &mut words, &mut report), BAD_ARGUMENT);
             assert!(answers.iter().all(|b| *b == 7) && words == [0; 3] && report.iter().all(|w| *w == 7));
         }
     }
@@ -361,7 +424,37 @@ mod tests {
         assert_eq!(read(b"X", &mut position, &mut place), 2);
         assert_eq!((&position[..12], &position[12..], place[2]), (&Position::new().words[..], &[7, 7][..], 7));
         let (mut answers, mut report) = (vec![0xff; 514], vec![7; REPORT + 2]);
-        assert_eq!(asked(2, &mut answers, &mut [], &mut report), 0);
+        assert_eq!(asked(&[1, 1000, 2, 1, 3, 20, 7], &mut answers, &mut [], &mut report), 0);
         assert_eq!((&answers[512..], &report[REPORT..], report[2], report[4]), (&[0xff, 0xff][..], &[7, 7][..], 1, 82));
+    }
+
+    fn valued(position: &[u64], draw_winner: u64, weights: &[u64], score: &mut [u64]) -> u64 {
+        unsafe {
+            calls::ultimattt_evaluate(
+                position.as_ptr(),
+                position.len(),
+                draw_winner,
+                weights.as_ptr(),
+                weights.len(),
+                score.as_mut_ptr(),
+                score.len(),
+            )
+        }
+    }
+
+    #[test]
+    fn evaluations_asked_wrongly_change_nothing() {
+        let p = Position::new().words;
+        let full = &[1, 3, 20][..];
+        for (position, draw_winner, weights) in [(&p[..11], 0, full), (&p[..], 3, full), (&p[..], 0, &full[..2])] {
+            let mut score = [7; 2];
+            assert_eq!((valued(position, draw_winner, weights, &mut score), score), (BAD_ARGUMENT, [7; 2]));
+        }
+        assert_eq!(valued(&p, 0, full, &mut []), BAD_ARGUMENT);
+        // refused is not asked wrongly: the score is 0, and the place after it is kept
+        let mut score = [7; 2];
+        assert_eq!((valued(&p, 0, &[1, 3, u64::MAX], &mut score), score), (20, [0, 7]));
+        let mut score = [7; 2];
+        assert_eq!((valued(&p, 2, &[1, 3, 20, 9999], &mut score), score), (0, [0, 7]));
     }
 }

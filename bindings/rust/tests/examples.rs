@@ -1,9 +1,11 @@
 // The examples of document 01, through the library.
-use ultimattt::{analyze, answer, GameState, Memory, Move, Player, Position, ReadError, Settings, FREE};
+use ultimattt::{analyze, answer, evaluate, GameState, Memory, Move, Player, Position, ReadError, Settings, Weights, FREE};
 
 const EMPTY: &str = "........./........./........./........./........./........./........./........./.........";
 
-const SETTINGS: Settings = Settings { depth: 1, allowance: 1_000_000, draw_winner: None };
+const WEIGHTS: Weights = Weights { one: 1, two: 3, board: 20 };
+
+const SETTINGS: Settings = Settings { depth: 1, allowance: 1_000_000, draw_winner: None, weights: WEIGHTS };
 
 fn start() -> String {
     format!("X;.........;{EMPTY}")
@@ -103,4 +105,29 @@ fn searches_are_refused() {
     assert_eq!(ask(Settings { allowance: 1_000_000_001, ..SETTINGS }, 0), (16, 0, false));
     assert_eq!(ask(SETTINGS, 65_537), (17, 0, false));
     assert_eq!(ask(Settings { allowance: 81, ..SETTINGS }, 0), (18, 81, true));
+    let heavy = Settings { weights: Weights { two: 1001, ..WEIGHTS }, ..SETTINGS };
+    assert_eq!(ask(heavy, 0), (20, 0, false));
+    // 17 comes before 20, and 20 before 18
+    assert_eq!(ask(heavy, 65_537), (17, 0, false));
+    assert_eq!(ask(Settings { allowance: 81, ..heavy }, 0), (20, 0, false));
+    // words that wrap to an accepted weight are refused too
+    assert_eq!(ask(Settings { weights: Weights { one: 65_537, ..WEIGHTS }, ..SETTINGS }, 0), (20, 0, false));
+}
+
+#[test]
+fn positions_are_evaluated_or_refused() {
+    assert_eq!(WEIGHTS, Weights::default());
+    let mut position = Position::new();
+    position.play(&[Move(0x44)]);
+    assert_eq!(evaluate(&position, None, WEIGHTS), Ok(-16));
+    assert_eq!(evaluate(&position, None, Weights { one: 1000, ..WEIGHTS }), Ok(-16_000));
+    // board 4's cells 0 and 1, and board 0
+    let two = "X;X........;........./........./........./........./XX......./........./........./........./.........";
+    let two = Position::read(two.as_bytes()).unwrap();
+    assert_eq!(evaluate(&two, None, Weights { one: 5, two: 70, board: 900 }), Ok(3040));
+    let over = Position::read(format!("O;XXX......;{EMPTY}").as_bytes()).unwrap();
+    assert_eq!(evaluate(&over, None, Weights { one: 0, two: 0, board: 0 }), Ok(-(1 << 60)));
+    for weights in [Weights { one: 1001, ..WEIGHTS }, Weights { two: 65_536, ..WEIGHTS }, Weights { board: u64::MAX, ..WEIGHTS }] {
+        assert_eq!((evaluate(&over, None, weights), evaluate(&two, None, weights)), (Err(20), Err(20)));
+    }
 }

@@ -1,20 +1,22 @@
 -- Each call, from what its parts give: asked wrongly it keeps all, asked rightly it leaves what was stored.
 use mathlib.Core.Path.{_≡_, refl, sym, ap, _∙_}
 use mathlib.Core.Bool.{Bool, true, false, _&&_}
-use mathlib.Core.List.{List, []}
+use mathlib.Core.List.{List, [], _∷_}
 use Prim.Native.Nat.{ℕ, _≤_, _<_, min}
 use native.Mathlib.Omega.{arith}
 use lib.Dec.{leb}
-use lib.ListN.{length, take, length-take}
+use lib.IntN.{ℤ}
+use lib.ListN.{length, getD, take, length-take}
 use lib.Seq.{sets}
 use borrow.Author.Tests.{le-leb, lt-leb}
 use Rattle.base.specs.Branch.{if_then_else_}
 use Rattle.rules.specs.declared.DrawWinner.{DrawWinner}
+use Rattle.rules.specs.declared.Weights.{Weights}
 use Rattle.rules.specs.Endgame.{analysis}
 use Rattle.rules.specs.Status.{as-byte}
-use Rattle.rules.specs.Evaluation.{Scoring, scoring-with}
-use Rattle.theory.specs.Memory.{Responses}
-use Rattle.theory.specs.Reported.{Reported, reported}
+use Rattle.rules.specs.Evaluation.{Evaluated, scoring-with, evaluated}
+use Rattle.theory.specs.Table.{to-word}
+use Rattle.theory.specs.Reported.{Reported}
 use Rattle.text.specs.Reading.{Reading, reads, refuses, text-refusal, read}
 use Rattle.text.specs.Writing.{text-of}
 use Rattle.text.proofs.Writing.{text-has-101-bytes}
@@ -27,11 +29,13 @@ use Rattle.notation.specs.declared.ParseAnswer.{ParseAnswer}
 use Rattle.notation.specs.declared.ParseAnswer.the-variants.{Accepted, Refused}
 use Rattle.notation.specs.declared.Parsed.{Parsed}
 use Rattle.notation.specs.Parsed.{parse-number, reading-of, game-for, Parses}
+use Rattle.evaluation.specs.declared.Evaluation.{Evaluation}
+use Rattle.evaluation.specs.Values.{evaluation-number, Evaluates}
 use Rattle.endgame.specs.declared.Analysis.{Analysis}
 use Rattle.endgame.specs.Means.{analysis-number, Analyses}
+use Rattle.minimax.specs.declared.Config.{Config}
 use Rattle.minimax.specs.declared.Minimax.{Minimax}
 use Rattle.minimax.specs.declared.Report.{Report}
-use Rattle.minimax.specs.Structs.{structs}
 use Rattle.minimax.specs.Report.{ending-number, report-of, reported-of, responses-of}
 use Rattle.answer_text.specs.declared.AnswerText.{AnswerText}
 use Rattle.program_line.specs.Answered.{answer-line, asked-text}
@@ -43,9 +47,12 @@ use Rattle.line_buffer.specs.declared.LineBuffer.{LineBuffer}
 use Rattle.interface.specs.Lent.{Puts}
 use Rattle.interface.specs.Position.{words-of, game-from, is-position}
 use Rattle.interface.specs.Calls.{Answers, Starts, read-place, ReadsPosition, Renders, PlaysAll}
-use Rattle.interface.specs.Calls.{draws-from, scoring-from, responses-from, responses-bytes, report-words, found, Analyzes}
+use Rattle.interface.specs.Calls.{responses-from, responses-bytes, report-words, analyze-ok, found, Analyzes}
+use Rattle.interface.specs.Calls.{evaluate-ok, valued, EvaluatesPosition}
+use Rattle.interface.specs.Settings.{draws-from, weights-from, settings-ok, held-weights, config-from}
 use Rattle.interface.proofs.LentPlaces.{left-written, left-kept, returned-bad, returned-well}
 use Rattle.interface.proofs.CallsPlay.{answers-length}
+use Rattle.interface.proofs.SettingsHeld.{held-evaluated, settings-reported}
 
 -- ---- tests joined
 both : (a b : Bool) → a ≡ true → b ≡ true → (a && b) ≡ true
@@ -192,19 +199,13 @@ module _ (p ms answers : List ℕ) where
       }
 
 -- ---- analyze
-module _ (p ms : List ℕ) (depth allowance draws : ℕ) (answers words report : List ℕ) where
-  abbrev ok : Bool
-  ok = is-position p && (leb draws 2 && (leb 512 (length answers) && leb 655 (length report)))
-
+module _ (p ms settings answers words report : List ℕ) where
   abbrev Here : List ℕ → List ℕ → List ℕ → ℕ → Type 0
-  Here = Analyzes p ms depth allowance draws answers words report
+  Here = Analyzes p ms settings answers words report
 
-  -- the game at the end of the moves, and a search of a game
+  -- the game at the end of the moves
   abbrev here : Game
   here = games-after (game-from p) ms
-
-  abbrev sought : Scoring → Game → Responses → Reported
-  sought sc g rs = reported (structs sc) (record { max-depth = depth; allowance = allowance }) g rs words
 
   kept-words : (t : List ℕ) (b : Bool) → b ≡ false → words ≡ (if b then (λ _. t) else λ _. words)
   unfolding if_then_else_
@@ -214,7 +215,7 @@ module _ (p ms : List ℕ) (depth allowance draws : ℕ) (answers words report :
   unfolding if_then_else_
   left-words m t b e q = q ∙ sym (ap (λ (x : Bool). if x then (λ _. t) else λ _. words) e)
 
-  wrongly : ok ≡ false → Here answers words report 255
+  wrongly : analyze-ok p ms settings answers words report ≡ false → Here answers words report 255
   wrongly bad =
       record {
         returns = returned-bad _ _ bad;
@@ -227,73 +228,110 @@ module _ (p ms : List ℕ) (depth allowance draws : ℕ) (answers words report :
   analyzes-none e = wrongly (first-no _ _ e)
 
   module _ (e : is-position p ≡ true) where
-    pub analyzes-no-draws : 2 < draws → Here answers words report 255
-    analyzes-no-draws h = wrongly (later-no _ _ e (first-no _ _ (lt-leb draws 2 h)))
+    pub analyzes-few-settings : length settings < 6 → Here answers words report 255
+    analyzes-few-settings h = wrongly (later-no _ _ e (first-no _ _ (first-no _ _ (lt-leb 6 (length settings) h))))
+
+    module _ (six : 6 ≤ length settings) where
+      pub analyzes-no-draws : 2 < getD settings 2 0 → Here answers words report 255
+      analyzes-no-draws h =
+          wrongly (later-no _ _ e (first-no _ _ (later-no _ _ (le-leb 6 (length settings) six) (lt-leb (getD settings 2 0) 2 h))))
+
+      module _ (d : getD settings 2 0 ≤ 2) where
+        settled : settings-ok settings ≡ true
+        settled = both _ _ (le-leb 6 (length settings) six) (le-leb (getD settings 2 0) 2 d)
+
+        pub analyzes-few-answers : length answers < 512 → Here answers words report 255
+        analyzes-few-answers h = wrongly (later-no _ _ e (later-no _ _ settled (first-no _ _ (lt-leb 512 (length answers) h))))
+
+        module _ (a : 512 ≤ length answers) where
+          pub analyzes-no-report : length report < 655 → Here answers words report 255
+          analyzes-no-report h = wrongly (later-no _ _ e (later-no _ _ settled
+              (later-no _ _ (le-leb 512 (length answers) a) (lt-leb 655 (length report) h))))
+
+          module _ (b : 655 ≤ length report) (g : Game) (g-is : g ≡ here) (c : Config) (c-is : c ≡ config-from settings) (m : Minimax)
+              (rs-is : responses-of (m .responses) ≡ responses-from answers)
+              (r : Report) (words-after : List ℕ) (r-is : report-of r words-after ≡ reported-of m g c words) where
+            abbrev x : Reported
+            x = found p ms settings answers words report
+
+            found-is : report-of r words-after ≡ x
+            found-is = cc (settings-reported settings m here words)
+
+            module _ (s : Analysis) (s-is : Analyses g s) where
+              abbrev number : ℕ
+              number = analysis-number (s .answer)
+
+              abbrev byte : ℕ
+              byte = s .proven .bits
+
+              number-is : number ≡ analysis (position-of here) .refusal
+              number-is = s-is .refusal ∙ ap (λ (k : Game). analysis (position-of k) .refusal) g-is
+
+              byte-is : byte ≡ as-byte (analysis (position-of here) .status)
+              byte-is = ap (λ (k : Status). k .bits) (s-is .status) ∙ ap (λ (k : Game). as-byte (analysis (position-of k) .status)) g-is
+
+              words-are : report-words (report-of r []) number byte ≡ report-words x (analysis (position-of here) .refusal)
+                  (as-byte (analysis (position-of here) .status))
+              words-are =
+                  ap (λ (k : Reported). report-words k number byte) found-is
+                  ∙ ap (λ (k : ℕ). report-words x k byte) number-is
+                  ∙ ap (report-words x (analysis (position-of here) .refusal)) byte-is
+
+              answers-are : responses-bytes (responses-of (r .state .responses)) ≡ responses-bytes (x .responses)
+              answers-are = ap (λ (k : Reported). responses-bytes (k .responses)) found-is
+
+              pub analyzes-well : (answers-after report-after : List ℕ) (n : ℕ)
+                  → Puts answers (responses-bytes (responses-of (r .state .responses))) 512 answers-after
+                  → Puts report (report-words (report-of r []) number byte) 655 report-after
+                  → n ≡ ending-number (r .ending) → Here answers-after words-after report-after n
+              analyzes-well answers-after report-after n u v y =
+                  let all = both _ _ e (both _ _ settled (both _ _ (le-leb 512 (length answers) a) (le-leb 655 (length report) b))) in
+                  record {
+                    returns = returned-well n (x .number) _ all (y ∙ ap (λ (k : Reported). k .number) found-is);
+                    responses-is =
+                        left-written (responses-bytes (x .responses)) answers answers-after _ all
+                        (omega (arith, sym (ap length answers-are) ∙ u .many)) (u .stored ∙ ap (sets answers 0) answers-are);
+                    words-is = left-words words-after (x .table) _ all (ap (λ (k : Reported). k .table) found-is);
+                    report-is =
+                        left-written _ report report-after _ all
+                        (omega (arith, sym (ap length words-are) ∙ v .many)) (v .stored ∙ ap (sets report 0) words-are);
+                  }
+
+-- ---- evaluate
+module _ (p : List ℕ) (draws : ℕ) (weights score : List ℕ) where
+  evaluates-wrongly : evaluate-ok p draws weights score ≡ false → EvaluatesPosition p draws weights score score 255
+  evaluates-wrongly bad = record { returns = returned-bad _ _ bad; score-is = left-kept _ score _ bad }
+
+  pub evaluates-none : is-position p ≡ false → EvaluatesPosition p draws weights score score 255
+  evaluates-none e = evaluates-wrongly (first-no _ _ e)
+
+  module _ (e : is-position p ≡ true) where
+    pub evaluates-no-draws : 2 < draws → EvaluatesPosition p draws weights score score 255
+    evaluates-no-draws h = evaluates-wrongly (later-no _ _ e (first-no _ _ (lt-leb draws 2 h)))
 
     module _ (d : draws ≤ 2) where
-      pub analyzes-few-answers : length answers < 512 → Here answers words report 255
-      analyzes-few-answers h = wrongly (later-no _ _ e (later-no _ _ (le-leb draws 2 d) (first-no _ _ (lt-leb 512 (length answers) h))))
+      pub evaluates-few-weights : length weights < 3 → EvaluatesPosition p draws weights score score 255
+      evaluates-few-weights h =
+          evaluates-wrongly (later-no _ _ e (later-no _ _ (le-leb draws 2 d) (first-no _ _ (lt-leb 3 (length weights) h))))
 
-      module _ (a : 512 ≤ length answers) where
-        pub analyzes-no-report : length report < 655 → Here answers words report 255
-        analyzes-no-report h = wrongly (later-no _ _ e (later-no _ _ (le-leb draws 2 d)
-            (later-no _ _ (le-leb 512 (length answers) a) (lt-leb 655 (length report) h))))
+      module _ (three : 3 ≤ length weights) where
+        pub evaluates-no-score : length score < 1 → EvaluatesPosition p draws weights score score 255
+        evaluates-no-score h = evaluates-wrongly (later-no _ _ e (later-no _ _ (le-leb draws 2 d)
+            (later-no _ _ (le-leb 3 (length weights) three) (lt-leb 1 (length score) h))))
 
-        module _ (b : 655 ≤ length report) (g : Game) (g-is : g ≡ here) (w : DrawWinner) (w-is : w ≡ draws-from draws) (m : Minimax)
-            (rs-is : responses-of (m .responses) ≡ responses-from answers)
-            (r : Report) (words-after : List ℕ)
-            (r-is : report-of r words-after
-            ≡ reported-of m g (record { «max_depth» = depth; allowance = allowance; «draw_winner» = w }) words) where
-          abbrev rs : Responses
-          rs = responses-of (m .responses)
+        module _ (one : 1 ≤ length score) (g : Game) (g-is : g ≡ game-from p) (w : DrawWinner) (w-is : w ≡ draws-from draws)
+            (v : Weights) (v-is : v ≡ held-weights (weights-from weights)) (r : Evaluation) (r-is : Evaluates (scoring-with w v) g r) where
+          value-is : evaluated (scoring-with w v) (position-of g) ≡ valued p draws weights score
+          value-is = cc (held-evaluated (draws-from draws) (weights-from weights) (position-of (game-from p)))
 
-          abbrev x : Reported
-          x = found p ms depth allowance draws answers words report
-
-          found-is : report-of r words-after ≡ x
-          found-is =
-              r-is
-              ∙ ap (λ (k : DrawWinner). sought (scoring-with k) g rs) w-is
-              ∙ ap (λ (k : Game). sought (scoring-from draws) k rs) g-is
-              ∙ ap (λ (k : Responses). sought (scoring-from draws) here k) rs-is
-
-          module _ (s : Analysis) (s-is : Analyses g s) where
-            abbrev number : ℕ
-            number = analysis-number (s .answer)
-
-            abbrev byte : ℕ
-            byte = s .proven .bits
-
-            number-is : number ≡ analysis (position-of here) .refusal
-            number-is = s-is .refusal ∙ ap (λ (k : Game). analysis (position-of k) .refusal) g-is
-
-            byte-is : byte ≡ as-byte (analysis (position-of here) .status)
-            byte-is = ap (λ (k : Status). k .bits) (s-is .status) ∙ ap (λ (k : Game). as-byte (analysis (position-of k) .status)) g-is
-
-            words-are : report-words (report-of r []) number byte ≡ report-words x (analysis (position-of here) .refusal)
-                (as-byte (analysis (position-of here) .status))
-            words-are =
-                ap (λ (k : Reported). report-words k number byte) found-is
-                ∙ ap (λ (k : ℕ). report-words x k byte) number-is
-                ∙ ap (report-words x (analysis (position-of here) .refusal)) byte-is
-
-            answers-are : responses-bytes (responses-of (r .state .responses)) ≡ responses-bytes (x .responses)
-            answers-are = ap (λ (k : Reported). responses-bytes (k .responses)) found-is
-
-            pub analyzes-well : (answers-after report-after : List ℕ) (n : ℕ)
-                → Puts answers (responses-bytes (responses-of (r .state .responses))) 512 answers-after
-                → Puts report (report-words (report-of r []) number byte) 655 report-after
-                → n ≡ ending-number (r .ending) → Here answers-after words-after report-after n
-            analyzes-well answers-after report-after n u v y =
-                let all = both _ _ e (both _ _ (le-leb draws 2 d) (both _ _ (le-leb 512 (length answers) a)
-                (le-leb 655 (length report) b))) in
-                record {
-                  returns = returned-well n (x .number) _ all (y ∙ ap (λ (k : Reported). k .number) found-is);
-                  responses-is =
-                      left-written (responses-bytes (x .responses)) answers answers-after _ all
-                      (omega (arith, sym (ap length answers-are) ∙ u .many)) (u .stored ∙ ap (sets answers 0) answers-are);
-                  words-is = left-words words-after (x .table) _ all (ap (λ (k : Reported). k .table) found-is);
-                  report-is =
-                      left-written _ report report-after _ all
-                      (omega (arith, sym (ap length words-are) ∙ v .many)) (v .stored ∙ ap (sets report 0) words-are);
-                }
+          pub evaluates-well : (score-after : List ℕ) (n : ℕ) → score-after ≡ sets score 0 (to-word (r .value) ∷ [])
+              → n ≡ evaluation-number (r .answer) → EvaluatesPosition p draws weights score score-after n
+          evaluates-well score-after n u y =
+              let all = both _ _ e (both _ _ (le-leb draws 2 d) (both _ _ (le-leb 3 (length weights) three)
+              (le-leb 1 (length score) one))) in
+              record {
+                returns = returned-well n _ _ all (y ∙ r-is .refusal ∙ ap (λ (k : Evaluated). k .refusal) value-is);
+                score-is =
+                    left-written (to-word (valued p draws weights score .value) ∷ []) score score-after _ all one
+                    (u ∙ ap (λ (z : ℤ). sets score 0 (to-word z ∷ [])) (r-is .value ∙ ap (λ (k : Evaluated). k .value) value-is));
+              }

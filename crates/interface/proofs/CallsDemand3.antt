@@ -3,16 +3,11 @@ use mathlib.Core.Path.{_≡_, sym, ap, _∙_}
 use mathlib.Core.Bool.{Bool}
 use mathlib.Core.List.{List, []}
 use Prim.Native.Nat.{ℕ}
-use Rattle.interface.proofs.CallsAfterPlay.{reached-is, reported-is}
-use Rattle.rules.specs.declared.DrawWinner.{DrawWinner}
 use Rattle.rules.specs.Position.{Position, start}
 use Rattle.rules.specs.Play.{reached}
 use Rattle.rules.specs.Status.{as-byte}
 use Rattle.rules.specs.Endgame.{analysis}
-use Rattle.rules.specs.Evaluation.{scoring-with}
-use Rattle.theory.specs.Memory.{Responses}
-use Rattle.theory.specs.Reported.{Reported, reported}
-use Rattle.rules_game.specs.RulesGame.{game}
+use Rattle.theory.specs.Reported.{Reported}
 use Rattle.status.specs.declared.Status.{Status}
 use Rattle.game.specs.Meaning.{position-of}
 use Rattle.game.specs.Built.{new-game}
@@ -25,32 +20,33 @@ use Rattle.demands.specs.declared.AfterMoves.{AfterMoves}
 use Rattle.demands.specs.Demand3.{Demand3}
 use Rattle.interface.specs.Lent.{left}
 use Rattle.interface.specs.Position.{game-from}
-use Rattle.interface.specs.Calls.{draws-from, responses-from, report-words, analyze-ok, found, Analyzes}
+use Rattle.interface.specs.Calls.{responses-from, report-words, analyze-ok, found, Analyzes}
+use Rattle.interface.specs.Settings.{config-from}
+use Rattle.interface.proofs.SettingsHeld.{settings-reported}
+use Rattle.interface.proofs.CallsAfterPlay.{played-reported, reached-is}
 
-module _ (p ms : List ℕ) (m : Minimax) (c : Config) (draws : ℕ) (answers report : List ℕ)
-    (new : game-from p ≡ new-game) (w-is : c .«draw_winner» ≡ draws-from draws)
+module _ (p ms settings answers report : List ℕ) (m : Minimax) (new : game-from p ≡ new-game)
     (rs-is : responses-of (m .responses) ≡ responses-from answers)
-    (r : AfterMoves) (r-is : Demand3 ms m c r) where
+    (r : AfterMoves) (r-is : Demand3 ms m (config-from settings) r) where
+  abbrev c : Config
+  c = config-from settings
+
   abbrev here : Position
   here = position-of (games-after (game-from p) ms)
 
-  abbrev rs : Responses
-  rs = responses-from answers
-
   abbrev ok : Bool
-  ok = analyze-ok p ms (c .«max_depth») (c .allowance) draws answers [] report
+  ok = analyze-ok p ms settings answers [] report
 
   here-is : here ≡ reached start ms
   unfolding games-after
-  here-is = reached-is p [] ms (c .«max_depth») (c .allowance) draws answers report new
+  here-is = reached-is p [] ms settings answers report new
 
-  found-is : found p ms (c .«max_depth») (c .allowance) draws answers [] report ≡ report-of (r .report) []
-  unfolding games-after
+  found-is : found p ms settings answers [] report ≡ report-of (r .report) []
   found-is =
-      reported-is p [] ms (c .«max_depth») (c .allowance) draws answers report new
-      ∙ ap (λ (k : DrawWinner). reported (game (scoring-with k)) (settings-of c) (reached start ms) rs []) (sym w-is)
-      ∙ ap (λ (k : Responses). reported (game (scoring-of c)) (settings-of c) (reached start ms) k []) (sym rs-is)
-      ∙ sym (r-is .report-is)
+      cc (
+        settings-reported settings m (games-after (game-from p) ms) [],
+        played-reported (scoring-of c) (settings-of c) ms (responses-of (m .responses)),
+      )
 
   number-is : analysis here .refusal ≡ analysis-number (r .analysis .answer)
   number-is = ap (λ (q : Position). analysis q .refusal) here-is ∙ sym (r-is .refusal-is)
@@ -60,7 +56,7 @@ module _ (p ms : List ℕ) (m : Minimax) (c : Config) (draws : ℕ) (answers rep
 
   -- word by word
   pub analyzed-after : (answers-after words-after report-after : List ℕ) (n : ℕ)
-      → Analyzes p ms (c .«max_depth») (c .allowance) draws answers [] report answers-after words-after report-after n
+      → Analyzes p ms settings answers [] report answers-after words-after report-after n
       → report-after ≡ left ok (report-words (report-of (r .report) []) (analysis-number (r .analysis .answer))
       (r .analysis .proven .bits)) report
   analyzed-after answers-after words-after report-after n a =

@@ -1,7 +1,7 @@
 -- A report's words stand where the header says: of every report, of what a call of ultimattt_analyze leaves, and of one whose words are
--- all written out; a position's words; and the other numbers that the header names or tells.
+-- all written out; the words of a position and of settings; and the other numbers that the header names or tells.
 use mathlib.Core.Path.{_≡_, refl, sym, ap, _∙_, subst}
-use mathlib.Core.Bool.{Bool, true}
+use mathlib.Core.Bool.{Bool, true, false}
 use mathlib.Core.List.{List, [], _∷_, _++_, append-assoc}
 use Prim.Native.Nat.{ℕ, zero, suc, _+_, _*_, _<_}
 use native.Mathlib.Omega.{arith}
@@ -9,6 +9,9 @@ use lib.IntN.{pos, negsuc}
 use lib.ListN.{length, getD, drop, replicate, List·getD-append}
 use lib.Seq.{drop-append-add, getD-append-add}
 use Rattle.base.specs.Branch.{if_then_else_}
+use Rattle.base.specs.Bits.{bit}
+use Rattle.base.specs.Integers.{sum}
+use Rattle.boards.specs.Packed.{cell-at, state-at}
 use Rattle.rules.specs.declared.Player.the-variants.{X, O}
 use Rattle.rules.specs.declared.DrawWinner.the-variants.{Nobody, Side}
 use Rattle.rules.specs.declared.NextBoard.the-variants.{Any, Only}
@@ -16,22 +19,27 @@ use Rattle.rules.specs.declared.GameState.the-variants.{Won}
 use Rattle.rules.specs.Position.{start}
 use Rattle.rules.specs.Play.{no-move}
 use Rattle.rules.specs.Status.{as-byte}
+use Rattle.rules.specs.Evaluation.{won, lost, accepted-weights, places-in, unless-both, board-line, board-score, overall-line, score}
+use Rattle.rules.specs.Evaluation.{evaluate, evaluated}
 use Rattle.rules.specs.Endgame.{analysis}
 use Rattle.text.specs.Reading.{refuses}
 use Rattle.text.specs.Writing.{text-of}
 use Rattle.text.proofs.Writing.{text-has-101-bytes}
 use Rattle.theory.specs.Memory.{Responses, counts, no-responses}
 use Rattle.theory.specs.Deepening.{Stats}
-use Rattle.theory.specs.Reported.{Settings, Reported, no-stats}
+use Rattle.theory.specs.Reported.{Reported, no-stats}
 use Rattle.theory.proofs.ReportedPlaces.{reported-places}
 use Rattle.game.specs.declared.Game.{Game}
 use Rattle.game.specs.Meaning.{position-of}
 use Rattle.minimax.specs.Structs.{structs}
 use Rattle.interface.specs.Lent.{bad-argument, left}
-use Rattle.interface.specs.Position.{next-board-word, words-of}
-use Rattle.interface.specs.Calls.{read-place, draws-from, scoring-from, responses-from, responses-bytes, stats-words, all-stats}
-use Rattle.interface.specs.Calls.{head-words, report-words, analyze-ok, analysed, found, Analyzes}
+use Rattle.interface.specs.Position.{next-board-word, words-of, game-from, all-within}
+use Rattle.interface.specs.Calls.{read-place, responses-from, responses-bytes, stats-words, all-stats}
+use Rattle.interface.specs.Calls.{head-words, report-words, analyze-ok, analysed, found, Analyzes, evaluate-ok, valued}
+use Rattle.interface.specs.Settings.{draws-from, weights-from, settings-from, scoring-from, settings-ok}
 use Rattle.interface.specs.Header.{BAD-ARGUMENT, POSITION, FREE, NO-MOVE, TEXT, RESPONSES, REPORT, STATS, STATS-WORDS}
+use Rattle.interface.specs.Header.{SETTINGS, SETTINGS-DEPTH, SETTINGS-ALLOWANCE, SETTINGS-DRAW-WINNER, SETTINGS-WEIGHTS}
+use Rattle.interface.specs.Header.{WEIGHTS, WEIGHTS-ONE, WEIGHTS-TWO, WEIGHTS-BOARD}
 use Rattle.interface.specs.Header.{StatsLayout, ReportLayout}
 
 -- ---- of every report, whatever follows it
@@ -87,12 +95,12 @@ module _ (x : Reported) (refusal status : ℕ) (rest : List ℕ) (moves : length
   })
 
 -- ---- of what a call leaves
-module _ (position moves : List ℕ) (depth allowance draws : ℕ) (responses words report : List ℕ) where
+module _ (position moves settings responses words report : List ℕ) where
   abbrev g : Game
-  g = analysed position moves depth allowance draws responses words report
+  g = analysed position moves settings responses words report
 
   abbrev x : Reported
-  x = found position moves depth allowance draws responses words report
+  x = found position moves settings responses words report
 
   abbrev refusal : ℕ
   refusal = analysis (position-of g) .refusal
@@ -102,13 +110,12 @@ module _ (position moves : List ℕ) (depth allowance draws : ℕ) (responses wo
 
   -- asked rightly: the search's report, and the endgame analysis by its number and its status byte
   pub report-laid-out : (responses-after words-after report-after : List ℕ) (r : ℕ) →
-      Analyzes position moves depth allowance draws responses words report responses-after words-after report-after r →
-      analyze-ok position moves depth allowance draws responses words report ≡ true → ReportLayout report-after x refusal status
+      Analyzes position moves settings responses words report responses-after words-after report-after r →
+      analyze-ok position moves settings responses words report ≡ true → ReportLayout report-after x refusal status
   unfolding left if_then_else_
   report-laid-out responses-after words-after report-after r a ok =
       let all = report-words x refusal status in
-      let settings : Settings = record { max-depth = depth; allowance = allowance } in
-      let long = reported-places (structs (scoring-from draws)) settings g (responses-from responses) words in
+      let long = reported-places (structs (scoring-from settings)) (settings-from settings) g (responses-from responses) words in
       subst (λ (ws : List ℕ). ReportLayout ws x refusal status) (sym (a .report-is ∙ ap (λ (b : Bool). left b all report) ok))
       (laid-out x refusal status (drop (length all) report) (long .0) (long .1))
 
@@ -154,12 +161,90 @@ pub sample-position-words : words-of sample-game
     ≡ 10 ∷ 11 ∷ 12 ∷ 13 ∷ 14 ∷ 15 ∷ 16 ∷ 17 ∷ 1 ∷ 8 ∷ 3 ∷ 18 ∷ []
 sample-position-words = refl
 
+-- ---- of settings, in which no two words are alike
+abbrev sample-settings : List ℕ
+sample-settings = 10 ∷ 11 ∷ 2 ∷ 13 ∷ 14 ∷ 15 ∷ []
+
+abbrev sample-weights : List ℕ
+sample-weights = 13 ∷ 14 ∷ 15 ∷ []
+
+-- depth, allowance, draw winner, and the weights of one place, of two, and of a won board; a word less, or another draw winner, is refused
+pub record SettingsLayout : Type 0 where
+  pub settings-are : settings-from sample-settings
+      ≡ record { max-depth = 10; allowance = 11; weights = record { one = 13; two = 14; board = 15 } }
+  pub scoring-is : scoring-from sample-settings ≡ record { draws = Side O; weights = record { one = 13; two = 14; board = 15 } }
+  pub depth-is : getD sample-settings SETTINGS-DEPTH 0 ≡ 10
+  pub allowance-is : getD sample-settings SETTINGS-ALLOWANCE 0 ≡ 11
+  pub draw-winner-is : getD sample-settings SETTINGS-DRAW-WINNER 0 ≡ 2
+  pub one-is : getD sample-settings (SETTINGS-WEIGHTS + WEIGHTS-ONE) 0 ≡ 13
+  pub two-is : getD sample-settings (SETTINGS-WEIGHTS + WEIGHTS-TWO) 0 ≡ 14
+  pub board-is : getD sample-settings (SETTINGS-WEIGHTS + WEIGHTS-BOARD) 0 ≡ 15
+  pub accepted : settings-ok sample-settings ≡ true
+  pub longer : settings-ok (10 ∷ 11 ∷ 2 ∷ 13 ∷ 14 ∷ 15 ∷ 16 ∷ []) ≡ true
+  pub too-few : settings-ok (10 ∷ 11 ∷ 2 ∷ 13 ∷ 14 ∷ []) ≡ false
+  pub other-draw-winner : settings-ok (10 ∷ 11 ∷ 3 ∷ 13 ∷ 14 ∷ 15 ∷ []) ≡ false
+  -- a weight is its word, whatever that holds
+  pub weights-are : weights-from (1001 ∷ 65537 ∷ 18446744073709551615 ∷ [])
+      ≡ record { one = 1001; two = 65537; board = 18446744073709551615 }
+  pub weight-one-is : getD sample-weights WEIGHTS-ONE 0 ≡ 13
+  pub weight-two-is : getD sample-weights WEIGHTS-TWO 0 ≡ 14
+  pub weight-board-is : getD sample-weights WEIGHTS-BOARD 0 ≡ 15
+  -- and of the evaluation's arguments
+  pub evaluate-accepted : evaluate-ok (words-of sample-game) 2 sample-weights (0 ∷ []) ≡ true
+  pub no-draw-winner : evaluate-ok (words-of sample-game) 3 sample-weights (0 ∷ []) ≡ false
+  pub too-few-weights : evaluate-ok (words-of sample-game) 2 (13 ∷ 14 ∷ []) (0 ∷ []) ≡ false
+  pub no-place : evaluate-ok (words-of sample-game) 2 sample-weights [] ≡ false
+
+pub sample-settings-are : SettingsLayout
+unfolding all-within
+sample-settings-are = record {
+  settings-are = refl;
+  scoring-is = refl;
+  depth-is = refl;
+  allowance-is = refl;
+  draw-winner-is = refl;
+  one-is = refl;
+  two-is = refl;
+  board-is = refl;
+  accepted = refl;
+  longer = refl;
+  too-few = refl;
+  other-draw-winner = refl;
+  weights-are = refl;
+  weight-one-is = refl;
+  weight-two-is = refl;
+  weight-board-is = refl;
+  evaluate-accepted = refl;
+  no-draw-winner = refl;
+  too-few-weights = refl;
+  no-place = refl;
+}
+
+-- ---- of an evaluation
+-- X has won board 0 and has cells 0 and 1 of board 4; a drawn game
+abbrev two-and-a-board : ℕ → List ℕ
+two-and-a-board turn = 0 ∷ 0 ∷ 1536 ∷ 0 ∷ 0 ∷ 0 ∷ 1 ∷ 0 ∷ turn ∷ 256 ∷ 0 ∷ 0 ∷ []
+
+abbrev drawn-words : List ℕ
+drawn-words = 0 ∷ 0 ∷ 0 ∷ 0 ∷ 0 ∷ 0 ∷ 0 ∷ 0 ∷ 0 ∷ 256 ∷ 1 ∷ 0 ∷ []
+
+pub sample-evaluations : let weights : List ℕ = 5 ∷ 70 ∷ 900 ∷ [] in
+    (valued (two-and-a-board 0) 0 weights [] ≡ record { refusal = 0; value = pos 3040 })
+    × (valued (two-and-a-board 1) 0 weights [] ≡ record { refusal = 0; value = negsuc 3039 })
+    × (valued drawn-words 0 weights [] ≡ record { refusal = 0; value = pos 0 })
+    × (valued drawn-words 1 weights [] ≡ record { refusal = 0; value = won })
+    × (valued drawn-words 2 weights [] ≡ record { refusal = 0; value = lost })
+unfolding game-from evaluated accepted-weights evaluate score board-score sum places-in unless-both board-line overall-line if_then_else_
+    cell-at state-at bit
+sample-evaluations = (refl, refl, refl, refl, refl)
+
 -- ---- the header's numbers are the definitions'
 pub header-numbers : (bad-argument ≡ BAD-ARGUMENT) × (length (words-of sample-game) ≡ POSITION) × (next-board-word Any ≡ FREE)
     × (no-move ≡ NO-MOVE) × (length (text-of start) ≡ TEXT) × (length (responses-bytes no-responses) ≡ RESPONSES)
+    × (length sample-settings ≡ SETTINGS) × (length (drop SETTINGS-WEIGHTS sample-settings) ≡ WEIGHTS)
     × (length (report-words sample 14 5) ≡ REPORT)
 unfolding all-stats
-header-numbers = (refl, refl, refl, refl, text-has-101-bytes start, refl, refl)
+header-numbers = (refl, refl, refl, refl, text-has-101-bytes start, refl, refl, refl, refl)
 
 -- ---- what the header tells of arguments
 -- for whom a drawn game counts as won

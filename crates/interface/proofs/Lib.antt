@@ -2,6 +2,7 @@ pub mod LentPlaces
 pub mod PositionWords
 pub mod CallsPlay
 pub mod CallsReport
+pub mod SettingsHeld
 pub mod Calls
 pub mod CallsDemand3
 pub mod CallsAfterPlay

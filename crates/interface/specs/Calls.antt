@@ -2,16 +2,13 @@
 use mathlib.Core.Path.{_≡_}
 use mathlib.Core.Bool.{Bool, cond, _&&_}
 use mathlib.Core.List.{List, [], _∷_, _++_}
-use Prim.Native.Nat.{ℕ, _-_}
-use lib.Dec.{eqb, leb}
+use Prim.Native.Nat.{ℕ}
+use lib.Dec.{leb}
 use lib.ListN.{length, take, drop}
 use Rattle.base.specs.Branch.{if_then_else_}
-use Rattle.rules.specs.declared.DrawWinner.{DrawWinner}
-use Rattle.rules.specs.declared.DrawWinner.the-variants.{Nobody, Side}
-use Rattle.rules.specs.Board.{side-from}
 use Rattle.rules.specs.Status.{as-byte}
 use Rattle.rules.specs.Endgame.{analysis}
-use Rattle.rules.specs.Evaluation.{Scoring, scoring-with}
+use Rattle.rules.specs.Evaluation.{Evaluated, scoring-with, evaluated}
 use Rattle.theory.specs.Table.{to-word}
 use Rattle.theory.specs.Memory.{Responses}
 use Rattle.theory.specs.Deepening.{Stats}
@@ -27,6 +24,7 @@ use Rattle.minimax.specs.Structs.{structs}
 use Rattle.program_line.specs.Answered.{answer-line}
 use Rattle.interface.specs.Lent.{returned, left}
 use Rattle.interface.specs.Position.{words-of, game-from, is-position}
+use Rattle.interface.specs.Settings.{draws-from, weights-from, settings-from, scoring-from, settings-ok}
 
 -- ---- ultimattt_answer: the program's answer to a line
 module _ (line out : List ℕ) where
@@ -73,13 +71,6 @@ module _ (position moves answers : List ℕ) where
     pub answers-is : answers-after ≡ left play-ok (answers-each (game-from position) moves) answers
 
 -- ---- ultimattt_analyze: endgame analysis and search after tried moves
--- 0 nobody, 1 X, 2 O
-abbrev pub draws-from : ℕ → DrawWinner
-draws-from n = cond (eqb n 0) Nobody (Side (side-from (n - 1)))
-
-abbrev pub scoring-from : ℕ → Scoring
-scoring-from n = scoring-with (draws-from n)
-
 -- the response tables as bytes: to X's moves, then to O's
 abbrev pub responses-from : List ℕ → Responses
 responses-from bytes = record { to-x = take 256 bytes; to-o = take 256 (drop 256 bytes) }
@@ -105,17 +96,15 @@ head-words x refusal status =
 abbrev pub report-words : Reported → ℕ → ℕ → List ℕ
 report-words x refusal status = head-words x refusal status ++ (x .pv ++ all-stats (x .stats))
 
-module _ (position moves : List ℕ) (depth allowance draws : ℕ) (responses words report : List ℕ) where
+module _ (position moves settings responses words report : List ℕ) where
   abbrev pub analyze-ok : Bool
-  analyze-ok = is-position position && (leb draws 2 && (leb 512 (length responses) && leb 655 (length report)))
+  analyze-ok = is-position position && (settings-ok settings && (leb 512 (length responses) && leb 655 (length report)))
 
   abbrev pub analysed : Game
   analysed = games-after (game-from position) moves
 
   abbrev pub found : Reported
-  found =
-      reported (structs (scoring-from draws)) (record { max-depth = depth; allowance = allowance }) analysed
-      (responses-from responses) words
+  found = reported (structs (scoring-from settings)) (settings-from settings) analysed (responses-from responses) words
 
   pub record Analyzes (responses-after words-after report-after : List ℕ) (r : ℕ) : Type 0 where
     pub returns : r ≡ returned analyze-ok (found .number)
@@ -124,3 +113,15 @@ module _ (position moves : List ℕ) (depth allowance draws : ℕ) (responses wo
     pub report-is :
         report-after ≡ left analyze-ok (report-words found (analysis (position-of analysed) .refusal)
         (as-byte (analysis (position-of analysed) .status))) report
+
+-- ---- ultimattt_evaluate: the evaluation alone
+module _ (position : List ℕ) (draws : ℕ) (weights score : List ℕ) where
+  abbrev pub evaluate-ok : Bool
+  evaluate-ok = is-position position && (leb draws 2 && (leb 3 (length weights) && leb 1 (length score)))
+
+  abbrev pub valued : Evaluated
+  valued = evaluated (scoring-with (draws-from draws) (weights-from weights)) (position-of (game-from position))
+
+  pub record EvaluatesPosition (score-after : List ℕ) (r : ℕ) : Type 0 where
+    pub returns : r ≡ returned evaluate-ok (valued .refusal)
+    pub score-is : score-after ≡ left evaluate-ok (to-word (valued .value) ∷ []) score

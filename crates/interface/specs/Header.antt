@@ -1,4 +1,4 @@
--- The numbers that bindings/c/ultimattt.h names: what a call returns, sizes, and the places of a report's words with what stands there.
+-- The numbers that bindings/c/ultimattt.h names: what a call returns, sizes, and the places of words with what stands there.
 use mathlib.Core.Path.{_≡_}
 use mathlib.Core.Bool.{cond}
 use mathlib.Core.List.{List}
@@ -27,10 +27,40 @@ TEXT = 101
 abbrev pub RESPONSES : ℕ
 RESPONSES = 512
 
+-- ---- the places of settings' words
+abbrev pub SETTINGS : ℕ
+SETTINGS = 6
+
+abbrev pub SETTINGS-DEPTH : ℕ
+SETTINGS-DEPTH = 0
+
+abbrev pub SETTINGS-ALLOWANCE : ℕ
+SETTINGS-ALLOWANCE = 1
+
+abbrev pub SETTINGS-DRAW-WINNER : ℕ
+SETTINGS-DRAW-WINNER = 2
+
+-- three weights
+abbrev pub SETTINGS-WEIGHTS : ℕ
+SETTINGS-WEIGHTS = 3
+
+-- ---- the places among the weights
+abbrev pub WEIGHTS : ℕ
+WEIGHTS = 3
+
+abbrev pub WEIGHTS-ONE : ℕ
+WEIGHTS-ONE = 0
+
+abbrev pub WEIGHTS-TWO : ℕ
+WEIGHTS-TWO = 1
+
+abbrev pub WEIGHTS-BOARD : ℕ
+WEIGHTS-BOARD = 2
+
+-- ---- the places of a report's words
 abbrev pub REPORT : ℕ
 REPORT = 655
 
--- ---- the places of a report's words
 abbrev pub NUMBER : ℕ
 NUMBER = 0
 

@@ -7,7 +7,7 @@ use lib.ListN.{length, drop}
 use lib.Seq.{sets}
 use Rattle.base.specs.Branch.{if_then_else_}
 
--- a slice is too short, words are no position, or a setting is none
+-- a slice is too short, words are no position, or a draw winner is over 2
 abbrev pub bad-argument : ℕ
 bad-argument = 255
 

@@ -3,14 +3,14 @@
 mod lent;
 mod position;
 mod report;
+mod settings;
 
-ghost use Rattle.interface.specs.Calls.{Answers, Starts, ReadsPosition, Renders, PlaysAll, Analyzes};
+ghost use Rattle.interface.specs.Calls.{Answers, Starts, ReadsPosition, Renders, PlaysAll, Analyzes, EvaluatesPosition};
 use endgame::Analysis;
 use game::Game;
 use line_buffer::LineBuffer;
-use minimax::Config;
 
-// A slice is too short, words are no position, or a setting is none. Document 01's numbers are below 32.
+// A slice is too short, words are no position, or a draw winner is over 2. Document 01's numbers are below 32.
 pub const BAD_ARGUMENT: u64 = 255;
 
 // The program's answer to a line without its line feed: how many bytes it has. They are written only if there is room for all.
@@ -90,28 +90,29 @@ pub extern "C" fn ultimattt_play(position: &mut [u64], moves: &[u8], answers: &m
     0
 }
 
-// The endgame analysis and the search, after moves tried from a position: 0, or refusal 15 to 18.
-// The draw winner is 0 for nobody, 1 for X, 2 for O. The 512 responses are those to X's moves, then those to O's, each
-// by the move it responds to; the table is in words, and off without any.
+// The endgame analysis and the search, after moves tried from a position: 0, or refusal 15 to 18 or 20.
+// The settings are depth, allowance, draw winner (0 for nobody, 1 for X, 2 for O) and the weights of one place, of two, and of a won board.
+// The 512 responses are those to X's moves, then those to O's, each by the move it responds to; the table is in words, and off without any.
 #[no_mangle]
 pub extern "C" fn ultimattt_analyze(
     position: &[u64],
     moves: &[u8],
-    depth: u64,
-    allowance: u64,
-    draw_winner: u64,
+    settings: &[u64],
     responses: &mut [u8],
     words: &mut [u64],
     report: &mut [u64],
 ) -> u64
-    ensures { λ r. ⌜ Analyzes (now (position .entry)) (now (moves .entry)) depth allowance «draw_winner»
+    ensures { λ r. ⌜ Analyzes (now (position .entry)) (now (moves .entry)) (now (settings .entry))
         (now (responses .entry)) (now (words .entry)) (now (report .entry))
         (now (responses .exit)) (now (words .exit)) (now (report .exit)) r ⌝ }
 {
     if !position::is_position(position) {
         return BAD_ARGUMENT;
     }
-    if draw_winner > 2 {
+    if settings.len() < 6 {
+        return BAD_ARGUMENT;
+    }
+    if settings[2] > 2 {
         return BAD_ARGUMENT;
     }
     if responses.len() < 512 {
@@ -121,14 +122,43 @@ pub extern "C" fn ultimattt_analyze(
         return BAD_ARGUMENT;
     }
     let game = position::game_from(position).play_all(moves);
-    let config = Config {
-        max_depth: depth,
-        allowance,
-        draw_winner: report::draws_from(draw_winner),
-    };
+    let config = settings::config_from(settings);
     let found = report::memory(responses).analyze(game, config, words);
     report::put_memory(responses, found.state);
     report::put(report, found, Analysis::new(game));
     let ending = found.ending;
     ending.number()
+}
+
+// The evaluation of a position by three weights, into one word: 0, or refusal 20 with a score of 0.
+#[no_mangle]
+pub extern "C" fn ultimattt_evaluate(
+    position: &[u64],
+    draw_winner: u64,
+    weights: &[u64],
+    score: &mut [u64],
+) -> u64
+    ensures { λ r. ⌜ EvaluatesPosition (now (position .entry)) «draw_winner» (now (weights .entry)) (now (score .entry))
+        (now (score .exit)) r ⌝ }
+{
+    if !position::is_position(position) {
+        return BAD_ARGUMENT;
+    }
+    if draw_winner > 2 {
+        return BAD_ARGUMENT;
+    }
+    if weights.len() < 3 {
+        return BAD_ARGUMENT;
+    }
+    if score.len() < 1 {
+        return BAD_ARGUMENT;
+    }
+    let found = evaluation::evaluate(
+        position::game_from(position),
+        settings::draws_from(draw_winner),
+        settings::weights_from(weights, 0),
+    );
+    lent::put(score, 0, &[table::to_word(found.value)]);
+    let answer = found.answer;
+    answer.number()
 }

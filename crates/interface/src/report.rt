@@ -9,10 +9,9 @@ ghost use Rattle.theory.specs.Limits.{console};
 ghost use Rattle.endgame.specs.Means.{analysis-number};
 ghost use Rattle.minimax.specs.Report.{stats-of, is-spent, ending-stopped, report-of, bytes-of, responses-of};
 ghost use Rattle.interface.specs.Lent.{Puts};
-ghost use Rattle.interface.specs.Calls.{draws-from, responses-from, responses-bytes, stats-words, all-stats, head-words};
+ghost use Rattle.interface.specs.Calls.{responses-from, responses-bytes, stats-words, all-stats, head-words};
 ghost use Rattle.interface.specs.Calls.{report-words};
 use crate::lent;
-use crate::position::side_from;
 use boards::Move;
 use boards::PLACES;
 use endgame::Analysis;
@@ -22,16 +21,6 @@ use minimax::Report;
 use minimax::ResponseTables;
 use minimax::SearchError;
 use minimax::Stats;
-use rules::DrawWinner;
-
-pub(crate) fn draws_from(w: u64) -> DrawWinner
-    ensures { λ r. ⌜ r ≡ draws-from w ⌝ }
-{
-    if w == 0 {
-        return DrawWinner::Nobody;
-    }
-    DrawWinner::Side(side_from(w - 1))
-}
 
 // 256 moves, from a place on.
 fn moves_from(bytes: &[u8], at: usize) -> [Move; 256]
@@ -87,6 +76,7 @@ fn spent(why: SearchError) -> u64
         SearchError::Depth => 0,
         SearchError::Allowance => 0,
         SearchError::Words => 0,
+        SearchError::Weights => 0,
         SearchError::Spent => 1,
     }
 }

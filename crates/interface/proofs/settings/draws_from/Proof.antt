@@ -3,8 +3,8 @@ use mathlib.Core.Path.{ap}
 use borrow.Author.Tests.{eq-eqb, ne-eqb}
 use Rattle.rules.specs.declared.DrawWinner.the-variants.{Side}
 use borrow.Author.Needs.{needs}
-use Rattle.interface.proofs.report.draws_from.Statement.{statement}
-use Rattle.interface.proofs.report.draws_from.Tie as tie
+use Rattle.interface.proofs.settings.draws_from.Statement.{statement}
+use Rattle.interface.proofs.settings.draws_from.Tie as tie
 
 returns : tie.Need-returns
 returns c = simp (eq-eqb _ _ (c .if1 .taken))
