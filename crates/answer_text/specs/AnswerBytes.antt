@@ -12,16 +12,16 @@ no_text = record { bytes = padded 224 []; len = 0 }
 unfoldable pub added : AnswerText → ℕ → AnswerText
 added o b = if ltb o.len 224 then (λ _. record { bytes = set o.bytes o.len b; len = o.len + 1 }) else λ _. o
 
-abbrev pub added-all : AnswerText → List ℕ → AnswerText
-added-all o [] = o
-added-all o (b ∷ bs) = added-all (added o b) bs
+abbrev pub added_all : AnswerText → List ℕ → AnswerText
+added_all o [] = o
+added_all o (b ∷ bs) = added_all (added o b) bs
 
-abbrev pub move-bytes : List Move → List ℕ
-move-bytes line = map (λ (m : Move). m.bits) line
+abbrev pub move_bytes : List Move → List ℕ
+move_bytes line = map (λ (m : Move). m.bits) line
 
 -- the first 224 bytes of a text, the unused ones 0
-abbrev pub text-of-bytes : List ℕ → AnswerText
-text-of-bytes t = record { bytes = padded 224 t; len = min (length t) 224 }
+abbrev pub text_of_bytes : List ℕ → AnswerText
+text_of_bytes t = record { bytes = padded 224 t; len = min (length t) 224 }
 
-abbrev pub written-bytes : AnswerText → List ℕ
-written-bytes o = take (min o.len 224) o.bytes
+abbrev pub written_bytes : AnswerText → List ℕ
+written_bytes o = take (min o.len 224) o.bytes

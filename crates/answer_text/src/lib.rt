@@ -1,9 +1,11 @@
 // The bytes of an answer.
+#![tactic(auto)]
+
 ghost use Rattle.std.specs.Prelude.{◌≡◌, min};
-ghost use Rattle.text.specs.MoveText.{move-text};
-ghost use Rattle.text.specs.ProgramLine.{decimal, signed, shown, status-letters, moves-text, answer-text, refusal-text};
-ghost use Rattle.status.specs.Sets.{set-of};
-ghost use Rattle.answer_text.specs.AnswerBytes.{no_text, added, added-all, move-bytes, text-of-bytes};
+ghost use Rattle.text.specs.MoveText.{move_text};
+ghost use Rattle.text.specs.ProgramLine.{decimal, signed, shown, status_letters, moves_text, answer_text, refusal_text};
+ghost use Rattle.status.specs.Sets.{set_of};
+ghost use Rattle.answer_text.specs.AnswerBytes.{no_text, added, added_all, move_bytes, text_of_bytes};
 
 use boards::{Move, PLACES};
 use rules::Player;
@@ -12,7 +14,7 @@ use status::Status;
 // The longest answer has 201 bytes.
 pub const ROOM: usize = 224;
 
-#[derive(Drop)]
+#[derive(Clone, Copy)]
 pub struct AnswerText {
     pub bytes: [u8; 224],
     pub len: usize,
@@ -43,7 +45,7 @@ impl AnswerText {
     }
 
     pub fn text(self, bytes: &[u8]) -> AnswerText
-        ensures { result ≡ added-all self bytes.now }
+        ensures { result ≡ added_all self bytes.now }
     {
         let mut out = self;
         let mut i = 0;
@@ -55,7 +57,7 @@ impl AnswerText {
     }
 
     pub fn decimal(self, n: u64) -> AnswerText
-        ensures { result ≡ added-all self (decimal n) }
+        ensures { result ≡ added_all self (decimal n) }
     {
         let mut digits = [0u8; 20];
         let k = io::decimal(n, &mut digits);
@@ -63,7 +65,7 @@ impl AnswerText {
     }
 
     pub fn signed(self, n: i64) -> AnswerText
-        ensures { result ≡ added-all self (signed n) }
+        ensures { result ≡ added_all self (signed n) }
     {
         if n < 0 {
             let out = self.push(b'-');
@@ -75,13 +77,13 @@ impl AnswerText {
 
     // A letter, if it is to be shown.
     fn letter(self, show: bool, b: u8) -> AnswerText
-        ensures { result ≡ added-all self (shown show b) }
+        ensures { result ≡ added_all self (shown show b) }
     {
         if show { self.push(b) } else { self }
     }
 
     pub fn status(self, s: Status) -> AnswerText
-        ensures { result ≡ added-all self (status-letters (set-of s)) }
+        ensures { result ≡ added_all self (status_letters (set_of s)) }
     {
         let x = s.is_winnable(Player::X);
         let o = s.is_winnable(Player::O);
@@ -90,7 +92,7 @@ impl AnswerText {
     }
 
     pub fn move_text(self, m: Move) -> AnswerText
-        ensures { result ≡ added-all self (move-text m.bits) }
+        ensures { result ≡ added_all self (move_text m.bits) }
     {
         let text = notation::render_move(m);
         self.text(&text)
@@ -98,7 +100,7 @@ impl AnswerText {
 
     // Moves up to the first empty one, joined; `-` if there is none.
     pub fn moves(self, line: [Move; PLACES]) -> AnswerText
-        ensures { result ≡ added-all self (moves-text (move-bytes line)) }
+        ensures { result ≡ added_all self (moves_text (move_bytes line)) }
     {
         let first = line[0];
         if first.is_none() {
@@ -119,7 +121,7 @@ impl AnswerText {
 
     // A line that is refused: `E` and the number.
     pub fn refused(number: u64) -> AnswerText
-        ensures { result ≡ text-of-bytes (refusal-text number) }
+        ensures { result ≡ text_of_bytes (refusal_text number) }
     {
         AnswerText::new().push(b'E').push(b' ').decimal(number)
     }
@@ -133,7 +135,7 @@ impl AnswerText {
         count: u64,
         line: [Move; PLACES],
     ) -> AnswerText
-        ensures { result ≡ text-of-bytes (answer-text (set-of status) legal depth score count (move-bytes line)) }
+        ensures { result ≡ text_of_bytes (answer_text (set_of status) legal depth score count (move_bytes line)) }
     {
         let first = AnswerText::new().status(status).push(b' ');
         let second = first.decimal(legal).push(b' ');

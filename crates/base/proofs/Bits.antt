@@ -12,52 +12,52 @@ use lib.Pow.{pow_pos, shl_exact}
 use borrow.Author.Tests.{eq-eqb, ne_eqb}
 use Rattle.base.specs.Bits.{bit, digits}
 use Rattle.base.specs.Lists.{all, from}
-use Rattle.base.proofs.ListsAgree.{same_by, false-by}
-use Rattle.base.proofs.BitsOperations.{bit-low, bit-suc, bit-nought, bit-and, bit-or, bit_not, bit-pow}
-use Rattle.base.proofs.Lists.{each_all, all-each, in-from}
+use Rattle.base.proofs.ListsAgree.{same_by, false_by}
+use Rattle.base.proofs.BitsOperations.{bit_low, bit_suc, bit_nought, bit-bit_and, bit-bit_or, bit_not, bit_pow}
+use Rattle.base.proofs.Lists.{each_all, all_each, in_from}
 
 -- ---- numbers with the same digits are equal
-same-digit : (p q : ℕ) → p < 2 → q < 2 → eqb p 1 ≡ eqb q 1 → p ≡ q
-same-digit zero zero h k e = refl
-same-digit zero (suc zero) h k e = absurd (let z : ◌≡◌ {A = ℕ} 0 1 = cc in omega arith)
-same-digit zero (suc (suc q)) h k e = absurd (omega arith)
-same-digit (suc zero) zero h k e = absurd (let z : ◌≡◌ {A = ℕ} 0 1 = cc in omega arith)
-same-digit (suc zero) (suc zero) h k e = refl
-same-digit (suc zero) (suc (suc q)) h k e = absurd (omega arith)
-same-digit (suc (suc p)) q h k e = absurd (omega arith)
+same_digit : (p q : ℕ) → p < 2 → q < 2 → eqb p 1 ≡ eqb q 1 → p ≡ q
+same_digit zero zero h k e = refl
+same_digit zero (suc zero) h k e = absurd (let z : ◌≡◌ {A = ℕ} 0 1 = cc in omega arith)
+same_digit zero (suc (suc q)) h k e = absurd (omega arith)
+same_digit (suc zero) zero h k e = absurd (let z : ◌≡◌ {A = ℕ} 0 1 = cc in omega arith)
+same_digit (suc zero) (suc zero) h k e = refl
+same_digit (suc zero) (suc (suc q)) h k e = absurd (omega arith)
+same_digit (suc (suc p)) q h k e = absurd (omega arith)
 
 low : (a b : ℕ) → bit a 0 ≡ bit b 0 → a % 2 ≡ b % 2
-low a b e = same-digit (a % 2) (b % 2) (mod-lt a (lit< tt)) (mod-lt b (lit< tt)) (sym (bit-low a) ∙ e ∙ bit-low b)
+low a b e = same_digit (a % 2) (b % 2) (mod-lt a (lit< tt)) (mod-lt b (lit< tt)) (sym (bit_low a) ∙ e ∙ bit_low b)
 
 halved : (a b : ℕ) → ((k : ℕ) → bit a k ≡ bit b k) → (k : ℕ) → bit (a / 2) k ≡ bit (b / 2) k
-halved a b e k = sym (bit-suc a k) ∙ e (suc k) ∙ bit-suc b k
+halved a b e k = sym (bit_suc a k) ∙ e (suc k) ∙ bit_suc b k
 
 joined : (a b : ℕ) → a / 2 ≡ b / 2 → a % 2 ≡ b % 2 → a ≡ b
 joined a b h l = omega arith
 
-zero-ext : (b : ℕ) → ((k : ℕ) → bit 0 k ≡ bit b k) → 0 ≡ b
-zero-ext =
+zero_ext : (b : ℕ) → ((k : ℕ) → bit 0 k ≡ bit b k) → 0 ≡ b
+zero_ext =
     bin_ind (λ (b : ℕ). ((k : ℕ) → bit 0 k ≡ bit b k) → 0 ≡ b) (λ e. refl)
     (λ b ih e. joined 0 b (ih (halved 0 b e)) (low 0 b (e 0)))
 
-pub bit-ext : (a b : ℕ) → ((k : ℕ) → bit a k ≡ bit b k) → a ≡ b
-bit-ext =
-    bin_ind (λ (a : ℕ). (b : ℕ) → ((k : ℕ) → bit a k ≡ bit b k) → a ≡ b) zero-ext
+pub bit_ext : (a b : ℕ) → ((k : ℕ) → bit a k ≡ bit b k) → a ≡ b
+bit_ext =
+    bin_ind (λ (a : ℕ). (b : ℕ) → ((k : ℕ) → bit a k ≡ bit b k) → a ≡ b) zero_ext
     (λ a ih b e. joined a b (ih (b / 2) (halved a b e)) (low a b (e 0)))
 
 -- a number below 2 ^ w has no digit from w on
-pub bit-above : (w n k : ℕ) → n < 2 ^ w → w ≤ k → bit n k ≡ false
-bit-above zero n k h l = ap (λ (m : ℕ). bit m k) (lt-one h) ∙ bit-nought k
-bit-above (suc w) n zero h l = absurd (omega arith)
-bit-above (suc w) n (suc k) h l = let e = pow-suc 2 w in bit-suc n k ∙ bit-above w (n / 2) k (omega arith) (omega arith)
+pub bit_above : (w n k : ℕ) → n < 2 ^ w → w ≤ k → bit n k ≡ false
+bit_above zero n k h l = ap (λ (m : ℕ). bit m k) (lt-one h) ∙ bit_nought k
+bit_above (suc w) n zero h l = absurd (omega arith)
+bit_above (suc w) n (suc k) h l = let e = pow-suc 2 w in bit_suc n k ∙ bit_above w (n / 2) k (omega arith) (omega arith)
 
 -- so below 2 ^ w the first w digits settle it
-pub bit-ext-below : (w a b : ℕ) → a < 2 ^ w → b < 2 ^ w → ((k : ℕ) → k < w → bit a k ≡ bit b k) → a ≡ b
-bit-ext-below w a b h g e = bit-ext a b (λ k. go k (dec_lt k w))
+pub bit_ext_below : (w a b : ℕ) → a < 2 ^ w → b < 2 ^ w → ((k : ℕ) → k < w → bit a k ≡ bit b k) → a ≡ b
+bit_ext_below w a b h g e = bit_ext a b (λ k. go k (dec_lt k w))
   where
     go : (k : ℕ) → Dec (k < w) → bit a k ≡ bit b k
     go k (yes l) = e k l
-    go k (no l) = bit-above w a k h (omega (arith, l)) ∙ sym (bit-above w b k g (omega (arith, l)))
+    go k (no l) = bit_above w a k h (omega (arith, l)) ∙ sym (bit_above w b k g (omega (arith, l)))
 
 -- ---- the number with given digits
 top_lt : (b : Bool) (w n : ℕ) → n < 2 ^ w → n + cond b (2 ^ w) 0 < 2 ^ suc w
@@ -75,14 +75,14 @@ topped w n h = omega (arith, or_shifted_r 1 w n h, ap (bit_or n) (one-mul (2 ^ w
 
 -- digit k is set in n with digit k marked, and every other is as it was
 pub marked : (n k : ℕ) → bit (bit_or n (2 ^ k)) k ≡ true
-marked n k = bit-or n (2 ^ k) k ∙ ap (λ (p : Bool). bit n k || p) (bit-pow k k ∙ eq-eqb k k refl) ∙ or-true (bit n k)
+marked n k = bit-bit_or n (2 ^ k) k ∙ ap (λ (p : Bool). bit n k || p) (bit_pow k k ∙ eq-eqb k k refl) ∙ or-true (bit n k)
 
 pub unmarked : (n k j : ℕ) → (j ≡ k → ⊥) → bit (bit_or n (2 ^ k)) j ≡ bit n j
-unmarked n k j h = bit-or n (2 ^ k) j ∙ ap (λ (p : Bool). bit n j || p) (bit-pow k j ∙ ne_eqb j k h) ∙ or-false (bit n j)
+unmarked n k j h = bit-bit_or n (2 ^ k) j ∙ ap (λ (p : Bool). bit n j || p) (bit_pow k j ∙ ne_eqb j k h) ∙ or-false (bit n j)
 
 -- a digit that is set already
-pub marked-again : (n k : ℕ) → bit n k ≡ true → bit_or n (2 ^ k) ≡ n
-marked-again n k h = bit-ext (bit_or n (2 ^ k)) n (λ j. go j (ℕ_discrete j k))
+pub marked_again : (n k : ℕ) → bit n k ≡ true → bit_or n (2 ^ k) ≡ n
+marked_again n k h = bit_ext (bit_or n (2 ^ k)) n (λ j. go j (ℕ_discrete j k))
   where
     go : (j : ℕ) → Dec (j ≡ k) → bit (bit_or n (2 ^ k)) j ≡ bit n j
     go j (yes e) = rw e (marked n k ∙ sym h)
@@ -91,27 +91,27 @@ marked-again n k h = bit-ext (bit_or n (2 ^ k)) n (λ j. go j (ℕ_discrete j k)
 module _ (w n : ℕ) (h : n < 2 ^ w) where
   top_digit : (b : Bool) → bit (n + cond b (2 ^ w) 0) w ≡ b
   top_digit true = rw (topped w n h) (marked n w)
-  top_digit false = let e : n + 0 ≡ n = omega arith in ap (λ (m : ℕ). bit m w) e ∙ bit-above w n w h (omega arith)
+  top_digit false = let e : n + 0 ≡ n = omega arith in ap (λ (m : ℕ). bit m w) e ∙ bit_above w n w h (omega arith)
 
   low_digit : (b : Bool) (k : ℕ) → k < w → bit (n + cond b (2 ^ w) 0) k ≡ bit n k
   low_digit true k l = rw (topped w n h) (unmarked n w k (λ e. omega arith))
   low_digit false k l = let e : n + 0 ≡ n = omega arith in ap (λ (m : ℕ). bit m k) e
 
-pub bit-digits : (f : ℕ → Bool) (w k : ℕ) → k < w → bit (digits f w) k ≡ f k
+pub bit_digits : (f : ℕ → Bool) (w k : ℕ) → k < w → bit (digits f w) k ≡ f k
 unfolding digits
-bit-digits f zero k h = absurd (omega arith)
-bit-digits f (suc w) k h = go (ℕ_discrete k w) (bit-digits f w k)
+bit_digits f zero k h = absurd (omega arith)
+bit_digits f (suc w) k h = go (ℕ_discrete k w) (bit_digits f w k)
   where
     go : Dec (k ≡ w) → (k < w → bit (digits f w) k ≡ f k) → bit (digits f w + cond (f w) (2 ^ w) 0) k ≡ f k
     go (yes e) r = rw e (top_digit w (digits f w) (digits_lt f w) (f w))
     go (no q) r = low_digit w (digits f w) (digits_lt f w) (f w) k (omega arith) ∙ r (omega arith)
 
 -- a number below 2 ^ w is `digits f w` if its first w digits are f's
-pub is-digits : (f : ℕ → Bool) (w n : ℕ) → n < 2 ^ w → ((k : ℕ) → k < w → bit n k ≡ f k) → n ≡ digits f w
-is-digits f w n h e = bit-ext-below w n (digits f w) h (digits_lt f w) (λ k l. e k l ∙ sym (bit-digits f w k l))
+pub is_digits : (f : ℕ → Bool) (w n : ℕ) → n < 2 ^ w → ((k : ℕ) → k < w → bit n k ≡ f k) → n ≡ digits f w
+is_digits f w n h e = bit_ext_below w n (digits f w) h (digits_lt f w) (λ k l. e k l ∙ sym (bit_digits f w k l))
 
 pub digits_same : (f g : ℕ → Bool) (w : ℕ) → ((k : ℕ) → k < w → f k ≡ g k) → digits f w ≡ digits g w
-digits_same f g w e = is-digits g w (digits f w) (digits_lt f w) (λ k l. bit-digits f w k l ∙ e k l)
+digits_same f g w e = is_digits g w (digits f w) (digits_lt f w) (λ k l. bit_digits f w k l ∙ e k l)
 
 pub digits_le : (f : ℕ → Bool) (w n : ℕ) → n ≡ digits f w → n ≤ 2 ^ w - 1
 digits_le f w n e = omega (arith, digits_lt f w)
@@ -120,22 +120,22 @@ digits_le f w n e = omega (arith, digits_lt f w)
 ones_bit : (w k : ℕ) → k < w → bit (2 ^ w - 1) k ≡ true
 ones_bit w k h =
     let e : 2 ^ w - 1 - 0 ≡ 2 ^ w - 1 = omega arith in ap (λ (m : ℕ). bit m k) (sym e) ∙ bit_not w 0 k (pow_pos w) h
-    ∙ ap not (bit-nought k)
+    ∙ ap not (bit_nought k)
 
 pub bit_masked : (w n k : ℕ) → k < w → bit (bit_and n (2 ^ w - 1)) k ≡ bit n k
-bit_masked w n k h = bit-and n (2 ^ w - 1) k ∙ rw (ones_bit w k h) (and-true (bit n k))
+bit_masked w n k h = bit-bit_and n (2 ^ w - 1) k ∙ rw (ones_bit w k h) (and-true (bit n k))
 
 pub masked : (f : ℕ → Bool) (w n : ℕ) → ((k : ℕ) → k < w → bit n k ≡ f k) → bit_and n (2 ^ w - 1) ≡ digits f w
-masked f w n e = is-digits f w (bit_and n (2 ^ w - 1)) (mask_lt n w) (λ k h. bit_masked w n k h ∙ e k h)
+masked f w n e = is_digits f w (bit_and n (2 ^ w - 1)) (mask_lt n w) (λ k h. bit_masked w n k h ∙ e k h)
 
 -- all of w digits turned
-pub digits-not : (f : ℕ → Bool) (w : ℕ) → 2 ^ w - 1 - digits f w ≡ digits (λ k. not (f k)) w
-digits-not f w =
-    is-digits (λ k. not (f k)) w (2 ^ w - 1 - digits f w) (omega (arith, pow_pos w))
-    (λ k h. bit_not w (digits f w) k (digits_lt f w) h ∙ ap not (bit-digits f w k h))
+pub digits_not : (f : ℕ → Bool) (w : ℕ) → 2 ^ w - 1 - digits f w ≡ digits (λ k. not (f k)) w
+digits_not f w =
+    is_digits (λ k. not (f k)) w (2 ^ w - 1 - digits f w) (omega (arith, pow_pos w))
+    (λ k h. bit_not w (digits f w) k (digits_lt f w) h ∙ ap not (bit_digits f w k h))
 
-pub digits-left : (f : ℕ → Bool) (w : ℕ) → 2 ^ w - 1 - digits (λ k. not (f k)) w ≡ digits f w
-digits-left f w = digits-not (λ k. not (f k)) w ∙ digits_same (λ k. not (not (f k))) f w (λ k h. not-not (f k))
+pub digits_left : (f : ℕ → Bool) (w : ℕ) → 2 ^ w - 1 - digits (λ k. not (f k)) w ≡ digits f w
+digits_left f w = digits_not (λ k. not (f k)) w ∙ digits_same (λ k. not (not (f k))) f w (λ k h. not-not (f k))
 
 -- `1 << k` at w digits
 pub shl_one : (w k : ℕ) → k < w → 1 * 2 ^ k % 2 ^ w ≡ 2 ^ k
@@ -143,9 +143,9 @@ shl_one w k h = shl_exact 1 k w (lit< tt) (omega arith) ∙ one-mul (2 ^ k)
 
 -- ---- tests
 -- `(n >> k) & 1` is digit k
-pub digit-read : (n k : ℕ) → bit_and (n / 2 ^ k) 1 ≡ cond (bit n k) 1 0
+pub digit_read : (n k : ℕ) → bit_and (n / 2 ^ k) 1 ≡ cond (bit n k) 1 0
 unfolding bit
-digit-read n k = and_mask (n / 2 ^ k) 1 ∙ one (n / 2 ^ k % 2) (mod-lt (n / 2 ^ k) (lit< tt))
+digit_read n k = and_mask (n / 2 ^ k) 1 ∙ one (n / 2 ^ k % 2) (mod-lt (n / 2 ^ k) (lit< tt))
   where
     one : (d : ℕ) → d < 2 → d ≡ cond (eqb d 1) 1 0
     one zero h = refl
@@ -153,29 +153,29 @@ digit-read n k = and_mask (n / 2 ^ k) 1 ∙ one (n / 2 ^ k % 2) (mod-lt (n / 2 ^
     one (suc (suc d)) h = absurd (omega arith)
 
 -- `(n >> k) & 1 == 1` asks whether it is set
-pub digit-test : (n k : ℕ) → eqb (bit_and (n / 2 ^ k) 1) 1 ≡ bit n k
+pub digit_test : (n k : ℕ) → eqb (bit_and (n / 2 ^ k) 1) 1 ≡ bit n k
 unfolding bit
-digit-test n k = ap (λ (d : ℕ). eqb d 1) (and_mask (n / 2 ^ k) 1)
+digit_test n k = ap (λ (d : ℕ). eqb d 1) (and_mask (n / 2 ^ k) 1)
 
 -- `(n >> k) & 1 == 0` asks that it is not set
 pub digit_clear : (n k : ℕ) → eqb (bit_and (n / 2 ^ k) 1) 0 ≡ not (bit n k)
-digit_clear n k = rw (digit-read n k) (go (bit n k))
+digit_clear n k = rw (digit_read n k) (go (bit n k))
   where
     go : (b : Bool) → eqb (cond b 1 0) 0 ≡ not b
     go true = refl
     go false = refl
 
 -- `n == 0` asks that none is set
-pub none-set : (w n : ℕ) → n < 2 ^ w → eqb n 0 ≡ all (λ k. not (bit n k)) (from 0 w)
-none-set w n h = same_by (eqb n 0) (all (λ k. not (bit n k)) (from 0 w)) there back
+pub none_set : (w n : ℕ) → n < 2 ^ w → eqb n 0 ≡ all (λ k. not (bit n k)) (from 0 w)
+none_set w n h = same_by (eqb n 0) (all (λ k. not (bit n k)) (from 0 w)) there back
   where
     there : T (eqb n 0) → T (all (λ k. not (bit n k)) (from 0 w))
-    there t = each_all (λ k. not (bit n k)) (from 0 w) (λ k i. rw (eqb→eq n 0 t, bit-nought k) tt)
+    there t = each_all (λ k. not (bit n k)) (from 0 w) (λ k i. rw (eqb→eq n 0 t, bit_nought k) tt)
 
     clear : T (all (λ k. not (bit n k)) (from 0 w)) → (k : ℕ) → k < w → bit n k ≡ bit 0 k
     clear t k l =
-        false-by (bit n k) (T_not (bit n k) (all-each (λ k. not (bit n k)) k (from 0 w) t (in-from 0 w k (omega arith) (omega arith))))
-        ∙ sym (bit-nought k)
+        false_by (bit n k) (T_not (bit n k) (all_each (λ k. not (bit n k)) k (from 0 w) t (in_from 0 w k (omega arith) (omega arith))))
+        ∙ sym (bit_nought k)
 
     back : T (all (λ k. not (bit n k)) (from 0 w)) → T (eqb n 0)
-    back t = rw (bit-ext-below w n 0 h (pow_pos w) (clear t)) tt
+    back t = rw (bit_ext_below w n 0 h (pow_pos w) (clear t)) tt

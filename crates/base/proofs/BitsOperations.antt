@@ -12,13 +12,13 @@ use borrow.Author.Tests.{eq-eqb, ne_eqb}
 use Rattle.base.specs.Bits.{bit}
 
 -- `(n >> k) & 1 == 1` asks for digit k
-pub bit-yes : (n k : ℕ) → bit_and (n / 2 ^ k) 1 ≡ 1 → bit n k ≡ true
+pub bit_yes : (n k : ℕ) → bit_and (n / 2 ^ k) 1 ≡ 1 → bit n k ≡ true
 unfolding bit
-bit-yes n k h = eq-eqb (n / 2 ^ k % 2) 1 (sym (and_mask (n / 2 ^ k) 1) ∙ h)
+bit_yes n k h = eq-eqb (n / 2 ^ k % 2) 1 (sym (and_mask (n / 2 ^ k) 1) ∙ h)
 
-pub bit-no : (n k : ℕ) → (bit_and (n / 2 ^ k) 1 ≡ 1 → ⊥) → bit n k ≡ false
+pub bit_no : (n k : ℕ) → (bit_and (n / 2 ^ k) 1 ≡ 1 → ⊥) → bit n k ≡ false
 unfolding bit
-bit-no n k h = ne_eqb (n / 2 ^ k % 2) 1 (λ e. h (and_mask (n / 2 ^ k) 1 ∙ e))
+bit_no n k h = ne_eqb (n / 2 ^ k % 2) 1 (λ e. h (and_mask (n / 2 ^ k) 1 ∙ e))
 
 two_pos : 0 < 2
 two_pos = lit< tt
@@ -32,9 +32,9 @@ module _ (op f : ℕ → ℕ → ℕ) (g : Bool → Bool → Bool)
     (shr : (a b k : ℕ) → op a b / 2 ^ k ≡ op (a / 2 ^ k) (b / 2 ^ k))
     (step : (a b : ℕ) → op a b ≡ op (a / 2) (b / 2) * 2 + f (a % 2) (b % 2))
     (two : (p q : ℕ) → p < 2 → q < 2 → (f p q < 2) × (eqb (f p q) 1 ≡ g (eqb p 1) (eqb q 1))) where
-  bit-op : (a b k : ℕ) → bit (op a b) k ≡ g (bit a k) (bit b k)
+  bit_op : (a b k : ℕ) → bit (op a b) k ≡ g (bit a k) (bit b k)
   unfolding bit
-  bit-op a b k =
+  bit_op a b k =
       let d = two (a / 2 ^ k % 2) (b / 2 ^ k % 2) (mod-lt (a / 2 ^ k) two_pos) (mod-lt (b / 2 ^ k) two_pos) in
       ap (λ (n : ℕ). eqb (n % 2) 1) (shr a b k ∙ step (a / 2 ^ k) (b / 2 ^ k))
       ∙ ap (λ (n : ℕ). eqb n 1) (digits_mod (op (a / 2 ^ k / 2) (b / 2 ^ k / 2)) d.0)
@@ -52,14 +52,14 @@ module _ (f : ℕ → ℕ → ℕ) (g : Bool → Bool → Bool) (c : (p q : Bool
   two_digits (suc zero) (suc (suc q)) h k = absurd (omega arith)
   two_digits (suc (suc p)) q h k = absurd (omega arith)
 
-pub bit-or : (a b k : ℕ) → bit (bit_or a b) k ≡ (bit a k || bit b k)
-bit-or =
-    bit-op bit_or max ◌||◌ or_shr or_step (two_digits max ◌||◌ λ p q. elim p
+pub bit-bit_or : (a b k : ℕ) → bit (bit_or a b) k ≡ (bit a k || bit b k)
+bit-bit_or =
+    bit_op bit_or max ◌||◌ or_shr or_step (two_digits max ◌||◌ λ p q. elim p
     [ true ↦ elim q [ true ↦ (tt, refl) | false ↦ (tt, refl) ] | false ↦ elim q [ true ↦ (tt, refl) | false ↦ (tt, refl) ] ])
 
-pub bit-and : (a b k : ℕ) → bit (bit_and a b) k ≡ (bit a k && bit b k)
-bit-and =
-    bit-op bit_and min ◌&&◌ and_shr and_step (two_digits min ◌&&◌ λ p q. elim p
+pub bit-bit_and : (a b k : ℕ) → bit (bit_and a b) k ≡ (bit a k && bit b k)
+bit-bit_and =
+    bit_op bit_and min ◌&&◌ and_shr and_step (two_digits min ◌&&◌ λ p q. elim p
     [ true ↦ elim q [ true ↦ (tt, refl) | false ↦ (tt, refl) ] | false ↦ elim q [ true ↦ (tt, refl) | false ↦ (tt, refl) ] ])
 
 abbrev pub xor : Bool → Bool → Bool
@@ -68,42 +68,42 @@ xor true false = true
 xor false true = true
 xor false false = false
 
-pub bit-xor : (a b k : ℕ) → bit (bit_xor a b) k ≡ xor (bit a k) (bit b k)
-bit-xor =
-    bit-op bit_xor differ xor xor_shr xor_step (two_digits differ xor λ p q. elim p
+pub bit-bit_xor : (a b k : ℕ) → bit (bit_xor a b) k ≡ xor (bit a k) (bit b k)
+bit-bit_xor =
+    bit_op bit_xor differ xor xor_shr xor_step (two_digits differ xor λ p q. elim p
     [ true ↦ elim q [ true ↦ (tt, refl) | false ↦ (tt, refl) ] | false ↦ elim q [ true ↦ (tt, refl) | false ↦ (tt, refl) ] ])
 
 -- one more digit
-pub bit-suc : (n k : ℕ) → bit n (suc k) ≡ bit (n / 2) k
+pub bit_suc : (n k : ℕ) → bit n (suc k) ≡ bit (n / 2) k
 unfolding bit
-bit-suc n k = ap (λ (m : ℕ). eqb (m % 2) 1) (ap (λ (e : ℕ). n / 2 ^ e) (omega arith) ∙ sym (shr-shr n 1 k))
+bit_suc n k = ap (λ (m : ℕ). eqb (m % 2) 1) (ap (λ (e : ℕ). n / 2 ^ e) (omega arith) ∙ sym (shr-shr n 1 k))
 
-pub bit-nought : (k : ℕ) → bit 0 k ≡ false
+pub bit_nought : (k : ℕ) → bit 0 k ≡ false
 unfolding bit
-bit-nought zero = refl
-bit-nought (suc k) = bit-suc 0 k ∙ bit-nought k
+bit_nought zero = refl
+bit_nought (suc k) = bit_suc 0 k ∙ bit_nought k
 
-pow-half : (k : ℕ) → 2 ^ suc k / 2 ≡ 2 ^ k
-pow-half k = ap (λ (n : ℕ). n / 2) (pow-suc 2 k) ∙ mul-div_cancel (2 ^ k) two_pos
+pow_half : (k : ℕ) → 2 ^ suc k / 2 ≡ 2 ^ k
+pow_half k = ap (λ (n : ℕ). n / 2) (pow-suc 2 k) ∙ mul-div_cancel (2 ^ k) two_pos
 
 -- 2 ^ k has digit k and no other
-pub bit-pow : (k j : ℕ) → bit (2 ^ k) j ≡ eqb j k
+pub bit_pow : (k j : ℕ) → bit (2 ^ k) j ≡ eqb j k
 unfolding bit
-bit-pow zero zero = refl
-bit-pow zero (suc j) = bit-suc 1 j ∙ bit-nought j ∙ sym (eqb-suc-zero j)
-bit-pow (suc k) zero =
+bit_pow zero zero = refl
+bit_pow zero (suc j) = bit_suc 1 j ∙ bit_nought j ∙ sym (eqb-suc-zero j)
+bit_pow (suc k) zero =
     ap (λ (n : ℕ). eqb (n / 1 % 2) 1) (pow-suc 2 k) ∙ ne_eqb (2 ^ k * 2 / 1 % 2) 1 (λ e. omega arith) ∙ sym (eqb-zero-suc k)
-bit-pow (suc k) (suc j) = bit-suc (2 ^ suc k) j ∙ ap (λ (n : ℕ). bit n j) (pow-half k) ∙ bit-pow k j ∙ sym (eqb-suc-suc j k)
+bit_pow (suc k) (suc j) = bit_suc (2 ^ suc k) j ∙ ap (λ (n : ℕ). bit n j) (pow_half k) ∙ bit_pow k j ∙ sym (eqb-suc-suc j k)
 
 -- `n >> s` moves the digits down
-pub bit-shr : (n s k : ℕ) → bit (n / 2 ^ s) k ≡ bit n (s + k)
+pub bit_shr : (n s k : ℕ) → bit (n / 2 ^ s) k ≡ bit n (s + k)
 unfolding bit
-bit-shr n s k = ap (λ (m : ℕ). eqb (m % 2) 1) (shr-shr n s k)
+bit_shr n s k = ap (λ (m : ℕ). eqb (m % 2) 1) (shr-shr n s k)
 
 -- `!n` at w digits turns each of them
-pub bit-low : (n : ℕ) → bit n 0 ≡ eqb (n % 2) 1
+pub bit_low : (n : ℕ) → bit n 0 ≡ eqb (n % 2) 1
 unfolding bit
-bit-low n = let e : n / 1 ≡ n = omega arith in ap (λ (m : ℕ). eqb (m % 2) 1) e
+bit_low n = let e : n / 1 ≡ n = omega arith in ap (λ (m : ℕ). eqb (m % 2) 1) e
 
 turned : (p q : ℕ) → p < 2 → q < 2 → p + q ≡ 1 → eqb p 1 ≡ not (eqb q 1)
 turned zero zero h k e = absurd (omega arith)
@@ -117,10 +117,10 @@ pub bit_not : (w n k : ℕ) → n < 2 ^ w → k < w → bit (2 ^ w - 1 - n) k �
 bit_not zero n k h l = absurd (omega arith)
 bit_not (suc w) n zero h l =
     let e = pow-suc 2 w in
-    bit-low (2 ^ suc w - 1 - n) ∙ turned ((2 ^ suc w - 1 - n) % 2) (n % 2) (mod-lt (2 ^ suc w - 1 - n) two_pos) (mod-lt n two_pos)
-    (omega arith) ∙ ap not (sym (bit-low n))
+    bit_low (2 ^ suc w - 1 - n) ∙ turned ((2 ^ suc w - 1 - n) % 2) (n % 2) (mod-lt (2 ^ suc w - 1 - n) two_pos) (mod-lt n two_pos)
+    (omega arith) ∙ ap not (sym (bit_low n))
 bit_not (suc w) n (suc k) h l =
     let e = pow-suc 2 w in
     let half : (2 ^ suc w - 1 - n) / 2 ≡ 2 ^ w - 1 - n / 2 = omega arith in
-    bit-suc (2 ^ suc w - 1 - n) k ∙ ap (λ (m : ℕ). bit m k) half ∙ bit_not w (n / 2) k (omega arith) (omega arith)
-    ∙ ap not (sym (bit-suc n k))
+    bit_suc (2 ^ suc w - 1 - n) k ∙ ap (λ (m : ℕ). bit m k) half ∙ bit_not w (n / 2) k (omega arith) (omega arith)
+    ∙ ap not (sym (bit_suc n k))

@@ -17,17 +17,17 @@ pub or→ : (a b : Bool) → T (a || b) → T a ⊎ T b
 or→ true b t = inl tt
 or→ false b t = inr t
 
-pub →or-l : (a b : Bool) → T a → T (a || b)
-→or-l true b t = tt
-→or-l false b t = absurd t
+pub →or_l : (a b : Bool) → T a → T (a || b)
+→or_l true b t = tt
+→or_l false b t = absurd t
 
-pub →or-r : (a b : Bool) → T b → T (a || b)
-→or-r true b t = tt
-→or-r false b t = t
+pub →or_r : (a b : Bool) → T b → T (a || b)
+→or_r true b t = tt
+→or_r false b t = t
 
-pub not-not : (b : Bool) → T (not (not b)) → T b
-not-not true t = tt
-not-not false t = t
+pub not_not : (b : Bool) → T (not (not b)) → T b
+not_not true t = tt
+not_not false t = t
 
 pub neither : (a b : Bool) → (not a && not b) ≡ not (a || b)
 neither true b = refl

@@ -3,15 +3,15 @@ use mathlib.Core.Bool.{Bool, true, false, not}
 use lib.Dec.{T}
 use Rattle.base.specs.Branch.{if◌then◌else◌}
 
-pub if-ind {ℓ κ} : {A : Type ℓ} (P : A → Type κ) (c : Bool) (x y : Unit {0} → A) → (T c → P (x tt)) →
+pub if_ind {ℓ κ} : {A : Type ℓ} (P : A → Type κ) (c : Bool) (x y : Unit {0} → A) → (T c → P (x tt)) →
     (T (not c) → P (y tt)) → P (if c then x else y)
 unfolding if◌then◌else◌
-if-ind P true x y f g = f tt
-if-ind P false x y f g = g tt
+if_ind P true x y f g = f tt
+if_ind P false x y f g = g tt
 
 -- two choices by one test
-pub if-both {κ} : {A B : Type 0} (R : A → B → Type κ) (c : Bool) (x y : Unit {0} → A) (x' y' : Unit {0} → B) →
+pub if_both {κ} : {A B : Type 0} (R : A → B → Type κ) (c : Bool) (x y : Unit {0} → A) (x' y' : Unit {0} → B) →
     (T c → R (x tt) (x' tt)) → (T (not c) → R (y tt) (y' tt)) → R (if c then x else y) (if c then x' else y')
 unfolding if◌then◌else◌
-if-both R true x y x' y' f g = f tt
-if-both R false x y x' y' f g = g tt
+if_both R true x y x' y' f g = f tt
+if_both R false x y x' y' f g = g tt

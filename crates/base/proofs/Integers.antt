@@ -10,7 +10,7 @@ use lib.ListN.{length}
 use mathlib.Core.Logic.{◌⊎◌, inl, inr}
 use lib.Signed.{le_z, lt_z, ◌≤ℤ◌, ◌<ℤ◌, le_z_yes, lt_z_yes, lt_z_no}
 use lib.Dec.{T, ltb, leb→le, le→leb, ltb→lt, lt→ltb, nltb→le}
-use Rattle.base.specs.Integers.{maxZ, sum}
+use Rattle.base.specs.Integers.{max_z, sum}
 
 unfoldable pub hi : ℤ → ℕ
 hi (pos n) = n
@@ -20,17 +20,17 @@ unfoldable pub lo : ℤ → ℕ
 lo (pos n) = zero
 lo (negsuc n) = suc n
 
-pub hi-neg : (z : ℤ) → hi (neg_ℤ z) ≡ lo z
+pub hi_neg : (z : ℤ) → hi (neg_ℤ z) ≡ lo z
 unfolding hi lo
-hi-neg (pos zero) = refl
-hi-neg (pos (suc n)) = refl
-hi-neg (negsuc n) = refl
+hi_neg (pos zero) = refl
+hi_neg (pos (suc n)) = refl
+hi_neg (negsuc n) = refl
 
-pub lo-neg : (z : ℤ) → lo (neg_ℤ z) ≡ hi z
+pub lo_neg : (z : ℤ) → lo (neg_ℤ z) ≡ hi z
 unfolding hi lo
-lo-neg (pos zero) = refl
-lo-neg (pos (suc n)) = refl
-lo-neg (negsuc n) = refl
+lo_neg (pos zero) = refl
+lo_neg (pos (suc n)) = refl
+lo_neg (negsuc n) = refl
 
 le→' : (a b : ℤ) → T (le_z a b) → hi a + lo b ≤ hi b + lo a
 unfolding hi lo
@@ -90,7 +90,7 @@ pub ruleset zarith = (arith, le→, lt→, eq→, →le, →lt, →eq)
 
 -- the negative of z, as omega needs it: list `ng z` for each `neg_ℤ z` in sight
 pub ng : (z : ℤ) → (hi (neg_ℤ z) ≡ lo z) × (lo (neg_ℤ z) ≡ hi z)
-ng z = (hi-neg z, lo-neg z)
+ng z = (hi_neg z, lo_neg z)
 
 -- the tests, failed
 pub nle→ : {a b : ℤ} → T (not (le_z a b)) → b <ℤ a
@@ -101,26 +101,26 @@ nle→ {a} {b} t = →lt (go (le_z a b) (λ k. →le' a b k) t)
     go false f t = omega (arith, lt_of_not-le f)
 
 -- ---- the greater of two
-pub max-l : (a b : ℤ) → a ≤ℤ maxZ a b
-unfolding maxZ
-max-l a b = go (le_z a b) le_z_yes
+pub max_l : (a b : ℤ) → a ≤ℤ max_z a b
+unfolding max_z
+max_l a b = go (le_z a b) le_z_yes
   where
     go : (c : Bool) → (T c → a ≤ℤ b) → a ≤ℤ cond c b a
     go true f = f tt
     go false f = omega zarith
 
-pub max-r : (a b : ℤ) → b ≤ℤ maxZ a b
-unfolding maxZ
-max-r a b = go (le_z a b) nle→
+pub max_r : (a b : ℤ) → b ≤ℤ max_z a b
+unfolding max_z
+max_r a b = go (le_z a b) nle→
   where
     go : (c : Bool) → (T (not c) → b <ℤ a) → b ≤ℤ cond c b a
     go true f = omega zarith
     go false f = let h : b <ℤ a = f tt in omega zarith
 
 -- it is one of the two
-pub max-is {ℓ} : (P : ℤ → Type ℓ) (a b : ℤ) → P a → P b → P (maxZ a b)
-unfolding maxZ
-max-is P a b x y = go (le_z a b)
+pub max_is {ℓ} : (P : ℤ → Type ℓ) (a b : ℤ) → P a → P b → P (max_z a b)
+unfolding max_z
+max_is P a b x y = go (le_z a b)
   where
     go : (c : Bool) → P (cond c b a)
     go true = y
@@ -134,15 +134,15 @@ split a b = go (lt_z a b) lt_z_yes lt_z_no
     go false f g = inr (g tt)
 
 -- a bound by a number written out, as a bound of hi or of lo: omega does not know that one of the two is zero
-pub hi-le : (z : ℤ) (n : ℕ) → z ≤ℤ pos n → hi z ≤ n
+pub hi_le : (z : ℤ) (n : ℕ) → z ≤ℤ pos n → hi z ≤ n
 unfolding hi lo
-hi-le (pos a) n h = omega zarith
-hi-le (negsuc a) n h = omega arith
+hi_le (pos a) n h = omega zarith
+hi_le (negsuc a) n h = omega arith
 
-pub lo-le : (z : ℤ) (n : ℕ) → negsuc n ≤ℤ z → lo z ≤ suc n
+pub lo_le : (z : ℤ) (n : ℕ) → negsuc n ≤ℤ z → lo z ≤ suc n
 unfolding hi lo
-lo-le (pos a) n h = omega arith
-lo-le (negsuc a) n h = omega zarith
+lo_le (pos a) n h = omega arith
+lo_le (negsuc a) n h = omega zarith
 
 -- the sum, as omega needs it: list `sm a b` for each `a +ℤ b` in sight
 sub_of : (c : Bool) (a b : ℕ) → (T c → a < b) → (T (not c) → b ≤ a) → hi (cond c (negsuc (b - suc a)) (pos (a - b))) + b
@@ -162,10 +162,10 @@ sm (negsuc a) (negsuc b) = omega arith
 abbrev pub Within : ℕ → ℤ → Type 0
 Within k z = (hi z ≤ k) × (lo z ≤ k)
 
-pub within-abs : (k : ℕ) (z : ℤ) → Within k z → nat_abs z ≤ k
+pub within_abs : (k : ℕ) (z : ℤ) → Within k z → nat_abs z ≤ k
 unfolding hi lo
-within-abs k (pos n) h = h.0
-within-abs k (negsuc n) h = h.1
+within_abs k (pos n) h = h.0
+within_abs k (negsuc n) h = h.1
 
 pub within_of : (k : ℕ) (z : ℤ) → nat_abs z ≤ k → Within k z
 unfolding hi lo
@@ -173,25 +173,25 @@ within_of k (pos n) h = (h, omega arith)
 within_of k (negsuc n) h = (omega arith, h)
 
 -- z as a difference a - b is within a and b
-halves-within : (z : ℤ) (a b : ℕ) → hi z + b ≡ lo z + a → (hi z ≤ a) × (lo z ≤ b)
+halves_within : (z : ℤ) (a b : ℕ) → hi z + b ≡ lo z + a → (hi z ≤ a) × (lo z ≤ b)
 unfolding hi lo
-halves-within (pos n) a b e = (omega arith, omega arith)
-halves-within (negsuc n) a b e = (omega arith, omega arith)
+halves_within (pos n) a b e = (omega arith, omega arith)
+halves_within (negsuc n) a b e = (omega arith, omega arith)
 
-pub within-+ : (j k : ℕ) (a b : ℤ) → Within j a → Within k b → Within (j + k) (a +ℤ b)
-within-+ j k a b h q = let u = halves-within (a +ℤ b) (hi a + hi b) (lo a + lo b) (omega (arith, sm a b)) in (omega arith, omega arith)
+pub within_+ : (j k : ℕ) (a b : ℤ) → Within j a → Within k b → Within (j + k) (a +ℤ b)
+within_+ j k a b h q = let u = halves_within (a +ℤ b) (hi a + hi b) (lo a + lo b) (omega (arith, sm a b)) in (omega arith, omega arith)
 
-pub within-neg : (k : ℕ) (z : ℤ) → Within k z → Within k (neg_ℤ z)
-within-neg k z h = (omega (arith, hi-neg z), omega (arith, lo-neg z))
+pub within_neg : (k : ℕ) (z : ℤ) → Within k z → Within k (neg_ℤ z)
+within_neg k z h = (omega (arith, hi_neg z), omega (arith, lo_neg z))
 
-pub within-pos : (k n : ℕ) → n ≤ k → Within k (pos n)
+pub within_pos : (k n : ℕ) → n ≤ k → Within k (pos n)
 unfolding hi lo
-within-pos k n h = (h, omega arith)
+within_pos k n h = (h, omega arith)
 
-pub within-minus : (k a b : ℕ) → a ≤ k → b ≤ k → Within k (pos a -ℤ pos b)
+pub within_minus : (k a b : ℕ) → a ≤ k → b ≤ k → Within k (pos a -ℤ pos b)
 unfolding hi lo
-within-minus k a b h q =
-    let u = halves-within (pos a -ℤ pos b) a b (omega (arith, sm (pos a) (neg_ℤ (pos b)), hi-neg (pos b), lo-neg (pos b))) in
+within_minus k a b h q =
+    let u = halves_within (pos a -ℤ pos b) a b (omega (arith, sm (pos a) (neg_ℤ (pos b)), hi_neg (pos b), lo_neg (pos b))) in
     (omega arith, omega arith)
 
 -- n times k
@@ -199,18 +199,18 @@ unfoldable pub times : ℕ → ℕ → ℕ
 times zero k = 0
 times (suc n) k = k + times n k
 
-pub within-sum :
+pub within_sum :
     {A : Type 0} (k : ℕ) (f : A → ℤ) → ((x : A) → Within k (f x)) → (xs : List A) → Within (times (length xs) k) (sum f xs)
 unfolding sum times
-within-sum k f h [] = within-pos 0 0 (omega arith)
-within-sum k f h (x ∷ xs) = within-+ k (times (length xs) k) (f x) (sum f xs) (h x) (within-sum k f h xs)
+within_sum k f h [] = within_pos 0 0 (omega arith)
+within_sum k f h (x ∷ xs) = within_+ k (times (length xs) k) (f x) (sum f xs) (h x) (within_sum k f h xs)
 
 -- ---- a sum from the left is the sum
 abbrev left : ℤ → List ℤ → ℤ
 left a [] = a
 left a (b ∷ bs) = left (a +ℤ b) bs
 
-pub left-sum : (a : ℤ) (bs : List ℤ) → left a bs ≡ a +ℤ sum (λ z. z) bs
+pub left_sum : (a : ℤ) (bs : List ℤ) → left a bs ≡ a +ℤ sum (λ z. z) bs
 unfolding sum
-left-sum a [] = sym (+ℤ_idr a)
-left-sum a (b ∷ bs) = left-sum (a +ℤ b) bs ∙ +ℤ_assoc a b (sum (λ z. z) bs)
+left_sum a [] = sym (+ℤ_idr a)
+left_sum a (b ∷ bs) = left_sum (a +ℤ b) bs ∙ +ℤ_assoc a b (sum (λ z. z) bs)

@@ -7,9 +7,9 @@ use lib.Dec.{T}
 use Rattle.base.specs.Branch.{if◌then◌else◌}
 use Rattle.base.specs.Lists.{any, all, filter, In}
 
-pub false-by : (b : Bool) → (T b → ⊥) → b ≡ false
-false-by true f = absurd (f tt)
-false-by false f = refl
+pub false_by : (b : Bool) → (T b → ⊥) → b ≡ false
+false_by true f = absurd (f tt)
+false_by false f = refl
 
 pub same_by : (a b : Bool) → (T a → T b) → (T b → T a) → a ≡ b
 same_by true true f g = refl

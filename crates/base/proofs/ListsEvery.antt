@@ -12,25 +12,25 @@ abbrev pub up_to : (ℕ → Bool) → ℕ → Bool
 up_to f zero = true
 up_to f (suc n) = f n && up_to f n
 
-pub upTo-at : (f : ℕ → Bool) (n : ℕ) → T (up_to f n) → (k : ℕ) → k < n → T (f k)
-upTo-at f zero t k h = absurd (omega arith)
-upTo-at f (suc n) t k h = go (ℕ_discrete k n) (upTo-at f n (and→ (f n) (up_to f n) t).1 k)
+pub up_to_at : (f : ℕ → Bool) (n : ℕ) → T (up_to f n) → (k : ℕ) → k < n → T (f k)
+up_to_at f zero t k h = absurd (omega arith)
+up_to_at f (suc n) t k h = go (ℕ_discrete k n) (up_to_at f n (and→ (f n) (up_to f n) t).1 k)
   where
     go : Dec (k ≡ n) → (k < n → T (f k)) → T (f k)
     go (yes e) r = subst (λ (m : ℕ). T (f m)) (sym e) (and→ (f n) (up_to f n) t).0
     go (no q) r = r (omega arith)
 
-abbrev pub sameB : Bool → Bool → Bool
-sameB true b = b
-sameB false true = false
-sameB false false = true
+abbrev pub same_b : Bool → Bool → Bool
+same_b true b = b
+same_b false true = false
+same_b false false = true
 
-pub sameB-eq : (a b : Bool) → T (sameB a b) → a ≡ b
-sameB-eq true true t = refl
-sameB-eq true false t = absurd t
-sameB-eq false true t = absurd t
-sameB-eq false false t = refl
+pub same_b_eq : (a b : Bool) → T (same_b a b) → a ≡ b
+same_b_eq true true t = refl
+same_b_eq true false t = absurd t
+same_b_eq false true t = absurd t
+same_b_eq false false t = refl
 
 -- two Bools agree at each number below n
-pub same-below : (f g : ℕ → Bool) (n : ℕ) → T (up_to (λ k. sameB (f k) (g k)) n) → (k : ℕ) → k < n → f k ≡ g k
-same-below f g n t k h = sameB-eq (f k) (g k) (upTo-at (λ k. sameB (f k) (g k)) n t k h)
+pub same_below : (f g : ℕ → Bool) (n : ℕ) → T (up_to (λ k. same_b (f k) (g k)) n) → (k : ℕ) → k < n → f k ≡ g k
+same_below f g n t k h = same_b_eq (f k) (g k) (up_to_at (λ k. same_b (f k) (g k)) n t k h)

@@ -10,7 +10,7 @@ use mir.Facts.{to_z-of_z, sfits_widen}
 use mir.Syntax.{Width, w32, w64}
 use mir.Val.{Fits, SFits, hbits, sel, to_z, of_z}
 use borrow.Author.Tests.{lt-ltb}
-use Rattle.base.proofs.Integers.{hi, lo, Within, within-abs, within_of, within-+, within-neg}
+use Rattle.base.proofs.Integers.{hi, lo, Within, within_abs, within_of, within_+, within_neg}
 
 -- ---- read back
 -- what is read back of a number, at a width and at 64 bits
@@ -25,37 +25,37 @@ pub back : (z : ℤ) → SFits w64 z → reads z ≡ z
 back z h = to_z-of_z h
 
 -- what a call gives
-pub result-at : (w : Width) {r v : ℤ} → mag r < 2 ^ hbits w → r ≡ v → reads_at w r ≡ v
-result-at w h e = to_z-of_z {w = w} (record { sfits = h }) ∙ e
+pub result_at : (w : Width) {r v : ℤ} → mag r < 2 ^ hbits w → r ≡ v → reads_at w r ≡ v
+result_at w h e = to_z-of_z {w = w} (record { sfits = h }) ∙ e
 
 pub result : {r v : ℤ} → mag r < 2 ^ hbits w64 → r ≡ v → reads r ≡ v
-result h e = result-at w64 h e
+result h e = result_at w64 h e
 
 -- the order, from a test
 pub less : {a b : ℤ} → lt_z a b ≡ true → a <ℤ b
 less e = lt_z_yes (subst T (sym e) tt)
 
-pub not-less : {a b : ℤ} → lt_z a b ≡ false → b ≤ℤ a
-not-less e = lt_z_no (subst (λ (b : Bool). T (not b)) (sym e) tt)
+pub not_less : {a b : ℤ} → lt_z a b ≡ false → b ≤ℤ a
+not_less e = lt_z_no (subst (λ (b : Bool). T (not b)) (sym e) tt)
 
 -- ---- from a word
 pub low_word : (n : ℕ) → n < 9223372036854775808 → to_z w64 n ≡ pos n
 low_word n h = ap (λ (b : Bool). sel b (pos n) (negsuc (2 ^ 64 - suc n))) (lt-ltb n (2 ^ 63) h)
 
-pub zero-sub : (z : ℤ) → pos 0 -ℤ z ≡ neg_ℤ z
-zero-sub z = +ℤ_idl (neg_ℤ z)
+pub zero_sub : (z : ℤ) → pos 0 -ℤ z ≡ neg_ℤ z
+zero_sub z = +ℤ_idl (neg_ℤ z)
 
-pub minus-fits : (n : ℕ) → n < 9223372036854775808 → SFits w64 (pos 0 -ℤ pos n)
-minus-fits n h = rw zero-sub (neg n h)
+pub minus_fits : (n : ℕ) → n < 9223372036854775808 → SFits w64 (pos 0 -ℤ pos n)
+minus_fits n h = rw zero_sub (neg n h)
   where
     neg : (n : ℕ) → n < 9223372036854775808 → SFits w64 (neg_ℤ (pos n))
     neg zero h = record { sfits = omega arith }
     neg (suc n) h = record { sfits = omega (arith, h) }
 
 -- -n - 1
-pub minus-one-more : (n : ℕ) → (pos 0 -ℤ pos n) -ℤ pos 1 ≡ negsuc n
-minus-one-more zero = refl
-minus-one-more (suc n) = ap (λ (z : ℤ). z -ℤ pos 1) (zero-sub (pos (suc n))) ∙ -ℤ_one (negsuc n)
+pub minus_one_more : (n : ℕ) → (pos 0 -ℤ pos n) -ℤ pos 1 ≡ negsuc n
+minus_one_more zero = refl
+minus_one_more (suc n) = ap (λ (z : ℤ). z -ℤ pos 1) (zero_sub (pos (suc n))) ∙ -ℤ_one (negsuc n)
 
 -- ---- to a word
 -- -(z + 1), of a negative z
@@ -63,9 +63,9 @@ next_fits : (n : ℕ) → n < 2 ^ 63 → SFits w64 (suc_ℤ (negsuc n))
 next_fits zero h = record { sfits = omega arith }
 next_fits (suc n) h = record { sfits = omega (arith, h) }
 
-minus-next : (n : ℕ) → neg_ℤ (suc_ℤ (negsuc n)) ≡ pos n
-minus-next zero = refl
-minus-next (suc n) = refl
+minus_next : (n : ℕ) → neg_ℤ (suc_ℤ (negsuc n)) ≡ pos n
+minus_next zero = refl
+minus_next (suc n) = refl
 
 module _ (z : ℤ) (f : SFits w64 z) (e : lt_z (reads z) (pos 0) ≡ true) where
   pub negative : z ≡ negsuc (mag z)
@@ -75,32 +75,32 @@ module _ (z : ℤ) (f : SFits w64 z) (e : lt_z (reads z) (pos 0) ≡ true) where
       go (pos n) t = absurd (omega (arith, ltb→lt n 0 t.lt))
       go (negsuc n) t = refl
 
-  pub next-in : SFits w64 (reads z +ℤ pos 1)
-  next-in = rw (back z f) (rw (+ℤ_one z) (subst (λ (y : ℤ). SFits w64 (suc_ℤ y)) (sym negative) (next_fits (mag z) f.sfits)))
+  pub next_in : SFits w64 (reads z +ℤ pos 1)
+  next_in = rw (back z f) (rw (+ℤ_one z) (subst (λ (y : ℤ). SFits w64 (suc_ℤ y)) (sym negative) (next_fits (mag z) f.sfits)))
 
-  next-is : pos 0 -ℤ (z +ℤ pos 1) ≡ pos (mag z)
-  next-is = zero-sub (z +ℤ pos 1) ∙ ap neg_ℤ (+ℤ_one z) ∙ ap (λ (y : ℤ). neg_ℤ (suc_ℤ y)) negative ∙ minus-next (mag z)
+  next_is : pos 0 -ℤ (z +ℤ pos 1) ≡ pos (mag z)
+  next_is = zero_sub (z +ℤ pos 1) ∙ ap neg_ℤ (+ℤ_one z) ∙ ap (λ (y : ℤ). neg_ℤ (suc_ℤ y)) negative ∙ minus_next (mag z)
 
   inner : pos 0 -ℤ reads (reads z +ℤ pos 1) ≡ pos (mag z)
-  inner = ap (λ (y : ℤ). pos 0 -ℤ y) (back _ next-in) ∙ ap (λ (y : ℤ). pos 0 -ℤ (y +ℤ pos 1)) (back z f) ∙ next-is
+  inner = ap (λ (y : ℤ). pos 0 -ℤ y) (back _ next_in) ∙ ap (λ (y : ℤ). pos 0 -ℤ (y +ℤ pos 1)) (back z f) ∙ next_is
 
-  pub minus-next-in : SFits w64 (pos 0 -ℤ reads (reads z +ℤ pos 1))
-  minus-next-in = rw inner (record { sfits = f.sfits })
+  pub minus_next_in : SFits w64 (pos 0 -ℤ reads (reads z +ℤ pos 1))
+  minus_next_in = rw inner (record { sfits = f.sfits })
 
-  pub minus-next-is : reads (pos 0 -ℤ reads (reads z +ℤ pos 1)) ≡ pos (mag z)
-  minus-next-is = back _ minus-next-in ∙ inner
+  pub minus_next_is : reads (pos 0 -ℤ reads (reads z +ℤ pos 1)) ≡ pos (mag z)
+  minus_next_is = back _ minus_next_in ∙ inner
 
 module _ (z : ℤ) (f : SFits w64 z) (e : lt_z (reads z) (pos 0) ≡ false) where
   pub natural : z ≡ pos (nat_abs z)
-  natural = go z (subst (λ (y : ℤ). pos 0 ≤ℤ y) (back z f) (not-less e))
+  natural = go z (subst (λ (y : ℤ). pos 0 ≤ℤ y) (back z f) (not_less e))
     where
       go : (z : ℤ) → pos 0 ≤ℤ z → z ≡ pos (nat_abs z)
       go (pos n) h = refl
       go (negsuc n) h = absurd h.le
 
   -- it fits a word
-  pub natural-fits : T (non_neg z) × Fits w64 (nat_abs z)
-  natural-fits = go z f (subst (λ (y : ℤ). pos 0 ≤ℤ y) (back z f) (not-less e))
+  pub natural_fits : T (non_neg z) × Fits w64 (nat_abs z)
+  natural_fits = go z f (subst (λ (y : ℤ). pos 0 ≤ℤ y) (back z f) (not_less e))
     where
       go : (z : ℤ) → SFits w64 z → pos 0 ≤ℤ z → T (non_neg z) × Fits w64 (nat_abs z)
       go (pos n) f h = (tt, record { fits = omega (arith, f.sfits) })
@@ -121,8 +121,8 @@ pub record Held (w : Width) (k : ℕ) : Type 0 where
   pub near : Within k value
 
 -- what a call gives that promises a bound too
-abbrev pub held-promised : {w : Width} {k : ℕ} {r v : ℤ} → (r ≡ v) × (nat_abs r ≤ k) → Held w k
-held-promised {w} {k} {r} {v} e = record {
+abbrev pub held_promised : {w : Width} {k : ℕ} {r v : ℤ} → (r ≡ v) × (nat_abs r ≤ k) → Held w k
+held_promised {w} {k} {r} {v} e = record {
   machine = r;
   value = v;
   same = e.0;
@@ -138,7 +138,7 @@ module _ {w : Width} {k : ℕ} (h : Held w k) (t : T (ltb k (2 ^ hbits w))) wher
 
   -- as a promise with a bound
   pub held_gives : {v : ℤ} → h.value ≡ v → (reads_at w h.machine ≡ v) × (nat_abs (reads_at w h.machine) ≤ k)
-  held_gives e = (held_reads ∙ e, subst (λ (z : ℤ). nat_abs z ≤ k) (sym held_reads) (within-abs k h.value h.near))
+  held_gives e = (held_reads ∙ e, subst (λ (z : ℤ). nat_abs z ≤ k) (sym held_reads) (within_abs k h.value h.near))
 
 -- the sum of two, as the machine takes it
 abbrev pub plus : {w : Width} {j k : ℕ} (a : Held w j) (b : Held w k) → T (ltb j (2 ^ hbits w)) → T (ltb k (2 ^ hbits w)) → Held w (j + k)
@@ -146,7 +146,7 @@ plus {w} {j} {k} a b t u = record {
   machine = reads_at w a.machine +ℤ reads_at w b.machine;
   value = a.value +ℤ b.value;
   same = ap₂ ◌+ℤ◌ (held_reads a t) (held_reads b u);
-  near = within-+ j k a.value b.value a.near b.near;
+  near = within_+ j k a.value b.value a.near b.near;
 }
 
 -- the negative of one
@@ -154,14 +154,14 @@ abbrev pub minus : {w : Width} {k : ℕ} (a : Held w k) → T (ltb k (2 ^ hbits 
 minus {w} {k} a t = record {
   machine = pos 0 -ℤ reads_at w a.machine;
   value = neg_ℤ a.value;
-  same = zero-sub (reads_at w a.machine) ∙ ap neg_ℤ (held_reads a t);
-  near = within-neg k a.value a.near;
+  same = zero_sub (reads_at w a.machine) ∙ ap neg_ℤ (held_reads a t);
+  near = within_neg k a.value a.near;
 }
 
 -- ---- a number of 32 bits, widened
-small-abs : (z : ℤ) → SFits w32 z → nat_abs z ≤ 2147483648
-small-abs (pos n) f = omega arith
-small-abs (negsuc n) f = omega arith
+small_abs : (z : ℤ) → SFits w32 z → nat_abs z ≤ 2147483648
+small_abs (pos n) f = omega arith
+small_abs (negsuc n) f = omega arith
 
 module _ {z : ℤ} (f : SFits w32 z) where
   pub widens : SFits w64 (reads_at w32 z)
@@ -170,7 +170,7 @@ module _ {z : ℤ} (f : SFits w32 z) where
   pub widened : (reads (reads_at w32 z) ≡ z) × (nat_abs (reads (reads_at w32 z)) ≤ 2147483648)
   widened =
       let e = back (reads_at w32 z) widens ∙ to_z-of_z {w = w32} f in
-      (e, subst (λ (y : ℤ). nat_abs y ≤ 2147483648) (sym e) (small-abs z f))
+      (e, subst (λ (y : ℤ). nat_abs y ≤ 2147483648) (sym e) (small_abs z f))
 
-abbrev pub held-wide : (z : ℤ) {r : ℤ} → (r ≡ reads_at w32 z) × (nat_abs r ≤ 2147483648) → mag z < 2 ^ hbits w32 → Held w64 2147483648
-held-wide z e h = held-promised {v = z} (e.0 ∙ result-at w32 h refl, e.1)
+abbrev pub held_wide : (z : ℤ) {r : ℤ} → (r ≡ reads_at w32 z) × (nat_abs r ≤ 2147483648) → mag z < 2 ^ hbits w32 → Held w64 2147483648
+held_wide z e h = held_promised {v = z} (e.0 ∙ result_at w32 h refl, e.1)

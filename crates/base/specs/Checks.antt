@@ -7,6 +7,6 @@ unfoldable pub all_pass : List (Bool × ℕ) → Bool
 all_pass cs = all (λ (t : Bool × ℕ). t.0) cs
 
 -- the number of the first that fails, 0 where all pass
-unfoldable pub first-failed : List (Bool × ℕ) → ℕ
-first-failed [] = 0
-first-failed (t ∷ ts) = if t.0 then (λ _. first-failed ts) else λ _. t.1
+unfoldable pub first_failed : List (Bool × ℕ) → ℕ
+first_failed [] = 0
+first_failed (t ∷ ts) = if t.0 then (λ _. first_failed ts) else λ _. t.1

@@ -2,8 +2,8 @@
 use Rattle.std.specs.Prelude.{Bool, true, false, List, [], ◌∷◌, ℕ, eqb}
 use Rattle.base.specs.Branch.{if◌then◌else◌}
 
-abbrev pub line-feed : ℕ
-line-feed = 0x0a
+abbrev pub line_feed : ℕ
+line_feed = 0x0a
 
 pub record UpToFeed (S : Type 0) : Type 0 where
   pub line : S
@@ -12,7 +12,7 @@ pub record UpToFeed (S : Type 0) : Type 0 where
 
 -- push is what one byte makes of a line
 module _ {S : Type 0} (push : S → ℕ → S) where
-  unfoldable pub up-to-feed : S → List ℕ → UpToFeed S
-  up-to-feed s [] = record { line = s; left = []; found = false }
-  up-to-feed s (b ∷ bs) =
-      if eqb b line-feed then (λ _. record { line = s; left = bs; found = true }) else λ _. up-to-feed (push s b) bs
+  unfoldable pub up_to_feed : S → List ℕ → UpToFeed S
+  up_to_feed s [] = record { line = s; left = []; found = false }
+  up_to_feed s (b ∷ bs) =
+      if eqb b line_feed then (λ _. record { line = s; left = bs; found = true }) else λ _. up_to_feed (push s b) bs

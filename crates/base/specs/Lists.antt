@@ -41,9 +41,9 @@ from i zero = []
 from i (suc n) = i ∷ from (suc i) n
 
 -- the lists of all numbers of a list, joined
-unfoldable pub concat-map : (ℕ → List ℕ) → List ℕ → List ℕ
-concat-map f [] = []
-concat-map f (x ∷ xs) = f x ++ concat-map f xs
+unfoldable pub concat_map : (ℕ → List ℕ) → List ℕ → List ℕ
+concat_map f [] = []
+concat_map f (x ∷ xs) = f x ++ concat_map f xs
 
 -- the sum of a number for each
 unfoldable pub total : (ℕ → ℕ) → List ℕ → ℕ

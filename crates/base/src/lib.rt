@@ -1,1 +1,2 @@
 // No code: definitions and laws that the other crates share.
+#![tactic(auto)]

@@ -12,20 +12,20 @@ use lib.Dec.{T, lit<}
 use lib.ListN.{length, length-map, length-append}
 use Rattle.base.specs.Branch.{if◌then◌else◌}
 use Rattle.base.specs.Bits.{bit, digits}
-use Rattle.base.specs.Lists.{filter, In, elem, from, concat-map}
-use Rattle.base.proofs.ListsAgree.{same_by, false-by, filter_same}
-use Rattle.base.proofs.BitsOperations.{bit-nought}
-use Rattle.base.proofs.ListsFilter.{filter_map, filter-join, in_map, map-in, elem-join, elem-filter}
-use Rattle.base.proofs.Lists.{filter-in, in-filter, in-elem, elem_in, in-from, from_in, in-concat-map}
-use Rattle.base.proofs.Bits.{bit_masked, masked, digits_same, bit-digits}
-use Rattle.base.proofs.BitsOnes.{set-digits, count_ones, lowest-first, lowest-lt}
+use Rattle.base.specs.Lists.{filter, In, elem, from, concat_map}
+use Rattle.base.proofs.ListsAgree.{same_by, false_by, filter_same}
+use Rattle.base.proofs.BitsOperations.{bit_nought}
+use Rattle.base.proofs.ListsFilter.{filter_map, filter_join, in_map, map_in, elem_join, elem_filter}
+use Rattle.base.proofs.Lists.{filter_in, in_filter, in_elem, elem_in, in_from, from_in, in_concat_map}
+use Rattle.base.proofs.Bits.{bit_masked, masked, digits_same, bit_digits}
+use Rattle.base.proofs.BitsOnes.{set_digits, count_ones, lowest_first, lowest_lt}
 use Rattle.rules.specs.Board.{nine}
 use Rattle.rules.specs.Moves.{places}
-use Rattle.rules.specs.Play.{move-of}
+use Rattle.rules.specs.Play.{move_of}
 use Rattle.boards.specs.declared.moves.Move.{Move}
 use Rattle.boards.specs.declared.moves.MoveIterator.{MoveIterator}
 use Rattle.boards.specs.declared.moves.Listed.TheVariants.{Next, End}
-use Rattle.boards.specs.Cursor.{move_at, row-moves, moves-left, row-over, cursor-over, listed}
+use Rattle.boards.specs.Cursor.{move_at, row_moves, moves_left, row_over, cursor_over, listed}
 
 -- ---- moves at different places differ
 same_move : (r q k j : ℕ) → k < 27 → j < 27 → move_at r k ≡ move_at q j → (r ≡ q) × (k ≡ j)
@@ -36,92 +36,92 @@ same_move r q k j h l e =
     (o, omega arith)
 
 module _ (r k : ℕ) (h : k < 27) where
-  in_row : (q n : ℕ) → T (elem (move_at r k) (row-moves q n)) → (r ≡ q) × T (bit n k)
-  unfolding row-moves
+  in_row : (q n : ℕ) → T (elem (move_at r k) (row_moves q n)) → (r ≡ q) × T (bit n k)
+  unfolding row_moves
   in_row q n t =
-      let m = map-in (move_at q) (move_at r k) (filter (bit n) (from 0 27))
+      let m = map_in (move_at q) (move_at r k) (filter (bit n) (from 0 27))
       (elem_in (move_at r k) (map (move_at q) (filter (bit n) (from 0 27))) t) in
-      let i = filter-in (bit n) m.0 (from 0 27) m.1 in
+      let i = filter_in (bit n) m.0 (from 0 27) m.1 in
       let s = same_move r q k m.0 h (from_in 0 27 m.0 i.0).1 m.2 in
       (s.0, subst (λ (j : ℕ). T (bit n j)) (sym s.1) i.1)
 
-  this-row : (n : ℕ) → elem (move_at r k) (row-moves r n) ≡ bit n k
-  unfolding row-moves
-  this-row n =
-      same_by (elem (move_at r k) (row-moves r n)) (bit n k) (λ t. (in_row r n t).1)
-      (λ t. in-elem (move_at r k) (row-moves r n) (in_map (move_at r) k (filter (bit n) (from 0 27))
-      (in-filter (bit n) k (from 0 27) (in-from 0 27 k (omega arith) (omega arith)) t)))
+  this_row : (n : ℕ) → elem (move_at r k) (row_moves r n) ≡ bit n k
+  unfolding row_moves
+  this_row n =
+      same_by (elem (move_at r k) (row_moves r n)) (bit n k) (λ t. (in_row r n t).1)
+      (λ t. in_elem (move_at r k) (row_moves r n) (in_map (move_at r) k (filter (bit n) (from 0 27))
+      (in_filter (bit n) k (from 0 27) (in_from 0 27 k (omega arith) (omega arith)) t)))
 
-  other_row : (q n : ℕ) → (r ≡ q → ⊥) → elem (move_at r k) (row-moves q n) ≡ false
-  other_row q n d = false-by (elem (move_at r k) (row-moves q n)) (λ t. d (in_row q n t).0)
+  other_row : (q n : ℕ) → (r ≡ q → ⊥) → elem (move_at r k) (row_moves q n) ≡ false
+  other_row q n d = false_by (elem (move_at r k) (row_moves q n)) (λ t. d (in_row q n t).0)
 
 -- ---- the cursor over what a cursor has left is the cursor without the bits above the 27
 module _ (it : MoveIterator) where
-  three : (r k : ℕ) → elem (move_at r k) (moves-left it) ≡ (elem (move_at r k) (row-moves 0 it.top) ||
-      (elem (move_at r k) (row-moves 1 it.middle) || elem (move_at r k) (row-moves 2 it.bottom)))
-  unfolding moves-left
+  three : (r k : ℕ) → elem (move_at r k) (moves_left it) ≡ (elem (move_at r k) (row_moves 0 it.top) ||
+      (elem (move_at r k) (row_moves 1 it.middle) || elem (move_at r k) (row_moves 2 it.bottom)))
+  unfolding moves_left
   three r k =
-      elem-join (move_at r k) (row-moves 0 it.top) (row-moves 1 it.middle ++ row-moves 2 it.bottom)
-      ∙ ap (◌||◌ (elem (move_at r k) (row-moves 0 it.top))) (elem-join (move_at r k) (row-moves 1 it.middle)
-      (row-moves 2 it.bottom))
+      elem_join (move_at r k) (row_moves 0 it.top) (row_moves 1 it.middle ++ row_moves 2 it.bottom)
+      ∙ ap (◌||◌ (elem (move_at r k) (row_moves 0 it.top))) (elem_join (move_at r k) (row_moves 1 it.middle)
+      (row_moves 2 it.bottom))
 
-  top_again : row-over 0 (moves-left it) ≡ bit_and it.top 134217727
-  unfolding row-over
+  top_again : row_over 0 (moves_left it) ≡ bit_and it.top 134217727
+  unfolding row_over
   top_again =
-      sym (masked (λ k. elem (move_at 0 k) (moves-left it)) 27 it.top
+      sym (masked (λ k. elem (move_at 0 k) (moves_left it)) 27 it.top
       (λ k h. sym (three 0 k ∙ rw (
-        this-row 0 k h it.top,
+        this_row 0 k h it.top,
         other_row 0 k h 1 it.middle (λ e. omega arith),
         other_row 0 k h 2 it.bottom (λ e. omega arith),
       ) (or-false (bit it.top k)))))
 
-  middle-again : row-over 1 (moves-left it) ≡ bit_and it.middle 134217727
-  unfolding row-over
-  middle-again =
-      sym (masked (λ k. elem (move_at 1 k) (moves-left it)) 27 it.middle
+  middle_again : row_over 1 (moves_left it) ≡ bit_and it.middle 134217727
+  unfolding row_over
+  middle_again =
+      sym (masked (λ k. elem (move_at 1 k) (moves_left it)) 27 it.middle
       (λ k h. sym (three 1 k ∙ rw (
-        this-row 1 k h it.middle,
+        this_row 1 k h it.middle,
         other_row 1 k h 0 it.top (λ e. omega arith),
         other_row 1 k h 2 it.bottom (λ e. omega arith),
       ) (or-false (bit it.middle k)))))
 
-  bottom-again : row-over 2 (moves-left it) ≡ bit_and it.bottom 134217727
-  unfolding row-over
-  bottom-again =
-      sym (masked (λ k. elem (move_at 2 k) (moves-left it)) 27 it.bottom
+  bottom_again : row_over 2 (moves_left it) ≡ bit_and it.bottom 134217727
+  unfolding row_over
+  bottom_again =
+      sym (masked (λ k. elem (move_at 2 k) (moves_left it)) 27 it.bottom
       (λ k h. sym (three 2 k ∙ rw (
-        this-row 2 k h it.bottom,
+        this_row 2 k h it.bottom,
         other_row 2 k h 0 it.top (λ e. omega arith),
         other_row 2 k h 1 it.middle (λ e. omega arith),
       ))))
 
-  pub cursor-again : cursor-over (moves-left it) ≡ record {
+  pub cursor_again : cursor_over (moves_left it) ≡ record {
     top = bit_and it.top 134217727;
     middle = bit_and it.middle 134217727;
     bottom = bit_and it.bottom 134217727;
   }
-  cursor-again = λ i. record { top = top_again i; middle = middle-again i; bottom = bottom-again i }
+  cursor_again = λ i. record { top = top_again i; middle = middle_again i; bottom = bottom_again i }
 
 -- ---- the next move
-pub row-masked : (r n : ℕ) → row-moves r (bit_and n 134217727) ≡ row-moves r n
-unfolding row-moves
-row-masked r n =
+pub row_masked : (r n : ℕ) → row_moves r (bit_and n 134217727) ≡ row_moves r n
+unfolding row_moves
+row_masked r n =
     ap (map (move_at r)) (filter_same (bit (bit_and n 134217727)) (bit n) (from 0 27) (λ k i. bit_masked 27 n k (from_in 0 27 k i).1))
 
 row_first : (r n : ℕ) → (bit_and n 134217727 ≡ 0 → ⊥)
-    → row-moves r n ≡ move_at r (count_trailing_zeros 32 (bit_and n 134217727)) ∷
-    row-moves r (bit_and (bit_and n 134217727) (bit_and n 134217727 - 1))
-unfolding row-moves
-row_first r n z = sym (row-masked r n) ∙ ap (map (move_at r)) (lowest-first 27 32 (bit_and n 134217727) (omega arith) (mask_lt n 27) z)
+    → row_moves r n ≡ move_at r (count_trailing_zeros 32 (bit_and n 134217727)) ∷
+    row_moves r (bit_and (bit_and n 134217727) (bit_and n 134217727 - 1))
+unfolding row_moves
+row_first r n z = sym (row_masked r n) ∙ ap (map (move_at r)) (lowest_first 27 32 (bit_and n 134217727) (omega arith) (mask_lt n 27) z)
 
-row-none : (r n : ℕ) → bit_and n 134217727 ≡ 0 → row-moves r n ≡ []
-unfolding row-moves filter if◌then◌else◌
-row-none r n e =
-    sym (row-masked r n) ∙ ap (row-moves r) e
-    ∙ ap (map (move_at r)) (filter_same (bit 0) (λ _. false) (from 0 27) (λ k i. bit-nought k))
+row_none : (r n : ℕ) → bit_and n 134217727 ≡ 0 → row_moves r n ≡ []
+unfolding row_moves filter if◌then◌else◌
+row_none r n e =
+    sym (row_masked r n) ∙ ap (row_moves r) e
+    ∙ ap (map (move_at r)) (filter_same (bit 0) (λ _. false) (from 0 27) (λ k i. bit_nought k))
 
-pub lowest-place : (n : ℕ) → (bit_and n 134217727 ≡ 0 → ⊥) → count_trailing_zeros 32 (bit_and n 134217727) < 27
-lowest-place n z = lowest-lt 27 32 (bit_and n 134217727) (omega arith) (mask_lt n 27) z
+pub lowest_place : (n : ℕ) → (bit_and n 134217727 ≡ 0 → ⊥) → count_trailing_zeros 32 (bit_and n 134217727) < 27
+lowest_place n z = lowest_lt 27 32 (bit_and n 134217727) (omega arith) (mask_lt n 27) z
 
 small : (n : ℕ) → n < 2 ^ 27 → bit_and n 134217727 ≡ n
 small n h = and_mask n 27 ∙ mod-eq_of_lt h
@@ -131,16 +131,16 @@ less n = lt_of_le_of_lt (and_le_l (bit_and n 134217727) (bit_and n 134217727 - 1
 
 -- a cursor with no bits above the 27 is the cursor over what it has left
 module _ (left : MoveIterator) (a : left.top < 2 ^ 27) (b : left.middle < 2 ^ 27) (c : left.bottom < 2 ^ 27) where
-  pub cursor-back : cursor-over (moves-left left) ≡ left
-  cursor-back =
-      cursor-again left ∙ (λ i. record {
+  pub cursor_back : cursor_over (moves_left left) ≡ left
+  cursor_back =
+      cursor_again left ∙ (λ i. record {
         top = small left.top a i;
         middle = small left.middle b i;
         bottom = small left.bottom c i;
       })
 
-  listed-first : (m : Move) (n : ℕ) (ms : List ℕ) → m.bits ≡ n → ms ≡ n ∷ moves-left left → Next m left ≡ listed ms
-  listed-first m n ms e f = ap₂ Next (λ i. record { bits = e i }) (sym cursor-back) ∙ sym (ap listed f)
+  listed_first : (m : Move) (n : ℕ) (ms : List ℕ) → m.bits ≡ n → ms ≡ n ∷ moves_left left → Next m left ≡ listed ms
+  listed_first m n ms e f = ap₂ Next (λ i. record { bits = e i }) (sym cursor_back) ∙ sym (ap listed f)
 
 module _ (it : MoveIterator) (m : Move) (t : ℕ) where
   abbrev top : ℕ
@@ -152,57 +152,57 @@ module _ (it : MoveIterator) (m : Move) (t : ℕ) where
   abbrev bottom : ℕ
   bottom = bit_and it.bottom 134217727
 
-  pub next-top : (top ≡ 0 → ⊥) → t ≡ bit_and top (top - 1) → m.bits ≡ move_at 0 (count_trailing_zeros 32 top)
-      → Next m (record { top = t; middle = middle; bottom = bottom }) ≡ listed (moves-left it)
-  unfolding moves-left
-  next-top z e f = rw e
-      (listed-first (record { top = bit_and top (top - 1); middle = middle; bottom = bottom }) (less it.top) (mask_lt it.middle 27)
+  pub next_top : (top ≡ 0 → ⊥) → t ≡ bit_and top (top - 1) → m.bits ≡ move_at 0 (count_trailing_zeros 32 top)
+      → Next m (record { top = t; middle = middle; bottom = bottom }) ≡ listed (moves_left it)
+  unfolding moves_left
+  next_top z e f = rw e
+      (listed_first (record { top = bit_and top (top - 1); middle = middle; bottom = bottom }) (less it.top) (mask_lt it.middle 27)
       (mask_lt it.bottom 27)
-      m _ (moves-left it) f (rw (row-masked 1 it.middle, row-masked 2 it.bottom)
-      (ap (λ (ms : List ℕ). ms ++ (row-moves 1 it.middle ++ row-moves 2 it.bottom)) (row_first 0 it.top z))))
+      m _ (moves_left it) f (rw (row_masked 1 it.middle, row_masked 2 it.bottom)
+      (ap (λ (ms : List ℕ). ms ++ (row_moves 1 it.middle ++ row_moves 2 it.bottom)) (row_first 0 it.top z))))
 
-  pub next-middle : top ≡ 0 → (middle ≡ 0 → ⊥) → t ≡ bit_and middle (middle - 1) →
+  pub next_middle : top ≡ 0 → (middle ≡ 0 → ⊥) → t ≡ bit_and middle (middle - 1) →
       m.bits ≡ move_at 1 (count_trailing_zeros 32 middle)
-      → Next m (record { top = 0; middle = t; bottom = bottom }) ≡ listed (moves-left it)
-  unfolding moves-left
-  next-middle o z e f = rw e
-      (listed-first (record { top = 0; middle = bit_and middle (middle - 1); bottom = bottom }) (lit< tt) (less it.middle)
+      → Next m (record { top = 0; middle = t; bottom = bottom }) ≡ listed (moves_left it)
+  unfolding moves_left
+  next_middle o z e f = rw e
+      (listed_first (record { top = 0; middle = bit_and middle (middle - 1); bottom = bottom }) (lit< tt) (less it.middle)
       (mask_lt it.bottom 27)
-      m _ (moves-left it) f (rw (row-none 0 it.top o, row-none 0 0 refl, row-masked 2 it.bottom)
-      (ap (λ (ms : List ℕ). ms ++ row-moves 2 it.bottom) (row_first 1 it.middle z))))
+      m _ (moves_left it) f (rw (row_none 0 it.top o, row_none 0 0 refl, row_masked 2 it.bottom)
+      (ap (λ (ms : List ℕ). ms ++ row_moves 2 it.bottom) (row_first 1 it.middle z))))
 
-  pub next-bottom : top ≡ 0 → middle ≡ 0 → (bottom ≡ 0 → ⊥) → t ≡ bit_and bottom (bottom - 1) →
+  pub next_bottom : top ≡ 0 → middle ≡ 0 → (bottom ≡ 0 → ⊥) → t ≡ bit_and bottom (bottom - 1) →
       m.bits ≡ move_at 2 (count_trailing_zeros 32 bottom)
-      → Next m (record { top = 0; middle = 0; bottom = t }) ≡ listed (moves-left it)
-  unfolding moves-left
-  next-bottom o p z e f = rw e
-      (listed-first (record { top = 0; middle = 0; bottom = bit_and bottom (bottom - 1) }) (lit< tt) (lit< tt) (less it.bottom)
-      m _ (moves-left it) f (rw (row-none 0 it.top o, row-none 1 it.middle p, row-none 0 0 refl, row-none 1 0 refl)
+      → Next m (record { top = 0; middle = 0; bottom = t }) ≡ listed (moves_left it)
+  unfolding moves_left
+  next_bottom o p z e f = rw e
+      (listed_first (record { top = 0; middle = 0; bottom = bit_and bottom (bottom - 1) }) (lit< tt) (lit< tt) (less it.bottom)
+      m _ (moves_left it) f (rw (row_none 0 it.top o, row_none 1 it.middle p, row_none 0 0 refl, row_none 1 0 refl)
       (row_first 2 it.bottom z)))
 
-pub next-none : (it : MoveIterator) → bit_and it.top 134217727 ≡ 0 → bit_and it.middle 134217727 ≡ 0 →
-    bit_and it.bottom 134217727 ≡ 0 → End ≡ listed (moves-left it)
-unfolding moves-left
-next-none it o p q = rw (row-none 0 it.top o, row-none 1 it.middle p, row-none 2 it.bottom q)
+pub next_none : (it : MoveIterator) → bit_and it.top 134217727 ≡ 0 → bit_and it.middle 134217727 ≡ 0 →
+    bit_and it.bottom 134217727 ≡ 0 → End ≡ listed (moves_left it)
+unfolding moves_left
+next_none it o p q = rw (row_none 0 it.top o, row_none 1 it.middle p, row_none 2 it.bottom q)
 
 -- ---- how many are left
-row-length : (r n : ℕ) → ones (bit_and n 134217727) ≡ length (row-moves r n)
-unfolding row-moves
-row-length r n =
+row_length : (r n : ℕ) → ones (bit_and n 134217727) ≡ length (row_moves r n)
+unfolding row_moves
+row_length r n =
     count_ones 27 (bit_and n 134217727) (mask_lt n 27)
-    ∙ sym (length-map (set-digits 27 (bit_and n 134217727)) (move_at r)) ∙ ap length (row-masked r n)
+    ∙ sym (length-map (set_digits 27 (bit_and n 134217727)) (move_at r)) ∙ ap length (row_masked r n)
 
-pub left-length : (it : MoveIterator) → ones (bit_and it.top 134217727) + ones (bit_and it.middle 134217727) + ones
-    (bit_and it.bottom 134217727) ≡ length (moves-left it)
-unfolding moves-left
-left-length it =
-    let a = row-length 0 it.top in
-    let b = row-length 1 it.middle in
-    let c = row-length 2 it.bottom in
+pub left_length : (it : MoveIterator) → ones (bit_and it.top 134217727) + ones (bit_and it.middle 134217727) + ones
+    (bit_and it.bottom 134217727) ≡ length (moves_left it)
+unfolding moves_left
+left_length it =
+    let a = row_length 0 it.top in
+    let b = row_length 1 it.middle in
+    let c = row_length 2 it.bottom in
     omega (
       arith,
-      length-append (row-moves 0 it.top) (row-moves 1 it.middle ++ row-moves 2 it.bottom),
-      length-append (row-moves 1 it.middle) (row-moves 2 it.bottom),
+      length-append (row_moves 0 it.top) (row_moves 1 it.middle ++ row_moves 2 it.bottom),
+      length-append (row_moves 1 it.middle) (row_moves 2 it.bottom),
     )
 
 -- ---- the cursor over a part of the 81 places
@@ -210,35 +210,35 @@ module _ (f : ℕ → Bool) where
   place_in : (r k : ℕ) → r < 3 → k < 27 → In (move_at r k) places
   unfolding places
   place_in r k h l =
-      in-concat-map (λ b. map (move-of b) nine) (3 * r + k / 9) (move_at r k) nine
-      (in-from 0 9 (3 * r + k / 9) (omega arith) (omega arith))
-      (in_map (move-of (3 * r + k / 9)) (k % 9) nine (in-from 0 9 (k % 9) (omega arith) (omega arith)))
+      in_concat_map (λ b. map (move_of b) nine) (3 * r + k / 9) (move_at r k) nine
+      (in_from 0 9 (3 * r + k / 9) (omega arith) (omega arith))
+      (in_map (move_of (3 * r + k / 9)) (k % 9) nine (in_from 0 9 (k % 9) (omega arith) (omega arith)))
 
   -- a row has the test's answers as its digits
-  pub row-over-kept : (r : ℕ) → r < 3 → row-over r (filter f places) ≡ digits (λ k. f (move_at r k)) 27
-  unfolding row-over
-  row-over-kept r h =
+  pub row_over_kept : (r : ℕ) → r < 3 → row_over r (filter f places) ≡ digits (λ k. f (move_at r k)) 27
+  unfolding row_over
+  row_over_kept r h =
       digits_same (λ k. elem (move_at r k) (filter f places)) (λ k. f (move_at r k)) 27
-      (λ k l. elem-filter f (move_at r k) places (place_in r k h l))
+      (λ k l. elem_filter f (move_at r k) places (place_in r k h l))
 
-  row_kept : (r : ℕ) → r < 3 → row-moves r (row-over r (filter f places)) ≡ filter f (map (move_at r) (from 0 27))
-  unfolding row-moves
+  row_kept : (r : ℕ) → r < 3 → row_moves r (row_over r (filter f places)) ≡ filter f (map (move_at r) (from 0 27))
+  unfolding row_moves
   row_kept r h =
-      ap (row-moves r) (row-over-kept r h)
+      ap (row_moves r) (row_over_kept r h)
       ∙ ap (map (move_at r)) (filter_same (bit (digits (λ k. f (move_at r k)) 27)) (λ k. f (move_at r k)) (from 0 27)
-      (λ k i. bit-digits (λ k. f (move_at r k)) 27 k (from_in 0 27 k i).1))
+      (λ k i. bit_digits (λ k. f (move_at r k)) 27 k (from_in 0 27 k i).1))
       ∙ sym (filter_map f (move_at r) (from 0 27))
 
   by_rows : places ≡ map (move_at 0) (from 0 27) ++ (map (move_at 1) (from 0 27) ++ map (move_at 2) (from 0 27))
-  unfolding places concat-map
+  unfolding places concat_map
   by_rows = refl
 
   -- and it has just that part left
-  pub cursor-kept : moves-left (cursor-over (filter f places)) ≡ filter f places
-  unfolding moves-left
-  cursor-kept =
+  pub cursor_kept : moves_left (cursor_over (filter f places)) ≡ filter f places
+  unfolding moves_left
+  cursor_kept =
       ap₂ ◌++◌ (row_kept 0 (lit< tt)) (ap₂ ◌++◌ (row_kept 1 (lit< tt)) (row_kept 2 (lit< tt)))
-      ∙ sym (ap (filter f) by_rows ∙ filter-join f (map (move_at 0) (from 0 27))
+      ∙ sym (ap (filter f) by_rows ∙ filter_join f (map (move_at 0) (from 0 27))
       (map (move_at 1) (from 0 27) ++ map (move_at 2) (from 0 27))
       ∙ ap (λ (ms : List ℕ). filter f (map (move_at 0) (from 0 27)) ++ ms)
-      (filter-join f (map (move_at 1) (from 0 27)) (map (move_at 2) (from 0 27))))
+      (filter_join f (map (move_at 1) (from 0 27)) (map (move_at 2) (from 0 27))))

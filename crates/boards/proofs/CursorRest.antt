@@ -8,18 +8,18 @@ use lib.Dec.{T, eqb, eqb→eq, lit<, T_not}
 use lib.ListN.{drop}
 use Rattle.base.specs.Branch.{if◌then◌else◌}
 use Rattle.base.specs.Bits.{bit, digits}
-use Rattle.base.specs.Lists.{filter, In, elem, unique, concat-map}
-use Rattle.base.proofs.ListsAgree.{filter_same, false-by}
+use Rattle.base.specs.Lists.{filter, In, elem, unique, concat_map}
+use Rattle.base.proofs.ListsAgree.{filter_same, false_by}
 use Rattle.base.proofs.Bool.{and→}
-use Rattle.base.proofs.Lists.{in-elem}
+use Rattle.base.proofs.Lists.{in_elem}
 use borrow.Author.Tests.{eq-eqb}
 use Rattle.rules.specs.Moves.{places}
 use Rattle.boards.specs.declared.moves.Move.{Move}
 use Rattle.boards.specs.declared.moves.MoveIterator.{MoveIterator}
 use Rattle.boards.specs.declared.moves.Listed.{Listed}
 use Rattle.boards.specs.declared.moves.Listed.TheVariants.{Next, End}
-use Rattle.boards.specs.Cursor.{row-moves, moves-left, row-over, cursor-over, listed}
-use Rattle.boards.proofs.Cursor.{cursor-again, row-over-kept, cursor-kept, row-masked}
+use Rattle.boards.specs.Cursor.{row_moves, moves_left, row_over, cursor_over, listed}
+use Rattle.boards.proofs.Cursor.{cursor_again, row_over_kept, cursor_kept, row_masked}
 
 -- ---- without the first that is kept
 module _ (f : ℕ → Bool) (m : ℕ) where
@@ -30,7 +30,7 @@ module _ (f : ℕ → Bool) (m : ℕ) where
   absent xs n =
       filter_same others f xs
       (λ k i. ap (λ (b : Bool). f k && not b)
-      (false-by (eqb k m) (λ t. T_not (elem m xs) n (in-elem m xs (subst (λ (z : ℕ). In z xs) (eqb→eq k m t) i)))) ∙ and-true (f k))
+      (false_by (eqb k m) (λ t. T_not (elem m xs) n (in_elem m xs (subst (λ (z : ℕ). In z xs) (eqb→eq k m t) i)))) ∙ and-true (f k))
 
   -- by the test's answer at the first
   step : (x : ℕ) (xs ms : List ℕ) → T (unique (x ∷ xs)) → (filter f xs ≡ m ∷ ms → filter others xs ≡ ms) → (b : Bool)
@@ -42,65 +42,65 @@ module _ (f : ℕ → Bool) (m : ℕ) where
       rw (eq-eqb x m p) (absent xs (subst (λ (z : ℕ). T (not (elem z xs))) p (and→ (not (elem x xs)) _ t).0) ∙ (cc))
   step x xs ms t r false h = r h
 
-  pub kept-rest : (xs ms : List ℕ) → T (unique xs) → filter f xs ≡ m ∷ ms → filter others xs ≡ ms
+  pub kept_rest : (xs ms : List ℕ) → T (unique xs) → filter f xs ≡ m ∷ ms → filter others xs ≡ ms
   unfolding filter unique
-  kept-rest [] ms t e = absurd (let z : ◌≡◌ {A = ℕ} 0 1 = cc in omega arith)
-  kept-rest (x ∷ xs) ms t e = step x xs ms t (kept-rest xs ms (and→ (not (elem x xs)) _ t).1) (f x) e
+  kept_rest [] ms t e = absurd (let z : ◌≡◌ {A = ℕ} 0 1 = cc in omega arith)
+  kept_rest (x ∷ xs) ms t e = step x xs ms t (kept_rest xs ms (and→ (not (elem x xs)) _ t).1) (f x) e
 
 -- ---- the cursor over nothing
-nothing_left : moves-left (cursor-over []) ≡ []
-unfolding moves-left row-moves row-over digits bit filter elem if◌then◌else◌
+nothing_left : moves_left (cursor_over []) ≡ []
+unfolding moves_left row_moves row_over digits bit filter elem if◌then◌else◌
 nothing_left = refl
 
 -- ---- what a cursor has left is a part of the 81 places
 module _ (it : MoveIterator) where
   abbrev there : ℕ → Bool
-  there m = elem m (moves-left it)
+  there m = elem m (moves_left it)
 
-  over-part : cursor-over (filter there places) ≡ cursor-over (moves-left it)
-  unfolding row-over
-  over-part =
+  over_part : cursor_over (filter there places) ≡ cursor_over (moves_left it)
+  unfolding row_over
+  over_part =
       λ i. record {
-        top = row-over-kept there 0 (lit< tt) i;
-        middle = row-over-kept there 1 (lit< tt) i;
-        bottom = row-over-kept there 2 (lit< tt) i;
+        top = row_over_kept there 0 (lit< tt) i;
+        middle = row_over_kept there 1 (lit< tt) i;
+        bottom = row_over_kept there 2 (lit< tt) i;
       }
 
-  a-part : filter there places ≡ moves-left it
-  unfolding moves-left
-  a-part =
-      sym (cursor-kept there) ∙ ap moves-left (over-part ∙ cursor-again it)
-      ∙ ap₂ ◌++◌ (row-masked 0 it.top) (ap₂ ◌++◌ (row-masked 1 it.middle) (row-masked 2 it.bottom))
+  a_part : filter there places ≡ moves_left it
+  unfolding moves_left
+  a_part =
+      sym (cursor_kept there) ∙ ap moves_left (over_part ∙ cursor_again it)
+      ∙ ap₂ ◌++◌ (row_masked 0 it.top) (ap₂ ◌++◌ (row_masked 1 it.middle) (row_masked 2 it.bottom))
 
-  pub rest-left : (m : ℕ) (ms : List ℕ) → moves-left it ≡ m ∷ ms → moves-left (cursor-over ms) ≡ ms
-  unfolding places concat-map unique elem
-  rest-left m ms e =
-      subst (λ (l : List ℕ). moves-left (cursor-over l) ≡ l) (kept-rest there m places ms tt (a-part ∙ e))
-      (cursor-kept (others there m))
+  pub rest_left : (m : ℕ) (ms : List ℕ) → moves_left it ≡ m ∷ ms → moves_left (cursor_over ms) ≡ ms
+  unfolding places concat_map unique elem
+  rest_left m ms e =
+      subst (λ (l : List ℕ). moves_left (cursor_over l) ≡ l) (kept_rest there m places ms tt (a_part ∙ e))
+      (cursor_kept (others there m))
 
-  pub dropped-left : moves-left (cursor-over (drop 1 (moves-left it))) ≡ drop 1 (moves-left it)
-  dropped-left = go (moves-left it) refl
+  pub dropped_left : moves_left (cursor_over (drop 1 (moves_left it))) ≡ drop 1 (moves_left it)
+  dropped_left = go (moves_left it) refl
     where
-      go : (ms : List ℕ) → moves-left it ≡ ms → moves-left (cursor-over (drop 1 ms)) ≡ drop 1 ms
+      go : (ms : List ℕ) → moves_left it ≡ ms → moves_left (cursor_over (drop 1 ms)) ≡ drop 1 ms
       go [] e = nothing_left
-      go (m ∷ ms) e = rest-left m ms e
+      go (m ∷ ms) e = rest_left m ms e
 
   -- ---- what it gives next
-  next-of-left : (m : Move) (rest : MoveIterator) (ms : List ℕ) → moves-left it ≡ ms → Next m rest ≡ listed ms →
-      moves-left it ≡ m.bits ∷ moves-left rest
-  next-of-left m rest [] e h = absurd (let z : ◌≡◌ {A = ℕ} 0 1 = cc in omega arith)
-  next-of-left m rest (n ∷ ns) e h =
+  next_of_left : (m : Move) (rest : MoveIterator) (ms : List ℕ) → moves_left it ≡ ms → Next m rest ≡ listed ms →
+      moves_left it ≡ m.bits ∷ moves_left rest
+  next_of_left m rest [] e h = absurd (let z : ◌≡◌ {A = ℕ} 0 1 = cc in omega arith)
+  next_of_left m rest (n ∷ ns) e h =
       let p : m ≡ record { bits = n } = cc in
-      let q : rest ≡ cursor-over ns = cc in
-      e ∙ sym (ap₂ (λ (x : ℕ) (xs : List ℕ). x ∷ xs) (ap (λ (y : Move). y.bits) p) (ap moves-left q ∙ rest-left n ns e))
+      let q : rest ≡ cursor_over ns = cc in
+      e ∙ sym (ap₂ (λ (x : ℕ) (xs : List ℕ). x ∷ xs) (ap (λ (y : Move). y.bits) p) (ap moves_left q ∙ rest_left n ns e))
 
-  pub next-left : (l : Listed) → l ≡ listed (moves-left it) → (m : Move) (rest : MoveIterator) → l ≡ Next m rest →
-      moves-left it ≡ m.bits ∷ moves-left rest
-  next-left l p m rest q = next-of-left m rest (moves-left it) refl (sym q ∙ p)
+  pub next_left : (l : Listed) → l ≡ listed (moves_left it) → (m : Move) (rest : MoveIterator) → l ≡ Next m rest →
+      moves_left it ≡ m.bits ∷ moves_left rest
+  next_left l p m rest q = next_of_left m rest (moves_left it) refl (sym q ∙ p)
 
-  end-of-left : (ms : List ℕ) → End ≡ listed ms → ms ≡ []
-  end-of-left [] h = refl
-  end-of-left (n ∷ ns) h = absurd (let z : ◌≡◌ {A = ℕ} 0 1 = cc in omega arith)
+  end_of_left : (ms : List ℕ) → End ≡ listed ms → ms ≡ []
+  end_of_left [] h = refl
+  end_of_left (n ∷ ns) h = absurd (let z : ◌≡◌ {A = ℕ} 0 1 = cc in omega arith)
 
-  pub none_left : (l : Listed) → l ≡ listed (moves-left it) → l ≡ End → moves-left it ≡ []
-  none_left l p q = end-of-left (moves-left it) (sym q ∙ p)
+  pub none_left : (l : Listed) → l ≡ listed (moves_left it) → l ≡ End → moves_left it ≡ []
+  none_left l p q = end_of_left (moves_left it) (sym q ∙ p)

@@ -10,15 +10,15 @@ use Rattle.base.specs.Bits.{bit, digits}
 use Rattle.base.specs.Lists.{from}
 use Rattle.base.proofs.ListsAgree.{all_same}
 use Rattle.base.proofs.Bool.{Law, always}
-use Rattle.base.proofs.BitsOperations.{xor, bit-and, bit-or, bit-xor, bit_not}
-use Rattle.base.proofs.ListsEvery.{sameB, sameB-eq}
+use Rattle.base.proofs.BitsOperations.{xor, bit-bit_and, bit-bit_or, bit-bit_xor, bit_not}
+use Rattle.base.proofs.ListsEvery.{same_b, same_b_eq}
 use Rattle.base.proofs.Lists.{from_in}
-use Rattle.base.proofs.Bits.{digits_lt, bit-digits, is-digits, digits_same, digit-read, none-set}
-use Rattle.rules.specs.Board.{blank, same-cell}
+use Rattle.base.proofs.Bits.{digits_lt, bit_digits, is_digits, digits_same, digit_read, none_set}
+use Rattle.rules.specs.Board.{blank, same_cell}
 use Rattle.boards.specs.declared.local.Row.{Row}
-use Rattle.boards.specs.Packed.{cell-of-bits}
-use Rattle.boards.specs.Rows.{row-cell, row-free, row_same}
-use Rattle.boards.proofs.Packed.{bit-without, not_taken}
+use Rattle.boards.specs.Packed.{cell_of_bits}
+use Rattle.boards.specs.Rows.{row_cell, row_free, row_same}
+use Rattle.boards.proofs.Packed.{bit_without, not_taken}
 
 -- ---- all cells of the boards that have their bit
 abbrev third : Bool → Bool → Bool → ℕ → Bool
@@ -26,16 +26,16 @@ third p q r zero = p
 third p q r (suc zero) = q
 third p q r (suc (suc k)) = r
 
-cells-number : (p q r : Bool) → cond p 1 0 * 511 + cond q 1 0 * 261632 + cond r 1 0 * 133955584 ≡ digits (λ k. third p q r (k / 9)) 27
+cells_number : (p q r : Bool) → cond p 1 0 * 511 + cond q 1 0 * 261632 + cond r 1 0 * 133955584 ≡ digits (λ k. third p q r (k / 9)) 27
 unfolding digits
-cells-number true true true = refl
-cells-number true true false = refl
-cells-number true false true = refl
-cells-number true false false = refl
-cells-number false true true = refl
-cells-number false true false = refl
-cells-number false false true = refl
-cells-number false false false = refl
+cells_number true true true = refl
+cells_number true true false = refl
+cells_number true false true = refl
+cells_number true false false = refl
+cells_number false true true = refl
+cells_number false true false = refl
+cells_number false false true = refl
+cells_number false false false = refl
 
 module _ (n : ℕ) where
   third_at : (j : ℕ) → j < 3 → third (bit n 0) (bit n 1) (bit n 2) j ≡ bit n j
@@ -47,32 +47,32 @@ module _ (n : ℕ) where
   whole : n / 1 ≡ n
   whole = omega arith
 
-  pub all-cells : bit_and n 1 * 511 + bit_and (n / 2) 1 * 261632 + bit_and (n / 4) 1 * 133955584 ≡ digits (λ k. bit n (k / 9)) 27
-  all-cells =
-      rw (ap (λ (m : ℕ). bit_and m 1) (sym whole) ∙ digit-read n 0, digit-read n 1, digit-read n 2)
-      (cells-number (bit n 0) (bit n 1) (bit n 2))
+  pub all_cells : bit_and n 1 * 511 + bit_and (n / 2) 1 * 261632 + bit_and (n / 4) 1 * 133955584 ≡ digits (λ k. bit n (k / 9)) 27
+  all_cells =
+      rw (ap (λ (m : ℕ). bit_and m 1) (sym whole) ∙ digit_read n 0, digit_read n 1, digit_read n 2)
+      (cells_number (bit n 0) (bit n 1) (bit n 2))
       ∙ digits_same (λ k. third (bit n 0) (bit n 1) (bit n 2) (k / 9)) (λ k. bit n (k / 9)) 27 (λ k h. third_at (k / 9) (omega arith))
 
 -- ---- the empty ones
 module _ (r : Row) (boards m : ℕ) (hx : r.x < 2 ^ 32) (ho : r.o < 2 ^ 32) (e : m ≡ digits (λ k. bit boards (k / 9)) 27) where
-  pub empty-cells : bit_and m (4294967295 - bit_or r.x r.o) ≡ row-free r boards
-  unfolding row-free
-  empty-cells = is-digits (λ k. bit boards (k / 9) && blank (row-cell r k)) 27 _
+  pub empty_cells : bit_and m (4294967295 - bit_or r.x r.o) ≡ row_free r boards
+  unfolding row_free
+  empty_cells = is_digits (λ k. bit boards (k / 9) && blank (row_cell r k)) 27 _
       (lt_of_le_of_lt (and_le_l m (4294967295 - bit_or r.x r.o)) (rw e (digits_lt (λ k. bit boards (k / 9)) 27)))
-      (λ k h. bit-without 32 m (bit_or r.x r.o) k (or_lt 32 r.x r.o hx ho) (omega arith)
-      ∙ ap₂ ◌&&◌ (ap (λ (i : ℕ). bit i k) e ∙ bit-digits (λ k. bit boards (k / 9)) 27 k h)
-      (ap not (bit-or r.x r.o k) ∙ not_taken (bit r.x k) (bit r.o k)))
+      (λ k h. bit_without 32 m (bit_or r.x r.o) k (or_lt 32 r.x r.o hx ho) (omega arith)
+      ∙ ap₂ ◌&&◌ (ap (λ (i : ℕ). bit i k) e ∙ bit_digits (λ k. bit boards (k / 9)) 27 k h)
+      (ap not (bit-bit_or r.x r.o k) ∙ not_taken (bit r.x k) (bit r.o k)))
 
 -- ---- those in which two rows differ
 abbrev differs : Bool → Bool → Bool → Bool → Bool → Bool
 differs m x o x' o' = (xor x x' && m) || (xor (o && not x) (o' && not x') && m)
 
 one_cell : Law 5
-one_cell m x o x' o' = sameB (not (differs m x o x' o')) (not m || same-cell (cell-of-bits x o) (cell-of-bits x' o'))
+one_cell m x o x' o' = same_b (not (differs m x o x' o')) (not m || same_cell (cell_of_bits x o) (cell_of_bits x' o'))
 
-one-cell-holds : (m x o x' o' : Bool) → not (differs m x o x' o') ≡ (not m || same-cell (cell-of-bits x o) (cell-of-bits x' o'))
+one_cell_holds : (m x o x' o' : Bool) → not (differs m x o x' o') ≡ (not m || same_cell (cell_of_bits x o) (cell_of_bits x' o'))
 unfolding one_cell
-one-cell-holds m x o x' o' = sameB-eq _ _ (always 5 one_cell tt m x o x' o')
+one_cell_holds m x o x' o' = same_b_eq _ _ (always 5 one_cell tt m x o x' o')
 
 module _ (r q : Row) (boards m : ℕ) (hr : r.x < 2 ^ 32) (hq : q.x < 2 ^ 32) (e : m ≡ digits (λ k. bit boards (k / 9)) 27) where
   -- the cells of O, without those of X
@@ -93,19 +93,19 @@ module _ (r q : Row) (boards m : ℕ) (hr : r.x < 2 ^ 32) (hq : q.x < 2 ^ 32) (e
   unfolding apart os
   digit k h =
       simp (
-        bit-or,
-        bit-and,
-        bit-xor,
+        bit-bit_or,
+        bit-bit_and,
+        bit-bit_xor,
         bit_not 32 r.x k hr (omega arith),
         bit_not 32 q.x k hq (omega arith),
-        ap (λ (i : ℕ). bit i k) e ∙ bit-digits (λ k. bit boards (k / 9)) 27 k h,
+        ap (λ (i : ℕ). bit i k) e ∙ bit_digits (λ k. bit boards (k / 9)) 27 k h,
       )
 
   pub same_row : eqb (bit_or (bit_and (bit_xor r.x q.x) m)
       (bit_and (bit_xor (bit_and r.o (4294967295 - r.x)) (bit_and q.o (4294967295 - q.x))) m)) 0 ≡ row_same r q boards
   unfolding row_same apart os
   same_row =
-      none-set 27 apart small
-      ∙ all_same (λ k. not (bit apart k)) (λ k. not (bit boards (k / 9)) || same-cell (row-cell r k) (row-cell q k)) (from 0 27)
-      (λ k i. ap not (digit k (from_in 0 27 k i).1) ∙ one-cell-holds (bit boards (k / 9)) (bit r.x k) (bit r.o k) (bit q.x k)
+      none_set 27 apart small
+      ∙ all_same (λ k. not (bit apart k)) (λ k. not (bit boards (k / 9)) || same_cell (row_cell r k) (row_cell q k)) (from 0 27)
+      (λ k i. ap not (digit k (from_in 0 27 k i).1) ∙ one_cell_holds (bit boards (k / 9)) (bit r.x k) (bit r.o k) (bit q.x k)
       (bit q.o k))

@@ -2,30 +2,30 @@
 use Rattle.std.specs.Prelude.{List, [], ◌∷◌, ◌++◌, map, ℕ, ◌+◌, ◌*◌, ◌/◌, ◌%◌}
 use Rattle.base.specs.Lists.{filter, from, elem}
 use Rattle.base.specs.Bits.{bit, digits}
-use Rattle.rules.specs.Play.{move-of}
+use Rattle.rules.specs.Play.{move_of}
 use Rattle.boards.specs.declared.moves.MoveIterator.{MoveIterator}
 use Rattle.boards.specs.declared.moves.Listed.{Listed}
 use Rattle.boards.specs.declared.moves.Listed.TheVariants.{Next, End}
 
 -- the move at place k of row r, whose three boards have nine places each
 abbrev pub move_at : ℕ → ℕ → ℕ
-move_at r k = move-of (3 * r + k / 9) (k % 9)
+move_at r k = move_of (3 * r + k / 9) (k % 9)
 
 -- a bit for each place of a row
-unfoldable pub row-moves : ℕ → ℕ → List ℕ
-row-moves r n = map (move_at r) (filter (bit n) (from 0 27))
+unfoldable pub row_moves : ℕ → ℕ → List ℕ
+row_moves r n = map (move_at r) (filter (bit n) (from 0 27))
 
-unfoldable pub moves-left : MoveIterator → List ℕ
-moves-left it = row-moves 0 it.top ++ (row-moves 1 it.middle ++ row-moves 2 it.bottom)
+unfoldable pub moves_left : MoveIterator → List ℕ
+moves_left it = row_moves 0 it.top ++ (row_moves 1 it.middle ++ row_moves 2 it.bottom)
 
 -- the cursor over a list of moves that rises as the list of moves does
-unfoldable pub row-over : ℕ → List ℕ → ℕ
-row-over r ms = digits (λ k. elem (move_at r k) ms) 27
+unfoldable pub row_over : ℕ → List ℕ → ℕ
+row_over r ms = digits (λ k. elem (move_at r k) ms) 27
 
-abbrev pub cursor-over : List ℕ → MoveIterator
-cursor-over ms = record { top = row-over 0 ms; middle = row-over 1 ms; bottom = row-over 2 ms }
+abbrev pub cursor_over : List ℕ → MoveIterator
+cursor_over ms = record { top = row_over 0 ms; middle = row_over 1 ms; bottom = row_over 2 ms }
 
 -- the next move and the cursor over the rest
 abbrev pub listed : List ℕ → Listed
 listed [] = End
-listed (m ∷ ms) = Next (record { bits = m }) (cursor-over ms)
+listed (m ∷ ms) = Next (record { bits = m }) (cursor_over ms)

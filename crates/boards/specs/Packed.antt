@@ -13,10 +13,10 @@ use Rattle.boards.specs.declared.local.LocalBoards.{LocalBoards}
 use Rattle.boards.specs.declared.states.GlobalStates.{GlobalStates}
 
 -- ---- cells
-abbrev pub cell-of-bits : Bool → Bool → CellState
-cell-of-bits true o = Played X
-cell-of-bits false true = Played O
-cell-of-bits false false = Empty
+abbrev pub cell_of_bits : Bool → Bool → CellState
+cell_of_bits true o = Played X
+cell_of_bits false true = Played O
+cell_of_bits false false = Empty
 
 abbrev pub no_row : Row
 no_row = record { x = 0; o = 0 }
@@ -32,15 +32,15 @@ place b c = b % 3 * 9 + c
 unfoldable pub cell_at : LocalBoards → ℕ → ℕ → CellState
 cell_at l b c =
     if ltb b 9 && ltb c 9
-    then (λ _. cell-of-bits (bit (row_of l b).x (place b c)) (bit (row_of l b).o (place b c)))
+    then (λ _. cell_of_bits (bit (row_of l b).x (place b c)) (bit (row_of l b).o (place b c)))
     else λ _. Empty
 
 -- ---- states of the boards: drawn if both bits
-abbrev pub state-of-bits : Bool → Bool → GameState
-state-of-bits true true = Drawn
-state-of-bits true false = Won X
-state-of-bits false true = Won O
-state-of-bits false false = InPlay
+abbrev pub state_of_bits : Bool → Bool → GameState
+state_of_bits true true = Drawn
+state_of_bits true false = Won X
+state_of_bits false true = Won O
+state_of_bits false false = InPlay
 
-unfoldable pub state-at : GlobalStates → ℕ → GameState
-state-at s b = if ltb b 9 then (λ _. state-of-bits (bit s.x b) (bit s.o b)) else λ _. InPlay
+unfoldable pub state_at : GlobalStates → ℕ → GameState
+state_at s b = if ltb b 9 then (λ _. state_of_bits (bit s.x b) (bit s.o b)) else λ _. InPlay

@@ -11,21 +11,21 @@ use Rattle.boards.specs.declared.local.LocalBoards.{LocalBoards}
 use Rattle.boards.specs.declared.states.GlobalStates.{GlobalStates}
 use Rattle.boards.specs.Packed.{row_of, place}
 
-abbrev pub row-with : Player → Row → ℕ → Row
-row-with X r k = record { x = bit_or r.x (2 ^ k); o = r.o }
-row-with O r k = record { x = r.x; o = bit_or r.o (2 ^ k) }
+abbrev pub row_with : Player → Row → ℕ → Row
+row_with X r k = record { x = bit_or r.x (2 ^ k); o = r.o }
+row_with O r k = record { x = r.x; o = bit_or r.o (2 ^ k) }
 
 unfoldable pub with_cell : LocalBoards → ℕ → ℕ → Player → LocalBoards
 with_cell l b c w =
     if ltb b 9 && ltb c 9
-    then (λ _. record { rows = set l.rows (b / 3) (row-with w (row_of l b) (place b c)) })
+    then (λ _. record { rows = set l.rows (b / 3) (row_with w (row_of l b) (place b c)) })
     else λ _. l
 
-abbrev pub state-with : GlobalStates → ℕ → GameState → GlobalStates
-state-with s k InPlay = s
-state-with s k Drawn = record { x = bit_or s.x (2 ^ k); o = bit_or s.o (2 ^ k) }
-state-with s k (Won X) = record { x = bit_or s.x (2 ^ k); o = s.o }
-state-with s k (Won O) = record { x = s.x; o = bit_or s.o (2 ^ k) }
+abbrev pub state_with : GlobalStates → ℕ → GameState → GlobalStates
+state_with s k InPlay = s
+state_with s k Drawn = record { x = bit_or s.x (2 ^ k); o = bit_or s.o (2 ^ k) }
+state_with s k (Won X) = record { x = bit_or s.x (2 ^ k); o = s.o }
+state_with s k (Won O) = record { x = s.x; o = bit_or s.o (2 ^ k) }
 
-unfoldable pub with-state : GlobalStates → ℕ → GameState → GlobalStates
-with-state s b g = if ltb b 9 then (λ _. state-with s b g) else λ _. s
+unfoldable pub with_state : GlobalStates → ℕ → GameState → GlobalStates
+with_state s b g = if ltb b 9 then (λ _. state_with s b g) else λ _. s

@@ -1,4 +1,6 @@
 // Packed boards: moves and the cursor over them, the nine boards and their states.
+#![tactic(auto)]
+
 mod local;
 mod moves;
 mod states;

@@ -3,31 +3,31 @@
 // by value, a cell with both bits is X's, bits beyond the boards count for nothing, and a board or cell over 8 reads as empty.
 ghost use Rattle.std.specs.Prelude.{◌≡◌, not, ◌/◌, ◌<◌};
 ghost use Rattle.base.specs.Bits.{bit, digits};
-ghost use Rattle.rules.specs.Board.{blank, mine, result};
-ghost use Rattle.rules.specs.Hash.{cells-hash, board-hash};
+ghost use Rattle.rules.specs.Board.{blank, mine, result_of};
+ghost use Rattle.rules.specs.Hash.{cells_hash, board_hash};
 ghost use Rattle.boards.specs.Packed.{row_of, cell_at};
-ghost use Rattle.boards.specs.With.{row-with, with_cell};
-ghost use Rattle.boards.specs.Rows.{row-free, free-cells, row_same, same-cells, closing};
+ghost use Rattle.boards.specs.With.{row_with, with_cell};
+ghost use Rattle.boards.specs.Rows.{row_free, free_cells, row_same, same_cells, closing};
 
 use crate::moves::MoveIterator;
 use lines::BOARD_MASK;
 use rules::{CellState, GameState, Player};
 
 // Three boards of nine cells, the low bits first: the cells of X and of O.
-#[derive(Drop)]
+#[derive(Clone, Copy)]
 pub struct Row {
     pub x: u32,
     pub o: u32,
 }
 
-#[derive(Drop)]
+#[derive(Clone, Copy)]
 pub struct LocalBoards {
     pub rows: [Row; 3],
 }
 
 // The cells of a row's boards, by the boards' three bits.
 fn row_cells(boards: u32) -> u32
-    ensures* { λ r. ⌜ r ≡ digits (λ k. bit boards (k / 9)) 27 ⌝ }
+    ensures { result ≡ digits (λ k. bit boards (k / 9)) 27 }
 {
     (boards & 1) * 0x1ff + ((boards >> 1) & 1) * 0x3_fe00 + ((boards >> 2) & 1) * 0x7fc_0000
 }
@@ -35,7 +35,7 @@ fn row_cells(boards: u32) -> u32
 impl Row {
     fn with(self, place: u32, who: Player) -> Row
         requires { place < 27 }
-        ensures* { λ r. ⌜ r ≡ row-with who self place ⌝ }
+        ensures { result ≡ row_with who self place }
     {
         let bit = 1u32 << place;
         match who {
@@ -52,14 +52,14 @@ impl Row {
 
     // The empty cells of the boards in three bits.
     fn free_in(self, boards: u32) -> u32
-        ensures* { λ r. ⌜ r ≡ row-free self boards ⌝ }
+        ensures { result ≡ row_free self boards }
     {
         row_cells(boards) & !(self.x | self.o)
     }
 
     // Whether the cells of the boards in three bits are the same.
     fn same_in(self, boards: u32, rhs: Row) -> bool
-        ensures* { λ r. ⌜ r ≡ row_same self rhs boards ⌝ }
+        ensures { result ≡ row_same self rhs boards }
     {
         let mask = row_cells(boards);
         let x = (self.x ^ rhs.x) & mask;
@@ -75,7 +75,7 @@ impl LocalBoards {
 
     // The row of a board, empty if there is no such board.
     fn row(self, global: usize) -> Row
-        ensures* { λ r. ⌜ r ≡ row_of self global ⌝ }
+        ensures { result ≡ row_of self global }
     {
         match global / 3 {
             0 => self.rows[0],
@@ -86,7 +86,7 @@ impl LocalBoards {
     }
 
     pub fn at(self, global: usize, local: usize) -> CellState
-        ensures* { λ r. ⌜ r ≡ cell_at self global local ⌝ }
+        ensures { result ≡ cell_at self global local }
     {
         if local > 8 {
             return CellState::Empty;
@@ -104,7 +104,7 @@ impl LocalBoards {
 
     // The boards with one more cell of a player's.
     pub fn set(self, global: usize, local: usize, who: Player) -> LocalBoards
-        ensures* { λ r. ⌜ r ≡ with_cell self global local who ⌝ }
+        ensures { result ≡ with_cell self global local who }
     {
         if local > 8 {
             return self;
@@ -127,21 +127,21 @@ impl LocalBoards {
     }
 
     pub fn xbits(self, global: usize) -> u32
-        ensures* { λ r. ⌜ r ≡ digits (λ c. mine Player.X (cell_at self global c)) 9 ⌝ }
+        ensures { result ≡ digits (λ c. mine Player.X (cell_at self global c)) 9 }
     {
         let row = self.row(global);
         (row.x >> (9 * (global % 3))) & BOARD_MASK
     }
 
     pub fn obits(self, global: usize) -> u32
-        ensures* { λ r. ⌜ r ≡ digits (λ c. mine Player.O (cell_at self global c)) 9 ⌝ }
+        ensures { result ≡ digits (λ c. mine Player.O (cell_at self global c)) 9 }
     {
         let row = self.row(global);
         ((row.o & !row.x) >> (9 * (global % 3))) & BOARD_MASK
     }
 
     pub fn playerbits(self, player: Player, global: usize) -> u32
-        ensures* { λ r. ⌜ r ≡ digits (λ c. mine player (cell_at self global c)) 9 ⌝ }
+        ensures { result ≡ digits (λ c. mine player (cell_at self global c)) 9 }
     {
         match player {
             Player::X => self.xbits(global),
@@ -150,21 +150,21 @@ impl LocalBoards {
     }
 
     pub fn mask(self, global: usize) -> u32
-        ensures* { λ r. ⌜ r ≡ digits (λ c. not (blank (cell_at self global c))) 9 ⌝ }
+        ensures { result ≡ digits (λ c. not (blank (cell_at self global c))) 9 }
     {
         let row = self.row(global);
         ((row.o | row.x) >> (9 * (global % 3))) & BOARD_MASK
     }
 
     pub fn free_squares(self, global: usize) -> u32
-        ensures* { λ r. ⌜ r ≡ digits (λ c. blank (cell_at self global c)) 9 ⌝ }
+        ensures { result ≡ digits (λ c. blank (cell_at self global c)) 9 }
     {
         BOARD_MASK - self.mask(global)
     }
 
     // Only the player's lines are looked at.
     pub fn check_winner(self, global: usize, player: Player) -> GameState
-        ensures* { λ r. ⌜ r ≡ result player (λ c. mine player (cell_at self global c)) (λ c. blank (cell_at self global c)) ⌝ }
+        ensures { result ≡ result_of player (λ c. mine player (cell_at self global c)) (λ c. blank (cell_at self global c)) }
     {
         if lines::has_line(self.playerbits(player, global)) {
             return GameState::Won(player);
@@ -178,7 +178,7 @@ impl LocalBoards {
 
     // The empty cells of the boards in nine bits.
     pub fn free_in(self, boards: u32) -> MoveIterator
-        ensures* { λ r. ⌜ r ≡ free-cells self boards ⌝ }
+        ensures { result ≡ free_cells self boards }
     {
         let top = self.rows[0];
         let middle = self.rows[1];
@@ -192,7 +192,7 @@ impl LocalBoards {
 
     // Whether the cells of the boards in nine bits are the same.
     pub fn same_in(self, boards: u32, rhs: LocalBoards) -> bool
-        ensures* { λ r. ⌜ r ≡ same-cells self rhs boards ⌝ }
+        ensures { result ≡ same_cells self rhs boards }
     {
         let top = self.rows[0];
         let middle = self.rows[1];
@@ -208,7 +208,7 @@ impl LocalBoards {
 
     // The keys of the played cells of a board.
     pub fn cells_hash(self, global: usize) -> u64
-        ensures* { λ r. ⌜ r ≡ cells-hash global (cell_at self global) ⌝ }
+        ensures { result ≡ cells_hash global (cell_at self global) }
     {
         let mut hash: u64 = 0;
         for i in 0..9 {
@@ -219,7 +219,7 @@ impl LocalBoards {
 
     // What a board adds to the hash.
     pub fn board_hash(self, global: usize, state: GameState) -> u64
-        ensures* { λ r. ⌜ r ≡ board-hash global (cell_at self global) state ⌝ }
+        ensures { result ≡ board_hash global (cell_at self global) state }
     {
         match state {
             GameState::InPlay => self.cells_hash(global),
@@ -230,7 +230,7 @@ impl LocalBoards {
 
     // The hash after a move in a board, whose cell's key it has: once the board closes, its state's key for those of its cells.
     pub fn hash_after(self, hash: u64, global: usize, state: GameState) -> u64
-        ensures* { λ r. ⌜ r ≡ closing hash global (cell_at self global) state ⌝ }
+        ensures { result ≡ closing hash global (cell_at self global) state }
     {
         match state {
             GameState::InPlay => hash,

@@ -3,14 +3,14 @@
 // the cells still to be listed.
 ghost use Rattle.std.specs.Prelude.{◌≡◌, not, ◌-◌, ◌<◌, eqb, length};
 ghost use Rattle.std.specs.Int.Bits.{bit_and};
-ghost use Rattle.rules.specs.Play.{board-of, cell-of, no_move};
-ghost use Rattle.boards.specs.Answers.{move-error-number, answer-number, Builds};
-ghost use Rattle.boards.specs.Cursor.{move_at, moves-left, listed};
+ghost use Rattle.rules.specs.Play.{board_of, cell_of, no_move};
+ghost use Rattle.boards.specs.Answers.{move_error_number, answer_number, Builds};
+ghost use Rattle.boards.specs.Cursor.{move_at, moves_left, listed};
 
 // The cells of all boards: no game has more moves, so no search is deeper and no variation longer.
 pub const PLACES: usize = 81;
 
-#[derive(Drop)]
+#[derive(Clone, Copy)]
 pub enum MoveError {
     WrongBoard,
     WonBoard,
@@ -21,7 +21,7 @@ pub enum MoveError {
 
 impl MoveError {
     pub fn number(self) -> u64
-        ensures { result ≡ move-error-number self }
+        ensures { result ≡ move_error_number self }
     {
         match self {
             MoveError::OutOfBounds => 9,
@@ -33,7 +33,7 @@ impl MoveError {
     }
 }
 
-#[derive(Drop)]
+#[derive(Clone, Copy)]
 pub enum Answer {
     Accepted,
     Refused(MoveError),
@@ -42,7 +42,7 @@ pub enum Answer {
 impl Answer {
     // 0 where nothing is refused.
     pub fn number(self) -> u64
-        ensures { result ≡ answer-number self }
+        ensures { result ≡ answer_number self }
     {
         match self {
             Answer::Accepted => 0,
@@ -52,13 +52,13 @@ impl Answer {
 }
 
 // 16 times board plus cell; 0xff is the empty move.
-#[derive(Drop)]
+#[derive(Clone, Copy)]
 pub struct Move {
     pub bits: u8,
 }
 
 // What building a move gives: refused, the empty move.
-#[derive(Drop)]
+#[derive(Clone, Copy)]
 pub struct Built {
     pub answer: Answer,
     pub m: Move,
@@ -91,13 +91,13 @@ impl Move {
     }
 
     pub fn global(self) -> usize
-        ensures { result ≡ board-of self.bits }
+        ensures { result ≡ board_of self.bits }
     {
         (self.bits / 16) as usize
     }
 
     pub fn local(self) -> usize
-        ensures { result ≡ cell-of self.bits }
+        ensures { result ≡ cell_of self.bits }
     {
         (self.bits % 16) as usize
     }
@@ -128,7 +128,7 @@ impl Move {
 }
 
 // The cells still to be listed: 27 bits for each row of boards, the low bits first.
-#[derive(Drop)]
+#[derive(Clone, Copy)]
 pub struct MoveIterator {
     pub top: u32,
     pub middle: u32,
@@ -136,7 +136,7 @@ pub struct MoveIterator {
 }
 
 // What comes next in a list of moves, and the rest of it.
-#[derive(Drop)]
+#[derive(Clone, Copy)]
 pub enum Listed {
     Next(Move, MoveIterator),
     End,
@@ -167,7 +167,7 @@ fn move_at(row: u32, place: u32) -> Move
 impl MoveIterator {
     // Bits above the 27 count for nothing.
     pub fn next(self) -> Listed
-        ensures { result ≡ listed (moves-left self) }
+        ensures { result ≡ listed (moves_left self) }
     {
         let top = self.top & ROW_MASK;
         let middle = self.middle & ROW_MASK;
@@ -201,7 +201,7 @@ impl MoveIterator {
 
     // How many moves are left.
     pub fn count(self) -> usize
-        ensures { result ≡ length (moves-left self) }
+        ensures { result ≡ length (moves_left self) }
     {
         let top = u32::count_ones(self.top & ROW_MASK) as usize;
         let middle = u32::count_ones(self.middle & ROW_MASK) as usize;

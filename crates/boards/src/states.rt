@@ -3,15 +3,15 @@
 // by value, bits beyond the boards count for nothing, and a board over 8 reads as open.
 ghost use Rattle.std.specs.Prelude.{◌≡◌, not};
 ghost use Rattle.base.specs.Bits.{digits};
-ghost use Rattle.rules.specs.Board.{in-play, won-by, drawn, result};
-ghost use Rattle.boards.specs.Packed.{state-at};
-ghost use Rattle.boards.specs.With.{with-state};
+ghost use Rattle.rules.specs.Board.{in_play, won_by, drawn, result_of};
+ghost use Rattle.boards.specs.Packed.{state_at};
+ghost use Rattle.boards.specs.With.{with_state};
 
 use lines::BOARD_MASK;
 use rules::{GameState, Player};
 
 // A bit for each board, the low bits first: won by X, won by O; drawn if both.
-#[derive(Drop)]
+#[derive(Clone, Copy)]
 pub struct GlobalStates {
     pub x: u16,
     pub o: u16,
@@ -21,38 +21,38 @@ impl GlobalStates {
     pub const EMPTY: GlobalStates = GlobalStates { x: 0, o: 0 };
 
     pub fn xbits(self) -> u32
-        ensures* { λ r. ⌜ r ≡ digits (λ b. won-by Player.X (state-at self b)) 9 ⌝ }
+        ensures { result ≡ digits (λ b. won_by Player.X (state_at self b)) 9 }
     {
         (self.x as u32) & !(self.o as u32) & BOARD_MASK
     }
 
     pub fn obits(self) -> u32
-        ensures* { λ r. ⌜ r ≡ digits (λ b. won-by Player.O (state-at self b)) 9 ⌝ }
+        ensures { result ≡ digits (λ b. won_by Player.O (state_at self b)) 9 }
     {
         (self.o as u32) & !(self.x as u32) & BOARD_MASK
     }
 
     pub fn drawbits(self) -> u32
-        ensures* { λ r. ⌜ r ≡ digits (λ b. drawn (state-at self b)) 9 ⌝ }
+        ensures { result ≡ digits (λ b. drawn (state_at self b)) 9 }
     {
         (self.x as u32) & (self.o as u32) & BOARD_MASK
     }
 
     pub fn donebits(self) -> u32
-        ensures* { λ r. ⌜ r ≡ digits (λ b. not (in-play (state-at self b))) 9 ⌝ }
+        ensures { result ≡ digits (λ b. not (in_play (state_at self b))) 9 }
     {
         ((self.x as u32) | (self.o as u32)) & BOARD_MASK
     }
 
     // The boards in play.
     pub fn openbits(self) -> u32
-        ensures* { λ r. ⌜ r ≡ digits (λ b. in-play (state-at self b)) 9 ⌝ }
+        ensures { result ≡ digits (λ b. in_play (state_at self b)) 9 }
     {
         BOARD_MASK - self.donebits()
     }
 
     pub fn playerbits(self, player: Player) -> u32
-        ensures* { λ r. ⌜ r ≡ digits (λ b. won-by player (state-at self b)) 9 ⌝ }
+        ensures { result ≡ digits (λ b. won_by player (state_at self b)) 9 }
     {
         match player {
             Player::X => self.xbits(),
@@ -61,7 +61,7 @@ impl GlobalStates {
     }
 
     pub fn in_play(self, board: usize) -> bool
-        ensures* { λ r. ⌜ r ≡ in-play (state-at self board) ⌝ }
+        ensures { result ≡ in_play (state_at self board) }
     {
         if board > 8 {
             return true;
@@ -70,7 +70,7 @@ impl GlobalStates {
     }
 
     pub fn check_winner(self, player: Player) -> GameState
-        ensures* { λ r. ⌜ r ≡ result player (λ b. won-by player (state-at self b)) (λ b. in-play (state-at self b)) ⌝ }
+        ensures { result ≡ result_of player (λ b. won_by player (state_at self b)) (λ b. in_play (state_at self b)) }
     {
         if lines::has_line(self.playerbits(player)) {
             return GameState::Won(player);
@@ -83,7 +83,7 @@ impl GlobalStates {
     }
 
     pub fn at(self, board: usize) -> GameState
-        ensures* { λ r. ⌜ r ≡ state-at self board ⌝ }
+        ensures { result ≡ state_at self board }
     {
         if board > 8 {
             return GameState::InPlay;
@@ -104,7 +104,7 @@ impl GlobalStates {
     }
 
     pub fn set(self, board: usize, state: GameState) -> GlobalStates
-        ensures* { λ r. ⌜ r ≡ with-state self board state ⌝ }
+        ensures { result ≡ with_state self board state }
     {
         if board > 8 {
             return self;

@@ -9,39 +9,39 @@ use lib.Seq.{drop-cons}
 use borrow.Author.Tests.{eq-eqb, ne_eqb, lt-ltb, le-ltb}
 use Rattle.base.specs.Branch.{if◌then◌else◌}
 use Rattle.decimals.specs.declared.list.Scan.{Scan}
-use Rattle.decimals.specs.Numbers.{with-digit}
-use Rattle.decimals.specs.Lists.{spoilt, with_number, scanned, words-after, scanned-all}
+use Rattle.decimals.specs.Numbers.{with_digit}
+use Rattle.decimals.specs.Lists.{spoilt, with_number, scanned, words_after, scanned_all}
 
 abbrev After : Scan → ℕ → List ℕ → Scan → List ℕ → Type 0
-After s b words t after = (t ≡ scanned s b (length words)) × (after ≡ words-after s b words)
+After s b words t after = (t ≡ scanned s b (length words)) × (after ≡ words_after s b words)
 
 -- ---- the ways of a byte
 module _ (s : Scan) (b : ℕ) (words : List ℕ) where
-  pub goes_on : (t : Scan) → (b ≡ 32 → ⊥) → t ≡ with_number s (with-digit s.value b) → After s b words t words
-  unfolding scanned words-after if◌then◌else◌
+  pub goes_on : (t : Scan) → (b ≡ 32 → ⊥) → t ≡ with_number s (with_digit s.value b) → After s b words t words
+  unfolding scanned words_after if◌then◌else◌
   goes_on t ne e = rw (ne_eqb b 32 ne) (e, refl)
 
   pub nothing : (t : Scan) → b ≡ 32 → s.any ≡ false → t ≡ spoilt s → After s b words t words
-  unfolding scanned words-after if◌then◌else◌
+  unfolding scanned words_after if◌then◌else◌
   nothing t h a e = rw (eq-eqb b 32 h, a) (e, refl)
 
   pub room : b ≡ 32 → s.any ≡ true → s.count < length words → After s b words
       (record { value = 0; any = false; count = s.count + 1; good = s.good }) (set words s.count s.value)
-  unfolding scanned words-after if◌then◌else◌
+  unfolding scanned words_after if◌then◌else◌
   room h a l = rw (eq-eqb b 32 h, a, lt-ltb s.count (length words) l) (refl, refl)
 
   pub no_room : (t : Scan) → b ≡ 32 → s.any ≡ true → length words ≤ s.count → t ≡ spoilt s → After s b words t words
-  unfolding scanned words-after if◌then◌else◌
+  unfolding scanned words_after if◌then◌else◌
   no_room t h a l e = rw (eq-eqb b 32 h, a, le-ltb s.count (length words) l) (e, refl)
 
 -- ---- all bytes of a text
 module _ (text : List ℕ) (s : Scan) (words : List ℕ) (i : ℕ) where
-  pub scan-next : i < length text → scanned-all s words (drop i text) ≡ scanned-all (scanned s (get_or text i 0) (length words))
-      (words-after s (get_or text i 0) words) (drop (i + 1) text)
-  unfolding scanned-all
-  scan-next h = rw (drop-cons text i 0 h, add-one i)
+  pub scan_next : i < length text → scanned_all s words (drop i text) ≡ scanned_all (scanned s (get_or text i 0) (length words))
+      (words_after s (get_or text i 0) words) (drop (i + 1) text)
+  unfolding scanned_all
+  scan_next h = rw (drop-cons text i 0 h, add-one i)
 
-  pub scan-end : length text ≤ i → scanned-all s words (drop i text) ≡ record
-      { scan = scanned s 32 (length words); words = words-after s 32 words }
-  unfolding scanned-all
-  scan-end h = rw (drop_of_length-le text h)
+  pub scan_end : length text ≤ i → scanned_all s words (drop i text) ≡ record
+      { scan = scanned s 32 (length words); words = words_after s 32 words }
+  unfolding scanned_all
+  scan_end h = rw (drop_of_length-le text h)

@@ -7,22 +7,22 @@ use native.Mathlib.Omega.{arith}
 use lib.Dec.{leb, leb→le}
 use lib.ListN.{length, take, drop}
 use lib.Seq.{take_at}
-use Rattle.base.proofs.Branch.{if-ind}
+use Rattle.base.proofs.Branch.{if_ind}
 use Rattle.decimals.specs.declared.list.Count.{Count}
 use Rattle.decimals.specs.declared.list.Count.TheVariants.{Of, Bad}
-use Rattle.decimals.specs.Lists.{text-parts, numbers_of, at_most, list_of, count_of, ListRead}
+use Rattle.decimals.specs.Lists.{text_parts, numbers_of, at_most, list_of, count_of, ListRead}
 
-pub at-most-fits : (room : ℕ) (o : Option (List ℕ)) (ns : List ℕ) → at_most room o ≡ some ns → length ns ≤ room
-at-most-fits room none ns = λ e. let z : ◌≡◌ {A = ℕ} 0 1 = cc in absurd (omega arith)
-at-most-fits room (some ms) ns =
-    if-ind (λ (o : Option (List ℕ)). o ≡ some ns → length ns ≤ room) (leb (length ms) room) _ _
+pub at_most_fits : (room : ℕ) (o : Option (List ℕ)) (ns : List ℕ) → at_most room o ≡ some ns → length ns ≤ room
+at_most_fits room none ns = λ e. let z : ◌≡◌ {A = ℕ} 0 1 = cc in absurd (omega arith)
+at_most_fits room (some ms) ns =
+    if_ind (λ (o : Option (List ℕ)). o ≡ some ns → length ns ≤ room) (leb (length ms) room) _ _
     (λ t e. let q : ms ≡ ns = cc in omega (arith, leb→le (length ms) room t, ap length q))
     (λ t e. let z : ◌≡◌ {A = ℕ} 0 1 = cc in absurd (omega arith))
 
 module _ (text words after : List ℕ) (r : Count) (p : ListRead text words r after) where
   -- no list
   pub none_read : r ≡ Bad → list_of (length words) text ≡ none
-  none_read e = go (list_of (length words) text) (sym p.count-is ∙ e)
+  none_read e = go (list_of (length words) text) (sym p.count_is ∙ e)
     where
       go : (o : Option (List ℕ)) → count_of o ≡ Bad → o ≡ none
       go none h = refl
@@ -31,7 +31,7 @@ module _ (text words after : List ℕ) (r : Count) (p : ListRead text words r af
   module _ (n : ℕ) (e : r ≡ Of n) where
     -- the list is the first n words
     pub some_read : list_of (length words) text ≡ some (take n after)
-    some_read = go (list_of (length words) text) refl (sym p.count-is ∙ e)
+    some_read = go (list_of (length words) text) refl (sym p.count_is ∙ e)
       where
         go : (o : Option (List ℕ)) → list_of (length words) text ≡ o → count_of o ≡ Of n → o ≡ some (take n after)
         go none q h = let z : ◌≡◌ {A = ℕ} 0 1 = cc in absurd (omega arith)
@@ -41,8 +41,8 @@ module _ (text words after : List ℕ) (r : Count) (p : ListRead text words r af
 
     -- and there was room for them
     pub read_fits : n ≤ length words
-    read_fits = go (list_of (length words) text) refl (sym p.count-is ∙ e)
+    read_fits = go (list_of (length words) text) refl (sym p.count_is ∙ e)
       where
         go : (o : Option (List ℕ)) → list_of (length words) text ≡ o → count_of o ≡ Of n → n ≤ length words
         go none q h = let z : ◌≡◌ {A = ℕ} 0 1 = cc in absurd (omega arith)
-        go (some ns) q h = let l : length ns ≡ n = cc in omega (arith, at-most-fits (length words) (numbers_of (text-parts text)) ns q)
+        go (some ns) q h = let l : length ns ≡ n = cc in omega (arith, at_most_fits (length words) (numbers_of (text_parts text)) ns q)

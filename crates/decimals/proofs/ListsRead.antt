@@ -11,67 +11,67 @@ use lib.ListN.{length, drop, length-append}
 use lib.Seq.{append_snoc, set-append_seam}
 use borrow.Author.Tests.{lt-ltb, le-ltb, le-leb, lt-leb}
 use Rattle.base.specs.Branch.{if◌then◌else◌}
-use Rattle.base.proofs.Branch.{if-ind}
+use Rattle.base.proofs.Branch.{if_ind}
 use Rattle.text.specs.Bytes.{space}
-use Rattle.text.specs.Reading.{first-longer}
+use Rattle.text.specs.Reading.{first_longer}
 use Rattle.decimals.specs.declared.number.Number.{Number}
 use Rattle.decimals.specs.declared.number.Number.TheVariants.{Is, Bad}
 use Rattle.decimals.specs.declared.list.Scan.{Scan}
 use Rattle.decimals.specs.declared.list.Count.{Count}
 use Rattle.decimals.specs.declared.list.Count.TheVariants.{Of}
-use Rattle.decimals.specs.Numbers.{with-digit, and_then, digits-after, read_number}
-use Rattle.decimals.specs.Lists.{text-parts, number-before, numbers_of, at_most, count_of}
-use Rattle.decimals.specs.Lists.{new-scan, with_number, ends, scanned, words-after, Scanned, scanned-all, counted, ListRead}
+use Rattle.decimals.specs.Numbers.{with_digit, and_then, digits_after, read_number}
+use Rattle.decimals.specs.Lists.{text_parts, number_before, numbers_of, at_most, count_of}
+use Rattle.decimals.specs.Lists.{new_scan, with_number, ends, scanned, words_after, Scanned, scanned_all, counted, ListRead}
 
 -- ---- options of lists
-some-length : (ms ns : List ℕ) → ◌≡◌ {A = Option (List ℕ)} (some ms) (some ns) → length ms ≡ length ns
-some-length ms ns e = ap (λ (o : Option (List ℕ)). length (get_or o [])) e
+some_length : (ms ns : List ℕ) → ◌≡◌ {A = Option (List ℕ)} (some ms) (some ns) → length ms ≡ length ns
+some_length ms ns e = ap (λ (o : Option (List ℕ)). length (get_or o [])) e
 
 -- ---- what was refused stays so
-with-number-bad : (s : Scan) (n : Number) → s.good ≡ false → (with_number s n).good ≡ false
-with-number-bad s (Is n) e = e
-with-number-bad s Bad e = refl
+with_number_bad : (s : Scan) (n : Number) → s.good ≡ false → (with_number s n).good ≡ false
+with_number_bad s (Is n) e = e
+with_number_bad s Bad e = refl
 
-scanned-bad : (s : Scan) (b n : ℕ) → s.good ≡ false → (scanned s b n).good ≡ false
+scanned_bad : (s : Scan) (b n : ℕ) → s.good ≡ false → (scanned s b n).good ≡ false
 unfolding scanned
-scanned-bad s b n e =
-    if-ind (λ (t : Scan). t.good ≡ false) _ _ _ (λ _. with-number-bad s (with-digit s.value b) e)
-    (λ _. if-ind (λ (t : Scan). t.good ≡ false) (ends s n) _ _ (λ _. e) (λ _. refl))
+scanned_bad s b n e =
+    if_ind (λ (t : Scan). t.good ≡ false) _ _ _ (λ _. with_number_bad s (with_digit s.value b) e)
+    (λ _. if_ind (λ (t : Scan). t.good ≡ false) (ends s n) _ _ (λ _. e) (λ _. refl))
 
-all-bad : (text : List ℕ) (s : Scan) (words : List ℕ) → s.good ≡ false → (scanned-all s words text).scan.good ≡ false
-unfolding scanned-all
-all-bad [] s words e = scanned-bad s 32 (length words) e
-all-bad (b ∷ bs) s words e = all-bad bs (scanned s b (length words)) (words-after s b words) (scanned-bad s b (length words) e)
+all_bad : (text : List ℕ) (s : Scan) (words : List ℕ) → s.good ≡ false → (scanned_all s words text).scan.good ≡ false
+unfolding scanned_all
+all_bad [] s words e = scanned_bad s 32 (length words) e
+all_bad (b ∷ bs) s words e = all_bad bs (scanned s b (length words)) (words_after s b words) (scanned_bad s b (length words) e)
 
 -- ---- a scan within a part
 abbrev state : Bool → ℕ → List ℕ → Scan
 state any value done = record { value = value; any = any; count = length done; good = true }
 
 -- the part's number, whose first digits make a value
-abbrev part-from : Bool → ℕ → List ℕ → Number
-part-from true value p = digits-after value p
-part-from false value p = read_number p
+abbrev part_from : Bool → ℕ → List ℕ → Number
+part_from true value p = digits_after value p
+part_from false value p = read_number p
 
-abbrev numbers-from : Bool → ℕ → List (List ℕ) → Option (List ℕ)
-numbers-from any value [] = none
-numbers-from any value (p ∷ ps) = number-before (part-from any value p) (numbers_of ps)
+abbrev numbers_from : Bool → ℕ → List (List ℕ) → Option (List ℕ)
+numbers_from any value [] = none
+numbers_from any value (p ∷ ps) = number_before (part_from any value p) (numbers_of ps)
 
-pub first_part : (text : List ℕ) → (p : List ℕ) × (ps : List (List ℕ)) × (text-parts text ≡ p ∷ ps)
-unfolding text-parts
+pub first_part : (text : List ℕ) → (p : List ℕ) × (ps : List (List ℕ)) × (text_parts text ≡ p ∷ ps)
+unfolding text_parts
 first_part [] = ([], [], refl)
 first_part (b ∷ bs) =
-    if-ind (λ (qs : List (List ℕ)). (p : List ℕ) × (ps : List (List ℕ)) × (qs ≡ p ∷ ps)) (eqb b space) _ _
-    (λ _. ([], text-parts bs, refl)) (λ _. let f = first_part bs in (b ∷ f.0, f.1, rw f.2))
+    if_ind (λ (qs : List (List ℕ)). (p : List ℕ) × (ps : List (List ℕ)) × (qs ≡ p ∷ ps)) (eqb b space) _ _
+    (λ _. ([], text_parts bs, refl)) (λ _. let f = first_part bs in (b ∷ f.0, f.1, rw f.2))
 
-new-part : (text : List ℕ) → numbers-from false 0 (text-parts text) ≡ numbers_of (text-parts text)
+new_part : (text : List ℕ) → numbers_from false 0 (text_parts text) ≡ numbers_of (text_parts text)
 unfolding numbers_of
-new-part text = let f = first_part text in rw f.2
+new_part text = let f = first_part text in rw f.2
 
-longer-part : (any : Bool) (value b : ℕ) (p : List ℕ) → (any ≡ false → value ≡ 0) →
-    part-from any value (b ∷ p) ≡ and_then (with-digit value b) (λ more. digits-after more p)
-unfolding digits-after read_number
-longer-part true value b p z = refl
-longer-part false value b p z = rw (z refl)
+longer_part : (any : Bool) (value b : ℕ) (p : List ℕ) → (any ≡ false → value ≡ 0) →
+    part_from any value (b ∷ p) ≡ and_then (with_digit value b) (λ more. digits_after more p)
+unfolding digits_after read_number
+longer_part true value b p z = refl
+longer_part false value b p z = rw (z refl)
 
 -- ---- how a text ends
 data Outcome (done rest : List ℕ) (said : Option (List ℕ)) (r : Scanned) : Type 0 where
@@ -80,82 +80,82 @@ data Outcome (done rest : List ℕ) (said : Option (List ℕ)) (r : Scanned) : T
   refused : ((ns : List ℕ) → said ≡ some ns → length rest < length ns) → r.scan.good ≡ false → Outcome done rest said r
 
 -- a number before others
-one-before : (done rest : List ℕ) (value w : ℕ) (said : Option (List ℕ)) (r : Scanned) →
-    Outcome (done ++ (value ∷ [])) rest said r → Outcome done (w ∷ rest) (number-before (Is value) said) r
-one-before done rest value w said r (all_read ns e l g c ws) =
+one_before : (done rest : List ℕ) (value w : ℕ) (said : Option (List ℕ)) (r : Scanned) →
+    Outcome (done ++ (value ∷ [])) rest said r → Outcome done (w ∷ rest) (number_before (Is value) said) r
+one_before done rest value w said r (all_read ns e l g c ws) =
     all_read (value ∷ ns) (rw e) (omega arith) g (c ∙ simp length-append (omega arith))
     (ws ∙ append_snoc done value (ns ++ drop (length ns) rest))
-one-before done rest value w none r (refused h g) = refused (λ ns e. absurd (none-ne-some ns e)) g
-one-before done rest value w (some ms) r (refused h g) =
-    refused (λ ns e. omega (arith, h ms refl, some-length (value ∷ ms) ns e)) g
+one_before done rest value w none r (refused h g) = refused (λ ns e. absurd (none-ne-some ns e)) g
+one_before done rest value w (some ms) r (refused h g) =
+    refused (λ ns e. omega (arith, h ms refl, some_length (value ∷ ms) ns e)) g
 
-no-room-before : (value : ℕ) (said : Option (List ℕ)) (ns : List ℕ) → number-before (Is value) said ≡ some ns → 0 < length ns
-no-room-before value none ns e = absurd (none-ne-some ns e)
-no-room-before value (some ms) ns e = omega (arith, some-length (value ∷ ms) ns e)
+no_room_before : (value : ℕ) (said : Option (List ℕ)) (ns : List ℕ) → number_before (Is value) said ≡ some ns → 0 < length ns
+no_room_before value none ns e = absurd (none-ne-some ns e)
+no_room_before value (some ms) ns e = omega (arith, some_length (value ∷ ms) ns e)
 
 -- the end of a part: what comes after it is said by `next`
-part-ends : (any : Bool) (value : ℕ) (done rest : List ℕ) (said : Option (List ℕ)) (next : Scan → List ℕ → Scanned) →
+part_ends : (any : Bool) (value : ℕ) (done rest : List ℕ) (said : Option (List ℕ)) (next : Scan → List ℕ → Scanned) →
     ((s : Scan) (words : List ℕ) → s.good ≡ false → (next s words).scan.good ≡ false) →
     ((done rest : List ℕ) → Outcome done rest said (next (state false 0 done) (done ++ rest))) →
-    Outcome done rest (number-before (part-from any value []) said)
-    (next (scanned (state any value done) space (length (done ++ rest))) (words-after (state any value done) space (done ++ rest)))
-unfolding scanned words-after if◌then◌else◌ digits-after read_number
-part-ends false value done rest said next bad more =
+    Outcome done rest (number_before (part_from any value []) said)
+    (next (scanned (state any value done) space (length (done ++ rest))) (words_after (state any value done) space (done ++ rest)))
+unfolding scanned words_after if◌then◌else◌ digits_after read_number
+part_ends false value done rest said next bad more =
     refused (λ ns e. absurd (none-ne-some ns e)) (bad _ _ refl)
-part-ends true value done [] said next bad more =
+part_ends true value done [] said next bad more =
     let h : length (done ++ []) ≤ length done = rw (append-nil done) (omega arith) in
-    rw (le-ltb (length done) (length (done ++ [])) h) (refused (no-room-before value said) (bad _ _ refl))
-part-ends true value done (w ∷ rest) said next bad more =
+    rw (le-ltb (length done) (length (done ++ [])) h) (refused (no_room_before value said) (bad _ _ refl))
+part_ends true value done (w ∷ rest) said next bad more =
     let h : length done < length (done ++ (w ∷ rest)) = simp length-append (omega arith) in
     let n : length (done ++ (value ∷ [])) ≡ length done + 1 = simp length-append (omega arith) in
     rw (lt-ltb (length done) (length (done ++ (w ∷ rest))) h, set-append_seam done w rest value)
-    (one-before done rest value w said _ (rw (n, append_snoc done value rest) at (more (done ++ (value ∷ [])) rest)))
+    (one_before done rest value w said _ (rw (n, append_snoc done value rest) at (more (done ++ (value ∷ [])) rest)))
 
 -- ---- a text
-digit-read : (any : Bool) (value b : ℕ) (bs done rest : List ℕ) → (any ≡ false → value ≡ 0) → (n : Number) →
-    with-digit value b ≡ n →
-    ((more : ℕ) → Outcome done rest (numbers-from true more (text-parts bs)) (scanned-all (state true more done) (done ++ rest) bs)) →
-    Outcome done rest (numbers-from any value (first-longer b (text-parts bs)))
-    (scanned-all (with_number (state any value done) n) (done ++ rest) bs)
-digit-read any value b bs done rest z n e more = let f = first_part bs in go n e f
+digit_read : (any : Bool) (value b : ℕ) (bs done rest : List ℕ) → (any ≡ false → value ≡ 0) → (n : Number) →
+    with_digit value b ≡ n →
+    ((more : ℕ) → Outcome done rest (numbers_from true more (text_parts bs)) (scanned_all (state true more done) (done ++ rest) bs)) →
+    Outcome done rest (numbers_from any value (first_longer b (text_parts bs)))
+    (scanned_all (with_number (state any value done) n) (done ++ rest) bs)
+digit_read any value b bs done rest z n e more = let f = first_part bs in go n e f
   where
-    go : (n : Number) → with-digit value b ≡ n → (p : List ℕ) × (ps : List (List ℕ)) × (text-parts bs ≡ p ∷ ps) →
-        Outcome done rest (numbers-from any value (first-longer b (text-parts bs)))
-        (scanned-all (with_number (state any value done) n) (done ++ rest) bs)
-    go (Is m) e f = rw (f.2, longer-part any value b f.0 z, e) (rw f.2 at (more m))
+    go : (n : Number) → with_digit value b ≡ n → (p : List ℕ) × (ps : List (List ℕ)) × (text_parts bs ≡ p ∷ ps) →
+        Outcome done rest (numbers_from any value (first_longer b (text_parts bs)))
+        (scanned_all (with_number (state any value done) n) (done ++ rest) bs)
+    go (Is m) e f = rw (f.2, longer_part any value b f.0 z, e) (rw f.2 at (more m))
     go Bad e f =
-        rw (f.2, longer-part any value b f.0 z, e)
-        (refused (λ ns h. absurd (none-ne-some ns h)) (all-bad bs _ (done ++ rest) refl))
+        rw (f.2, longer_part any value b f.0 z, e)
+        (refused (λ ns h. absurd (none-ne-some ns h)) (all_bad bs _ (done ++ rest) refl))
 
 abbrev TextRead : List ℕ → Bool → ℕ → List ℕ → List ℕ → Type 0
 TextRead text any value done rest =
-    Outcome done rest (numbers-from any value (text-parts text)) (scanned-all (state any value done) (done ++ rest) text)
+    Outcome done rest (numbers_from any value (text_parts text)) (scanned_all (state any value done) (done ++ rest) text)
 
-byte-read : (any : Bool) (value b : ℕ) (bs done rest : List ℕ) → (any ≡ false → value ≡ 0) →
+byte_read : (any : Bool) (value b : ℕ) (bs done rest : List ℕ) → (any ≡ false → value ≡ 0) →
     ((any : Bool) (value : ℕ) (done rest : List ℕ) → (any ≡ false → value ≡ 0) → TextRead bs any value done rest) →
     (c : Bool) → eqb b space ≡ c →
-    Outcome done rest (numbers-from any value (if c then (λ _. [] ∷ text-parts bs) else λ _. first-longer b (text-parts bs)))
-    (scanned-all (scanned (state any value done) b (length (done ++ rest))) (words-after (state any value done) b (done ++ rest)) bs)
-unfolding if◌then◌else◌ scanned words-after
-byte-read any value b bs done rest z more true e =
+    Outcome done rest (numbers_from any value (if c then (λ _. [] ∷ text_parts bs) else λ _. first_longer b (text_parts bs)))
+    (scanned_all (scanned (state any value done) b (length (done ++ rest))) (words_after (state any value done) b (done ++ rest)) bs)
+unfolding if◌then◌else◌ scanned words_after
+byte_read any value b bs done rest z more true e =
     let s : b ≡ space = eqb→eq b space (rw e tt) in
-    rw s (part-ends any value done rest (numbers_of (text-parts bs)) (λ s words. scanned-all s words bs) (all-bad bs)
-    (λ done rest. rw (new-part bs) at (more false 0 done rest (λ _. refl))))
-byte-read any value b bs done rest z more false e =
-    rw e (digit-read any value b bs done rest z (with-digit value b) refl (λ m. more true m done rest (λ f. absurd (true≢false f))))
+    rw s (part_ends any value done rest (numbers_of (text_parts bs)) (λ s words. scanned_all s words bs) (all_bad bs)
+    (λ done rest. rw (new_part bs) at (more false 0 done rest (λ _. refl))))
+byte_read any value b bs done rest z more false e =
+    rw e (digit_read any value b bs done rest z (with_digit value b) refl (λ m. more true m done rest (λ f. absurd (true≢false f))))
 
-text-read : (text : List ℕ) (any : Bool) (value : ℕ) (done rest : List ℕ) → (any ≡ false → value ≡ 0) →
+text_read : (text : List ℕ) (any : Bool) (value : ℕ) (done rest : List ℕ) → (any ≡ false → value ≡ 0) →
     TextRead text any value done rest
-unfolding scanned-all text-parts numbers_of
-text-read [] any value done rest z =
-    part-ends any value done rest (some []) (λ s words. record { scan = s; words = words }) (λ s words e. e)
+unfolding scanned_all text_parts numbers_of
+text_read [] any value done rest z =
+    part_ends any value done rest (some []) (λ s words. record { scan = s; words = words }) (λ s words e. e)
     (λ done rest. all_read [] refl (omega arith) refl (omega arith) refl)
-text-read (b ∷ bs) any value done rest z = byte-read any value b bs done rest z (text-read bs) (eqb b space) refl
+text_read (b ∷ bs) any value done rest z = byte_read any value b bs done rest z (text_read bs) (eqb b space) refl
 
 -- ---- what is answered
 module _ (text words : List ℕ) where
-  outcome : Outcome [] words (numbers_of (text-parts text)) (scanned-all new-scan words text)
-  outcome = rw (new-part text) at (text-read text false 0 [] words (λ _. refl))
+  outcome : Outcome [] words (numbers_of (text_parts text)) (scanned_all new_scan words text)
+  outcome = rw (new_part text) at (text_read text false 0 [] words (λ _. refl))
 
   answered : (said : Option (List ℕ)) (r : Scanned) → Outcome [] words said r →
       (counted r.scan ≡ count_of (at_most (length words) said)) ×
@@ -169,8 +169,8 @@ module _ (text words : List ℕ) where
   answered (some ms) r (refused h g) =
       rw (g, lt-leb (length ms) (length words) (h ms refl)) (refl, λ ns e. absurd (none-ne-some ns e))
 
-  pub list_read : (r : Count) (after : List ℕ) → r ≡ counted (scanned-all new-scan words text).scan →
-      after ≡ (scanned-all new-scan words text).words → ListRead text words r after
+  pub list_read : (r : Count) (after : List ℕ) → r ≡ counted (scanned_all new_scan words text).scan →
+      after ≡ (scanned_all new_scan words text).words → ListRead text words r after
   list_read r after c w =
-      let a = answered (numbers_of (text-parts text)) (scanned-all new-scan words text) outcome in
-      record { count-is = c ∙ a.0; written = λ ns e. w ∙ a.1 ns e; words_are = w }
+      let a = answered (numbers_of (text_parts text)) (scanned_all new_scan words text) outcome in
+      record { count_is = c ∙ a.0; written = λ ns e. w ∙ a.1 ns e; words_are = w }

@@ -9,32 +9,32 @@ use lib.Dec.{eqb, leb, eqb→eq}
 use lib.ListN.{length, drop}
 use borrow.Author.Tests.{le-leb, leb-true, ne_eqb}
 use Rattle.base.specs.Branch.{if◌then◌else◌}
-use Rattle.base.proofs.Branch.{if-ind}
+use Rattle.base.proofs.Branch.{if_ind}
 use Rattle.text.specs.Bytes.{space, quoted}
 use Rattle.text.specs.ProgramLine.{decimal, spaced}
 use Rattle.decimals.specs.declared.number.Number.{Number}
 use Rattle.decimals.specs.declared.number.Number.TheVariants.{Is, Bad}
 use Rattle.decimals.specs.declared.list.Count.{Count}
 use Rattle.decimals.specs.declared.list.Count.TheVariants.{Of}
-use Rattle.decimals.specs.Numbers.{with-digit, digits-after, read_number}
-use Rattle.decimals.specs.Lists.{text-parts, number-before, numbers_of, at_most, list_of, list-text, count_of, ListRead}
-use Rattle.decimals.proofs.NumbersRoundTrip.{digit-read, first-digit-read, number-reads-back, AfterZeros, read-is-decimal}
+use Rattle.decimals.specs.Numbers.{with_digit, digits_after, read_number}
+use Rattle.decimals.specs.Lists.{text_parts, number_before, numbers_of, at_most, list_of, list_text, count_of, ListRead}
+use Rattle.decimals.proofs.NumbersRoundTrip.{digit_read, first_digit_read, number_reads_back, AfterZeros, read_is_decimal}
 use Rattle.decimals.proofs.ListsRead.{first_part}
 
 -- ---- parts
-spaced-first : (b : ℕ) (q : List ℕ) (qs : List (List ℕ)) → spaced ((b ∷ q) ∷ qs) ≡ b ∷ spaced (q ∷ qs)
-spaced-first b q [] = refl
-spaced-first b q (r ∷ rs) = refl
+spaced_first : (b : ℕ) (q : List ℕ) (qs : List (List ℕ)) → spaced ((b ∷ q) ∷ qs) ≡ b ∷ spaced (q ∷ qs)
+spaced_first b q [] = refl
+spaced_first b q (r ∷ rs) = refl
 
-pub parts-make-text : (text : List ℕ) → spaced (text-parts text) ≡ text
-unfolding text-parts
-parts-make-text [] = refl
-parts-make-text (b ∷ bs) =
+pub parts_make_text : (text : List ℕ) → spaced (text_parts text) ≡ text
+unfolding text_parts
+parts_make_text [] = refl
+parts_make_text (b ∷ bs) =
     let f = first_part bs in
-    let same : spaced (f.0 ∷ f.1) ≡ bs = rw f.2 at (parts-make-text bs) in
-    if-ind (λ (qs : List (List ℕ)). spaced qs ≡ b ∷ bs) (eqb b space) _ _
+    let same : spaced (f.0 ∷ f.1) ≡ bs = rw f.2 at (parts_make_text bs) in
+    if_ind (λ (qs : List (List ℕ)). spaced qs ≡ b ∷ bs) (eqb b space) _ _
     (λ t. rw (f.2, eqb→eq b space t) (ap (◌∷◌ space) same))
-    (λ _. rw f.2 (spaced-first b f.0 f.1 ∙ ap (◌∷◌ b) same))
+    (λ _. rw f.2 (spaced_first b f.0 f.1 ∙ ap (◌∷◌ b) same))
 
 abbrev pub Blankless : List ℕ → Type 0
 Blankless [] = Unit {0}
@@ -44,63 +44,63 @@ abbrev pub EachBlankless : List (List ℕ) → Type 0
 EachBlankless [] = Unit {0}
 EachBlankless (p ∷ ps) = Blankless p × EachBlankless ps
 
-one-part : (p : List ℕ) → Blankless p → text-parts p ≡ p ∷ []
-unfolding text-parts if◌then◌else◌
-one-part [] h = refl
-one-part (b ∷ bs) h = rw (ne_eqb b space h.0, one-part bs h.1)
+one_part : (p : List ℕ) → Blankless p → text_parts p ≡ p ∷ []
+unfolding text_parts if◌then◌else◌
+one_part [] h = refl
+one_part (b ∷ bs) h = rw (ne_eqb b space h.0, one_part bs h.1)
 
-part-before : (p rest : List ℕ) → Blankless p → text-parts (p ++ (space ∷ rest)) ≡ p ∷ text-parts rest
-unfolding text-parts if◌then◌else◌
-part-before [] rest h = refl
-part-before (b ∷ bs) rest h = rw (ne_eqb b space h.0, part-before bs rest h.1)
+part_before : (p rest : List ℕ) → Blankless p → text_parts (p ++ (space ∷ rest)) ≡ p ∷ text_parts rest
+unfolding text_parts if◌then◌else◌
+part_before [] rest h = refl
+part_before (b ∷ bs) rest h = rw (ne_eqb b space h.0, part_before bs rest h.1)
 
-pub spaced-parts : (p : List ℕ) (ps : List (List ℕ)) → EachBlankless (p ∷ ps) → text-parts (spaced (p ∷ ps)) ≡ p ∷ ps
-spaced-parts p [] h = one-part p h.0
-spaced-parts p (q ∷ qs) h = part-before p (spaced (q ∷ qs)) h.0 ∙ ap (◌∷◌ p) (spaced-parts q qs h.1)
+pub spaced_parts : (p : List ℕ) (ps : List (List ℕ)) → EachBlankless (p ∷ ps) → text_parts (spaced (p ∷ ps)) ≡ p ∷ ps
+spaced_parts p [] h = one_part p h.0
+spaced_parts p (q ∷ qs) h = part_before p (spaced (q ∷ qs)) h.0 ∙ ap (◌∷◌ p) (spaced_parts q qs h.1)
 
 -- ---- a list of numbers
-digits-blankless : (value : ℕ) (p : List ℕ) (n : ℕ) → digits-after value p ≡ Is n → Blankless p
-digits-blankless value [] n e = tt
-digits-blankless value (b ∷ bs) n e =
-    let d = first-digit-read value b bs n e in
-    let low = (digit-read value b d.0 d.1).0 in
-    (λ h. omega arith, digits-blankless d.0 bs n d.2)
+digits_blankless : (value : ℕ) (p : List ℕ) (n : ℕ) → digits_after value p ≡ Is n → Blankless p
+digits_blankless value [] n e = tt
+digits_blankless value (b ∷ bs) n e =
+    let d = first_digit_read value b bs n e in
+    let low = (digit_read value b d.0 d.1).0 in
+    (λ h. omega arith, digits_blankless d.0 bs n d.2)
 
-number-blankless : (p : List ℕ) (n : ℕ) → read_number p ≡ Is n → Blankless p
+number_blankless : (p : List ℕ) (n : ℕ) → read_number p ≡ Is n → Blankless p
 unfolding read_number
-number-blankless [] n e = tt
-number-blankless (b ∷ bs) n e = digits-blankless 0 (b ∷ bs) n e
+number_blankless [] n e = tt
+number_blankless (b ∷ bs) n e = digits_blankless 0 (b ∷ bs) n e
 
 abbrev pub EachBelow : ℕ → List ℕ → Type 0
 EachBelow limit [] = Unit {0}
 EachBelow limit (n ∷ ns) = (n < limit) × EachBelow limit ns
 
-decimals-blankless : (ns : List ℕ) → EachBelow (2 ^ 64) ns → EachBlankless (map decimal ns)
-decimals-blankless [] h = tt
-decimals-blankless (n ∷ ns) h = (number-blankless (decimal n) n (number-reads-back n h.0), decimals-blankless ns h.1)
+decimals_blankless : (ns : List ℕ) → EachBelow (2 ^ 64) ns → EachBlankless (map decimal ns)
+decimals_blankless [] h = tt
+decimals_blankless (n ∷ ns) h = (number_blankless (decimal n) n (number_reads_back n h.0), decimals_blankless ns h.1)
 
-decimals-read : (ns : List ℕ) → EachBelow (2 ^ 64) ns → numbers_of (map decimal ns) ≡ some ns
+decimals_read : (ns : List ℕ) → EachBelow (2 ^ 64) ns → numbers_of (map decimal ns) ≡ some ns
 unfolding numbers_of
-decimals-read [] h = refl
-decimals-read (n ∷ ns) h = rw (number-reads-back n h.0, decimals-read ns h.1)
+decimals_read [] h = refl
+decimals_read (n ∷ ns) h = rw (number_reads_back n h.0, decimals_read ns h.1)
 
 module _ (room n : ℕ) (ns : List ℕ) (small : EachBelow (2 ^ 64) (n ∷ ns)) where
-  pub list-reads-back : length (n ∷ ns) ≤ room → list_of room (list-text (n ∷ ns)) ≡ some (n ∷ ns)
+  pub list_reads_back : length (n ∷ ns) ≤ room → list_of room (list_text (n ∷ ns)) ≡ some (n ∷ ns)
   unfolding if◌then◌else◌
-  list-reads-back fits =
+  list_reads_back fits =
       rw (
-        spaced-parts (decimal n) (map decimal ns) (decimals-blankless (n ∷ ns) small),
-        decimals-read (n ∷ ns) small,
+        spaced_parts (decimal n) (map decimal ns) (decimals_blankless (n ∷ ns) small),
+        decimals_read (n ∷ ns) small,
         le-leb _ room fits,
       )
 
 -- as `numbers` promises
-pub text-is-read : (n : ℕ) (ns words : List ℕ) → EachBelow (2 ^ 64) (n ∷ ns) → length (n ∷ ns) ≤ length words →
+pub text_is_read : (n : ℕ) (ns words : List ℕ) → EachBelow (2 ^ 64) (n ∷ ns) → length (n ∷ ns) ≤ length words →
     (r : Count) (after : List ℕ) →
-    ListRead (list-text (n ∷ ns)) words r after →
+    ListRead (list_text (n ∷ ns)) words r after →
     (r ≡ Of (length (n ∷ ns))) × (after ≡ (n ∷ ns) ++ drop (length (n ∷ ns)) words)
-text-is-read n ns words small fits r after h =
-    let e = list-reads-back (length words) n ns small fits in (h.count-is ∙ ap count_of e, h.written (n ∷ ns) e)
+text_is_read n ns words small fits r after h =
+    let e = list_reads_back (length words) n ns small fits in (h.count_is ∙ ap count_of e, h.written (n ∷ ns) e)
 
 -- ---- what is read is such a text, but for zeros before a number
 abbrev pub EachAfterZeros : List (List ℕ) → List ℕ → Type 0
@@ -109,40 +109,40 @@ EachAfterZeros [] (n ∷ ns) = ⊥
 EachAfterZeros (p ∷ ps) [] = ⊥
 EachAfterZeros (p ∷ ps) (n ∷ ns) = AfterZeros p n × EachAfterZeros ps ns
 
-same-list : (ms ns : List ℕ) → ◌≡◌ {A = Option (List ℕ)} (some ms) (some ns) → ms ≡ ns
-same-list ms ns e = ap (λ (o : Option (List ℕ)). get_or o []) e
+same_list : (ms ns : List ℕ) → ◌≡◌ {A = Option (List ℕ)} (some ms) (some ns) → ms ≡ ns
+same_list ms ns e = ap (λ (o : Option (List ℕ)). get_or o []) e
 
-parts-are-decimals : (ps : List (List ℕ)) (ns : List ℕ) → numbers_of ps ≡ some ns → EachAfterZeros ps ns
+parts_are_decimals : (ps : List (List ℕ)) (ns : List ℕ) → numbers_of ps ≡ some ns → EachAfterZeros ps ns
 unfolding numbers_of
-parts-are-decimals [] ns e = rw (← same-list [] ns e) tt
-parts-are-decimals (p ∷ ps) ns e = go (read_number p) refl (numbers_of ps) refl (parts-are-decimals ps) e
+parts_are_decimals [] ns e = rw (← same_list [] ns e) tt
+parts_are_decimals (p ∷ ps) ns e = go (read_number p) refl (numbers_of ps) refl (parts_are_decimals ps) e
   where
     go : (m : Number) → read_number p ≡ m → (ms : Option (List ℕ)) → numbers_of ps ≡ ms →
-        ((ns : List ℕ) → numbers_of ps ≡ some ns → EachAfterZeros ps ns) → number-before m ms ≡ some ns →
+        ((ns : List ℕ) → numbers_of ps ≡ some ns → EachAfterZeros ps ns) → number_before m ms ≡ some ns →
         EachAfterZeros (p ∷ ps) ns
     go Bad h ms k more e = absurd (none-ne-some ns e)
     go (Is n) h none k more e = absurd (none-ne-some ns e)
-    go (Is n) h (some ms) k more e = rw (← same-list (n ∷ ms) ns e) (read-is-decimal p n h, more ms k)
+    go (Is n) h (some ms) k more e = rw (← same_list (n ∷ ms) ns e) (read_is_decimal p n h, more ms k)
 
-said-by : (room : ℕ) (said : Option (List ℕ)) (ns : List ℕ) → at_most room said ≡ some ns →
+said_by : (room : ℕ) (said : Option (List ℕ)) (ns : List ℕ) → at_most room said ≡ some ns →
     (said ≡ some ns) × (length ns ≤ room)
 unfolding if◌then◌else◌
-said-by room none ns e = absurd (none-ne-some ns e)
-said-by room (some ms) ns e = go (leb (length ms) room) refl e
+said_by room none ns e = absurd (none-ne-some ns e)
+said_by room (some ms) ns e = go (leb (length ms) room) refl e
   where
     go : (c : Bool) → leb (length ms) room ≡ c → (if c then (λ _. some ms) else λ _. none) ≡ some ns →
         (some ms ≡ some ns) × (length ns ≤ room)
-    go true h e = (e, rw (← same-list ms ns e) (leb-true (length ms) room h))
+    go true h e = (e, rw (← same_list ms ns e) (leb-true (length ms) room h))
     go false h e = absurd (none-ne-some ns e)
 
-pub read-is-text : (room : ℕ) (text ns : List ℕ) → list_of room text ≡ some ns →
-    EachAfterZeros (text-parts text) ns × (length ns ≤ room)
-read-is-text room text ns e =
-    let s = said-by room (numbers_of (text-parts text)) ns e in (parts-are-decimals (text-parts text) ns s.0, s.1)
+pub read_is_text : (room : ℕ) (text ns : List ℕ) → list_of room text ≡ some ns →
+    EachAfterZeros (text_parts text) ns × (length ns ≤ room)
+read_is_text room text ns e =
+    let s = said_by room (numbers_of (text_parts text)) ns e in (parts_are_decimals (text_parts text) ns s.0, s.1)
 
 -- ---- texts at the edges
 computing : Unit {0}
-unfolding quoted text-parts numbers_of read_number digits-after with-digit if◌then◌else◌
+unfolding quoted text_parts numbers_of read_number digits_after with_digit if◌then◌else◌
 computing = tt
 
 -- leading zeros count for nothing; the largest number; as many as there is room for

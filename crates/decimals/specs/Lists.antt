@@ -3,30 +3,30 @@ use Rattle.std.specs.Prelude.{◌≡◌, Bool, true, false, not, ◌&&◌, List,
 use Rattle.std.proofs.Math.Option.{Option, none, some}
 use Rattle.base.specs.Branch.{if◌then◌else◌}
 use Rattle.text.specs.Bytes.{space}
-use Rattle.text.specs.Reading.{first-longer}
+use Rattle.text.specs.Reading.{first_longer}
 use Rattle.text.specs.ProgramLine.{decimal, spaced}
 use Rattle.decimals.specs.declared.number.Number.{Number}
 use Rattle.decimals.specs.declared.number.Number.TheVariants.{Is, Bad}
 use Rattle.decimals.specs.declared.list.Scan.{Scan}
 use Rattle.decimals.specs.declared.list.Count.{Count}
 use Rattle.decimals.specs.declared.list.Count.TheVariants.{Of, Bad as Bad-count}
-use Rattle.decimals.specs.Numbers.{with-digit, read_number}
+use Rattle.decimals.specs.Numbers.{with_digit, read_number}
 
 -- ---- what a text says
 -- a text cut at each blank; one without a blank is its only part
-unfoldable pub text-parts : List ℕ → List (List ℕ)
-text-parts [] = [] ∷ []
-text-parts (b ∷ bs) = if eqb b space then (λ _. [] ∷ text-parts bs) else λ _. first-longer b (text-parts bs)
+unfoldable pub text_parts : List ℕ → List (List ℕ)
+text_parts [] = [] ∷ []
+text_parts (b ∷ bs) = if eqb b space then (λ _. [] ∷ text_parts bs) else λ _. first_longer b (text_parts bs)
 
-abbrev pub number-before : Number → Option (List ℕ) → Option (List ℕ)
-number-before Bad ns = none
-number-before (Is n) none = none
-number-before (Is n) (some ns) = some (n ∷ ns)
+abbrev pub number_before : Number → Option (List ℕ) → Option (List ℕ)
+number_before Bad ns = none
+number_before (Is n) none = none
+number_before (Is n) (some ns) = some (n ∷ ns)
 
 -- the numbers of all parts, if each part is one
 unfoldable pub numbers_of : List (List ℕ) → Option (List ℕ)
 numbers_of [] = some []
-numbers_of (p ∷ ps) = number-before (read_number p) (numbers_of ps)
+numbers_of (p ∷ ps) = number_before (read_number p) (numbers_of ps)
 
 abbrev pub at_most : ℕ → Option (List ℕ) → Option (List ℕ)
 at_most room none = none
@@ -34,19 +34,19 @@ at_most room (some ns) = if leb (length ns) room then (λ _. some ns) else λ _.
 
 -- the numbers of a text, if there is room for them
 abbrev pub list_of : ℕ → List ℕ → Option (List ℕ)
-list_of room text = at_most room (numbers_of (text-parts text))
+list_of room text = at_most room (numbers_of (text_parts text))
 
 -- the text of a list of numbers
-abbrev pub list-text : List ℕ → List ℕ
-list-text ns = spaced (map decimal ns)
+abbrev pub list_text : List ℕ → List ℕ
+list_text ns = spaced (map decimal ns)
 
 abbrev pub count_of : Option (List ℕ) → Count
 count_of none = Bad-count
 count_of (some ns) = Of (length ns)
 
 -- ---- a text read byte by byte
-abbrev pub new-scan : Scan
-new-scan = record { value = 0; any = false; count = 0; good = true }
+abbrev pub new_scan : Scan
+new_scan = record { value = 0; any = false; count = 0; good = true }
 
 -- what could not be read stays so
 abbrev pub spoilt : Scan → Scan
@@ -63,29 +63,29 @@ ends s n = s.any && ltb s.count n
 -- after a byte, with room for n numbers
 unfoldable pub scanned : Scan → ℕ → ℕ → Scan
 scanned s b n =
-    if not (eqb b space) then (λ _. with_number s (with-digit s.value b)) else
+    if not (eqb b space) then (λ _. with_number s (with_digit s.value b)) else
     λ _. if ends s n then (λ _. record { value = 0; any = false; count = s.count + 1; good = s.good }) else
     λ _. spoilt s
 
 -- the words after a byte
-unfoldable pub words-after : Scan → ℕ → List ℕ → List ℕ
-words-after s b words = if eqb b space && ends s (length words) then (λ _. set words s.count s.value) else λ _. words
+unfoldable pub words_after : Scan → ℕ → List ℕ → List ℕ
+words_after s b words = if eqb b space && ends s (length words) then (λ _. set words s.count s.value) else λ _. words
 
 pub record Scanned : Type 0 where
   pub scan : Scan
   pub words : List ℕ
 
 -- after all bytes of a text, whose end ends a number too
-unfoldable pub scanned-all : Scan → List ℕ → List ℕ → Scanned
-scanned-all s words [] = record { scan = scanned s space (length words); words = words-after s space words }
-scanned-all s words (b ∷ bs) = scanned-all (scanned s b (length words)) (words-after s b words) bs
+unfoldable pub scanned_all : Scan → List ℕ → List ℕ → Scanned
+scanned_all s words [] = record { scan = scanned s space (length words); words = words_after s space words }
+scanned_all s words (b ∷ bs) = scanned_all (scanned s b (length words)) (words_after s b words) bs
 
 unfoldable pub counted : Scan → Count
 counted s = if s.good then (λ _. Of s.count) else λ _. Bad-count
 
 -- what is answered of a text: how many numbers it says; they stand first in the words, the others are as before
 pub record ListRead (text words : List ℕ) (r : Count) (after : List ℕ) : Type 0 where
-  pub count-is : r ≡ count_of (list_of (length words) text)
+  pub count_is : r ≡ count_of (list_of (length words) text)
   pub written : (ns : List ℕ) → list_of (length words) text ≡ some ns → after ≡ ns ++ drop (length ns) words
   -- of a refused text too
-  pub words_are : after ≡ (scanned-all new-scan words text).words
+  pub words_are : after ≡ (scanned_all new_scan words text).words

@@ -10,21 +10,21 @@ abbrev pub between : ℕ → ℕ → ℕ → Bool
 between b low high = leb low b && leb b high
 
 -- a digit more; none if the byte is no digit, or if the number is 2^64 or more
-unfoldable pub with-digit : ℕ → ℕ → Number
-with-digit value b =
+unfoldable pub with_digit : ℕ → ℕ → Number
+with_digit value b =
     if between b 0x30 0x39 && ltb (value * 10 + (b - 0x30)) (2 ^ 64) then (λ _. Is (value * 10 + (b - 0x30))) else λ _. Bad
 
 abbrev pub and_then : Number → (ℕ → Number) → Number
 and_then (Is n) f = f n
 and_then Bad f = Bad
 
-unfoldable pub digits-after : ℕ → List ℕ → Number
-digits-after value [] = Is value
-digits-after value (b ∷ bs) = and_then (with-digit value b) (λ more. digits-after more bs)
+unfoldable pub digits_after : ℕ → List ℕ → Number
+digits_after value [] = Is value
+digits_after value (b ∷ bs) = and_then (with_digit value b) (λ more. digits_after more bs)
 
 unfoldable pub read_number : List ℕ → Number
 read_number [] = Bad
-read_number (b ∷ bs) = digits-after 0 (b ∷ bs)
+read_number (b ∷ bs) = digits_after 0 (b ∷ bs)
 
 unfoldable pub positive_of : Number → Signed
 positive_of (Is n) = if ltb n (2 ^ 63) then (λ _. Whole (pos n)) else λ _. None
@@ -34,6 +34,6 @@ unfoldable pub negative_of : Number → Signed
 negative_of (Is n) = if ltb n (2 ^ 63) then (λ _. Whole (neg_ℤ (pos n))) else λ _. None
 negative_of Bad = None
 
-unfoldable pub read-signed : List ℕ → Signed
-read-signed [] = None
-read-signed (b ∷ bs) = if eqb b 0x2d then (λ _. negative_of (read_number bs)) else λ _. positive_of (read_number (b ∷ bs))
+unfoldable pub read_signed : List ℕ → Signed
+read_signed [] = None
+read_signed (b ∷ bs) = if eqb b 0x2d then (λ _. negative_of (read_number bs)) else λ _. positive_of (read_number (b ∷ bs))

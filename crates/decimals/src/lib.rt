@@ -1,4 +1,6 @@
 // Decimal numbers, with and without a sign, and lists of them.
+#![tactic(auto)]
+
 pub mod list;
 pub mod number;
 

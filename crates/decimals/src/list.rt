@@ -1,12 +1,12 @@
 // Lists of decimal numbers parted by single blanks, read byte by byte into lent words.
 ghost use Rattle.std.specs.Prelude.{◌≡◌, length, get_or};
-ghost use Rattle.decimals.specs.Lists.{spoilt, with_number, scanned, words-after, counted, ListRead};
-ghost use Rattle.decimals.specs.Numbers.{with-digit};
+ghost use Rattle.decimals.specs.Lists.{spoilt, with_number, scanned, words_after, counted, ListRead};
+ghost use Rattle.decimals.specs.Numbers.{with_digit};
 
 use crate::number::{Number, with_digit};
 
 // A number that is being read, whether it has a digit yet, how many numbers stand before it, and whether all could be read.
-#[derive(Drop)]
+#[derive(Clone, Copy)]
 pub struct Scan {
     pub value: u64,
     pub any: bool,
@@ -14,7 +14,7 @@ pub struct Scan {
     pub good: bool,
 }
 
-#[derive(Drop)]
+#[derive(Clone, Copy)]
 pub enum Count {
     Of(usize),
     Bad,
@@ -41,7 +41,7 @@ impl Scan {
 
     // With a digit more.
     fn longer(self, b: u8) -> Scan
-        ensures { result ≡ with_number self (with-digit self.value b) }
+        ensures { result ≡ with_number self (with_digit self.value b) }
     {
         match with_digit(self.value, b) {
             Number::Is(value) => Scan {
@@ -57,7 +57,7 @@ impl Scan {
     // A digit makes the number longer; a blank ends it, and it is written at its place.
     pub fn push(self, b: u8, words: &mut [u64]) -> Scan
         ensures { (result ≡ scanned self b (length words.old)) ×
-            (words.new ≡ words-after self b words.old) }
+            (words.new ≡ words_after self b words.old) }
     {
         if b != b' ' {
             return self.longer(b);

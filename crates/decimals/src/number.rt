@@ -1,14 +1,14 @@
 // Decimal numbers.
 ghost use Rattle.std.specs.Prelude.{◌≡◌, cond};
-ghost use Rattle.decimals.specs.Numbers.{between, with-digit, read_number, read-signed, positive_of, negative_of};
+ghost use Rattle.decimals.specs.Numbers.{between, with_digit, read_number, read_signed, positive_of, negative_of};
 
-#[derive(Drop)]
+#[derive(Clone, Copy)]
 pub enum Number {
     Is(u64),
     Bad,
 }
 
-#[derive(Drop)]
+#[derive(Clone, Copy)]
 pub enum Signed {
     Is(i64),
     Bad,
@@ -23,7 +23,7 @@ pub fn within(b: u8, low: u8, high: u8) -> bool
 
 // A number with a digit more, if the byte is one and the number stays below 2^64.
 pub fn with_digit(value: u64, b: u8) -> Number
-    ensures { result ≡ with-digit value b }
+    ensures { result ≡ with_digit value b }
 {
     if !within(b, b'0', b'9') {
         return Number::Bad;
@@ -103,7 +103,7 @@ pub fn with_sign(negative: bool, size: u64) -> Signed
 
 // A number below 2^63, with a minus before it or without.
 pub fn read_signed(text: &[u8]) -> Signed
-    ensures { result ≡ read-signed text.now }
+    ensures { result ≡ read_signed text.now }
 {
     if text.len() == 0 {
         return Signed::Bad;

@@ -7,106 +7,106 @@ use lib.ListN.{length, set, take, drop, replicate, length-append, length-map}
 use lib.Seq.{set_at, take_all}
 use Rattle.base.specs.Lists.{filter, from}
 use Rattle.base.specs.Bits.{bit}
-use Rattle.base.proofs.Lists.{filter-short}
+use Rattle.base.proofs.Lists.{filter_short}
 use Rattle.rules.specs.Play.{no_move}
 use Rattle.theory.specs.Reported.{filled}
 use Rattle.boards.specs.declared.moves.Move.{Move}
 use Rattle.boards.specs.declared.moves.MoveIterator.{MoveIterator}
 use Rattle.boards.specs.declared.moves.Listed.{Listed}
 use Rattle.boards.specs.declared.moves.Listed.TheVariants.{Next, End}
-use Rattle.boards.specs.Cursor.{move_at, row-moves, moves-left, cursor-over, listed}
-use Rattle.boards.proofs.CursorRest.{rest-left}
+use Rattle.boards.specs.Cursor.{move_at, row_moves, moves_left, cursor_over, listed}
+use Rattle.boards.proofs.CursorRest.{rest_left}
 use Rattle.minimax.specs.Report.{byte_of, bytes_of}
-use Rattle.minimax.proofs.ReportAnswers.{bytes-empty}
-use Rattle.minimax.proofs.ReportPlaces.{bytes-set, drop-next, take_next, rest-next}
+use Rattle.minimax.proofs.ReportAnswers.{bytes_empty}
+use Rattle.minimax.proofs.ReportPlaces.{bytes_set, drop_next, take_next, rest_next}
 
 -- ---- lists
-snoc-append : (xs : List ℕ) (n : ℕ) (ys : List ℕ) → (xs ++ (n ∷ [])) ++ ys ≡ xs ++ (n ∷ ys)
-snoc-append [] n ys = refl
-snoc-append (x ∷ xs) n ys = ap (λ (l : List ℕ). x ∷ l) (snoc-append xs n ys)
+snoc_append : (xs : List ℕ) (n : ℕ) (ys : List ℕ) → (xs ++ (n ∷ [])) ++ ys ≡ xs ++ (n ∷ ys)
+snoc_append [] n ys = refl
+snoc_append (x ∷ xs) n ys = ap (λ (l : List ℕ). x ∷ l) (snoc_append xs n ys)
 
 -- the first empty place is set
-set-filled : (xs : List ℕ) (i n : ℕ) → length xs ≡ i → i < 81 →
+set_filled : (xs : List ℕ) (i n : ℕ) → length xs ≡ i → i < 81 →
     set (filled no_move xs) i n ≡ filled no_move (xs ++ (n ∷ []))
-set-filled xs i n e h =
+set_filled xs i n e h =
     let rest = replicate (81 - (i + 1)) no_move in
     ap (λ (k : ℕ). set (xs ++ replicate (81 - k) no_move) i n) e
-    ∙ ap (λ (l : List ℕ). set (xs ++ l) i n) (rest-next i no_move h) ∙ set_at xs no_move rest n i e ∙ sym (snoc-append xs n rest)
+    ∙ ap (λ (l : List ℕ). set (xs ++ l) i n) (rest_next i no_move h) ∙ set_at xs no_move rest n i e ∙ sym (snoc_append xs n rest)
     ∙ ap (λ (k : ℕ). (xs ++ (n ∷ [])) ++ replicate (81 - k) no_move)
     (sym (length-append xs (n ∷ []) ∙ ap (λ (k : ℕ). k + 1) e))
 
-taken-length : (ms : List ℕ) (i n : ℕ) (ns : List ℕ) → drop i ms ≡ n ∷ ns → length (take i ms) ≡ i
-taken-length ms zero n ns e = refl
-taken-length [] (suc i) n ns e = absurd (let z : ◌≡◌ {A = ℕ} 0 1 = cc in omega arith)
-taken-length (m ∷ ms) (suc i) n ns e = ap suc (taken-length ms i n ns e)
+taken_length : (ms : List ℕ) (i n : ℕ) (ns : List ℕ) → drop i ms ≡ n ∷ ns → length (take i ms) ≡ i
+taken_length ms zero n ns e = refl
+taken_length [] (suc i) n ns e = absurd (let z : ◌≡◌ {A = ℕ} 0 1 = cc in omega arith)
+taken_length (m ∷ ms) (suc i) n ns e = ap suc (taken_length ms i n ns e)
 
-all-given : (ms : List ℕ) (i : ℕ) → drop i ms ≡ [] → (drop (suc i) ms ≡ []) × (take (suc i) ms ≡ take i ms)
-all-given [] zero e = (refl, refl)
-all-given [] (suc i) e = (refl, refl)
-all-given (m ∷ ms) zero e = absurd (let z : ◌≡◌ {A = ℕ} 0 1 = cc in omega arith)
-all-given (m ∷ ms) (suc i) e = let p = all-given ms i e in (p.0, ap (λ (l : List ℕ). m ∷ l) p.1)
+all_given : (ms : List ℕ) (i : ℕ) → drop i ms ≡ [] → (drop (suc i) ms ≡ []) × (take (suc i) ms ≡ take i ms)
+all_given [] zero e = (refl, refl)
+all_given [] (suc i) e = (refl, refl)
+all_given (m ∷ ms) zero e = absurd (let z : ◌≡◌ {A = ℕ} 0 1 = cc in omega arith)
+all_given (m ∷ ms) (suc i) e = let p = all_given ms i e in (p.0, ap (λ (l : List ℕ). m ∷ l) p.1)
 
 -- ---- a cursor has 81 moves at most
-row-short : (r n : ℕ) → length (row-moves r n) ≤ 27
-unfolding row-moves
-row-short r n = omega (arith, length-map (filter (bit n) (from 0 27)) (move_at r), filter-short (bit n) (from 0 27))
+row_short : (r n : ℕ) → length (row_moves r n) ≤ 27
+unfolding row_moves
+row_short r n = omega (arith, length-map (filter (bit n) (from 0 27)) (move_at r), filter_short (bit n) (from 0 27))
 
-left-short : (it : MoveIterator) → length (moves-left it) ≤ 81
-unfolding moves-left
-left-short it = omega (
+left_short : (it : MoveIterator) → length (moves_left it) ≤ 81
+unfolding moves_left
+left_short it = omega (
   arith,
-  row-short 0 it.top,
-  row-short 1 it.middle,
-  row-short 2 it.bottom,
-  length-append (row-moves 0 it.top) (row-moves 1 it.middle ++ row-moves 2 it.bottom),
-  length-append (row-moves 1 it.middle) (row-moves 2 it.bottom),
+  row_short 0 it.top,
+  row_short 1 it.middle,
+  row_short 2 it.bottom,
+  length-append (row_moves 0 it.top) (row_moves 1 it.middle ++ row_moves 2 it.bottom),
+  length-append (row_moves 1 it.middle) (row_moves 2 it.bottom),
 )
 
 -- ---- the cursor was asked i times for moves of ms: those are placed, and the others are left
 pub record Listing (ms : List ℕ) (i : ℕ) (list : List Move) (left : MoveIterator) : Type 0 where
   pub most : i ≤ 81
   pub placed : bytes_of list ≡ filled no_move (take i ms)
-  pub left_is : moves-left left ≡ drop i ms
+  pub left_is : moves_left left ≡ drop i ms
 
-pub listing_begins : (it : MoveIterator) → Listing (moves-left it) 0 (replicate 81 (record { bits = no_move })) it
-listing_begins it = record { most = omega arith; placed = bytes-empty 81; left_is = refl }
+pub listing_begins : (it : MoveIterator) → Listing (moves_left it) 0 (replicate 81 (record { bits = no_move })) it
+listing_begins it = record { most = omega arith; placed = bytes_empty 81; left_is = refl }
 
 -- l is what it says next
 module _ (ms : List ℕ) (i : ℕ) (list : List Move) (left : MoveIterator) (h : Listing ms i list left) (more : i < 81) (l : Listed)
-    (l-is : l ≡ listed (moves-left left)) (j : ℕ) (j-is : j ≡ suc i) where
-  pub listing-next : (m : Move) (rest : MoveIterator) → l ≡ Next m rest → (list' : List Move) → list' ≡ set list i m →
+    (l_is : l ≡ listed (moves_left left)) (j : ℕ) (j_is : j ≡ suc i) where
+  pub listing_next : (m : Move) (rest : MoveIterator) → l ≡ Next m rest → (list' : List Move) → list' ≡ set list i m →
       (left' : MoveIterator) → left' ≡ rest → Listing ms j list' left'
-  listing-next m rest e list' o left' f = subst (λ (k : ℕ). Listing ms k list' left') (sym j-is)
+  listing_next m rest e list' o left' f = subst (λ (k : ℕ). Listing ms k list' left') (sym j_is)
       (subst (λ (x : List Move). Listing ms (suc i) x left') (sym o) (subst (Listing ms (suc i) (set list i m)) (sym f)
-      (go (drop i ms) refl (sym e ∙ l-is ∙ ap listed h.left_is))))
+      (go (drop i ms) refl (sym e ∙ l_is ∙ ap listed h.left_is))))
     where
       go : (ns : List ℕ) → drop i ms ≡ ns → Next m rest ≡ listed ns → Listing ms (suc i) (set list i m) rest
       go [] d f = absurd (let z : ◌≡◌ {A = ℕ} 0 1 = cc in omega arith)
       go (n ∷ ns) d f =
-          let r : rest ≡ cursor-over ns = cc in
+          let r : rest ≡ cursor_over ns = cc in
           let s : m ≡ record { bits = n } = cc in
           record {
             most = omega arith;
             placed =
-                bytes-set list i m ∙ ap₂ (λ (bs : List ℕ) (b : ℕ). set bs i b) h.placed (ap byte_of s)
-                ∙ set-filled (take i ms) i n (taken-length ms i n ns d) more ∙ ap (filled no_move) (sym (take_next i ms ns n d));
-            left_is = ap moves-left r ∙ rest-left left n ns (h.left_is ∙ d) ∙ sym (drop-next i ms ns n d);
+                bytes_set list i m ∙ ap₂ (λ (bs : List ℕ) (b : ℕ). set bs i b) h.placed (ap byte_of s)
+                ∙ set_filled (take i ms) i n (taken_length ms i n ns d) more ∙ ap (filled no_move) (sym (take_next i ms ns n d));
+            left_is = ap moves_left r ∙ rest_left left n ns (h.left_is ∙ d) ∙ sym (drop_next i ms ns n d);
           }
 
-  pub listing-ended : l ≡ End → (list' : List Move) → list' ≡ list → (left' : MoveIterator) → left' ≡ left →
+  pub listing_ended : l ≡ End → (list' : List Move) → list' ≡ list → (left' : MoveIterator) → left' ≡ left →
       Listing ms j list' left'
-  listing-ended e list' o left' f = subst (λ (k : ℕ). Listing ms k list' left') (sym j-is)
+  listing_ended e list' o left' f = subst (λ (k : ℕ). Listing ms k list' left') (sym j_is)
       (subst (λ (x : List Move). Listing ms (suc i) x left') (sym o) (subst (Listing ms (suc i) list) (sym f)
-      (go (drop i ms) refl (sym e ∙ l-is ∙ ap listed h.left_is))))
+      (go (drop i ms) refl (sym e ∙ l_is ∙ ap listed h.left_is))))
     where
       go : (ns : List ℕ) → drop i ms ≡ ns → End ≡ listed ns → Listing ms (suc i) list left
       go (n ∷ ns) d f = absurd (let z : ◌≡◌ {A = ℕ} 0 1 = cc in omega arith)
-      go [] d f = let p = all-given ms i d in record {
+      go [] d f = let p = all_given ms i d in record {
         most = omega arith;
         placed = h.placed ∙ ap (filled no_move) (sym p.1);
         left_is = h.left_is ∙ d ∙ sym p.0;
       }
 
-pub listing-done : (it : MoveIterator) (i : ℕ) (list : List Move) (left : MoveIterator) → Listing (moves-left it) i list left →
-    81 ≤ i → bytes_of list ≡ filled no_move (moves-left it)
-listing-done it i list left h k = h.placed ∙ ap (filled no_move) (take_all i (moves-left it) (omega (arith, left-short it)))
+pub listing_done : (it : MoveIterator) (i : ℕ) (list : List Move) (left : MoveIterator) → Listing (moves_left it) i list left →
+    81 ≤ i → bytes_of list ≡ filled no_move (moves_left it)
+listing_done it i list left h k = h.placed ∙ ap (filled no_move) (take_all i (moves_left it) (omega (arith, left_short it)))

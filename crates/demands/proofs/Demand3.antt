@@ -11,78 +11,78 @@ use Rattle.rules.specs.Position.{Position, start}
 use Rattle.rules.specs.Play.{reached}
 use Rattle.rules.specs.Hash.{zobrist}
 use Rattle.rules.specs.Endgame.{Analysis as Found, analysis}
-use Rattle.rules.specs.Evaluation.{scoring-with}
-use Rattle.rules.proofs.Sound.{good-is-sound, start-is-good, reached-good}
-use Rattle.rules.proofs.Endgame.{analysis-sound}
+use Rattle.rules.specs.Evaluation.{scoring_with}
+use Rattle.rules.proofs.Sound.{good_is_sound, start_is_good, reached_good}
+use Rattle.rules.proofs.Endgame.{analysis_sound}
 use Rattle.theory.specs.Memory.{Responses}
 use Rattle.theory.specs.Reported.{Reported, reported}
 use Rattle.rules_game.specs.RulesGame.{game}
 use Rattle.game.specs.declared.Game.{Game}
-use Rattle.game.specs.Meaning.{position-of}
-use Rattle.game.specs.Built.{new-game}
-use Rattle.game.specs.After.{games-after}
+use Rattle.game.specs.Meaning.{position_of}
+use Rattle.game.specs.Built.{new_game}
+use Rattle.game.specs.After.{games_after}
 use Rattle.game.specs.Neat.{neat}
-use Rattle.game.proofs.AfterHash.{Fresh, zobrist-fresh}
-use Rattle.game.proofs.AfterList.{new-played-neat, new-played-means, new-played-hash}
-use Rattle.status.specs.Sets.{status-of}
+use Rattle.game.proofs.AfterHash.{Fresh, zobrist_fresh}
+use Rattle.game.proofs.AfterList.{new_played_neat, new_played_means, new_played_hash}
+use Rattle.status.specs.Sets.{status_of}
 use Rattle.endgame.specs.declared.Analysis.{Analysis}
 use Rattle.endgame.specs.Means.{Analyses}
 use Rattle.minimax.specs.declared.Minimax.{Minimax}
 use Rattle.minimax.specs.declared.Config.{Config}
 use Rattle.minimax.specs.declared.Report.{Report}
-use Rattle.minimax.specs.Report.{scoring-of, settings-of, report-of, reported-of, responses-of}
-use Rattle.minimax.proofs.Structs.{reported-rules}
+use Rattle.minimax.specs.Report.{scoring_of, settings_of, report_of, reported_of, responses_of}
+use Rattle.minimax.proofs.Structs.{reported_rules}
 use Rattle.demands.specs.Claims.{MarkSays, ReportsMinimax, StatusHolds}
 use Rattle.demands.specs.Demand3.{Demand3}
-use Rattle.demands.proofs.Claims.{reported-marks, reported-right, reported-holds}
+use Rattle.demands.proofs.Claims.{reported_marks, reported_right, reported_holds}
 
-pub none-long : (words : List ℕ) → length words ≡ 0 → words ≡ []
-none-long [] e = refl
-none-long (w ∷ words) e = absurd (omega arith)
+pub none_long : (words : List ℕ) → length words ≡ 0 → words ≡ []
+none_long [] e = refl
+none_long (w ∷ words) e = absurd (omega arith)
 
-module _ (ms : List ℕ) (m : Minimax) (c : Config) (g : Game) (a : Analysis) (rep : Report) (g-is : g ≡ games-after new-game ms)
-    (a-is : Analyses g a) (rep-is : report-of rep [] ≡ reported-of m g c []) where
+module _ (ms : List ℕ) (m : Minimax) (c : Config) (g : Game) (a : Analysis) (rep : Report) (g_is : g ≡ games_after new_game ms)
+    (a_is : Analyses g a) (rep_is : report_of rep [] ≡ reported_of m g c []) where
   abbrev rs : Responses
-  rs = responses-of m.responses
+  rs = responses_of m.responses
 
   abbrev p : Position
   p = reached start ms
 
-  means : position-of g ≡ p
-  means = ap position-of g-is ∙ new-played-means ms
+  means : position_of g ≡ p
+  means = ap position_of g_is ∙ new_played_means ms
 
   fresh : Fresh g
-  fresh = subst Fresh (sym g-is) (new-played-hash ms)
+  fresh = subst Fresh (sym g_is) (new_played_hash ms)
 
-  is-neat : T (neat g)
-  is-neat = subst (λ (x : Game). T (neat x)) (sym g-is) (new-played-neat ms)
+  is_neat : T (neat g)
+  is_neat = subst (λ (x : Game). T (neat x)) (sym g_is) (new_played_neat ms)
 
-  report-is : report-of rep [] ≡ reported (game (scoring-of c)) (settings-of c) p rs []
-  report-is =
-      rep-is ∙ reported-rules (scoring-of c) (settings-of c) g is-neat fresh rs []
-      ∙ ap (λ (q : Position). reported (game (scoring-of c)) (settings-of c) q rs []) means
+  report_is : report_of rep [] ≡ reported (game (scoring_of c)) (settings_of c) p rs []
+  report_is =
+      rep_is ∙ reported_rules (scoring_of c) (settings_of c) g is_neat fresh rs []
+      ∙ ap (λ (q : Position). reported (game (scoring_of c)) (settings_of c) q rs []) means
 
-  pub demand-3 : Demand3 ms m c (record { game = g; analysis = a; report = rep })
-  demand-3 = record {
-    game-is = g-is;
-    position-is = means;
-    key-is = zobrist-fresh g fresh ∙ ap zobrist means;
-    refusal_is = a-is.refusal ∙ ap (λ (q : Position). (analysis q).refusal) means;
-    status-is = a-is.status ∙ ap (λ (q : Position). status-of (analysis q).status) means;
-    counts-are = a-is.stats ∙ ap (λ (q : Position). (analysis q).stats) means;
-    report-is = report-is;
-    sound-is = λ t. good-is-sound p (reached-good start start-is-good ms) t;
+  pub demand_3 : Demand3 ms m c (record { game = g; analysis = a; report = rep })
+  demand_3 = record {
+    game_is = g_is;
+    position_is = means;
+    key_is = zobrist_fresh g fresh ∙ ap zobrist means;
+    refusal_is = a_is.refusal ∙ ap (λ (q : Position). (analysis q).refusal) means;
+    status_is = a_is.status ∙ ap (λ (q : Position). status_of (analysis q).status) means;
+    counts_are = a_is.stats ∙ ap (λ (q : Position). (analysis q).stats) means;
+    report_is = report_is;
+    sound_is = λ t. good_is_sound p (reached_good start start_is_good ms) t;
     answered =
-        λ t. a-is.refusal ∙ ap (λ (q : Position). (analysis q).refusal) means
-        ∙ ap (λ (y : Found). y.refusal) (analysis-sound p t (good-is-sound p (reached-good start start-is-good ms) t)).2;
-    mark-says =
-        λ t. subst (MarkSays c.draw_winner (settings-of c) rs p) (sym report-is)
-        (reported-marks ms t c.draw_winner (settings-of c) rs);
+        λ t. a_is.refusal ∙ ap (λ (q : Position). (analysis q).refusal) means
+        ∙ ap (λ (y : Found). y.refusal) (analysis_sound p t (good_is_sound p (reached_good start start_is_good ms) t)).2;
+    mark_says =
+        λ t. subst (MarkSays c.draw_winner (settings_of c) rs p) (sym report_is)
+        (reported_marks ms t c.draw_winner (settings_of c) rs);
     right =
-        λ t n. subst (ReportsMinimax c.draw_winner (settings-of c) rs p) (sym report-is)
-        (reported-right ms t c.draw_winner (settings-of c) rs n);
-    status-holds =
-        λ t e. subst (λ (x : Reported). StatusHolds (settings-of c) rs p x (analysis p).status)
-        (sym (report-is ∙ ap (λ (w : DrawWinner). reported (game (scoring-with w c.weights)) (settings-of c) p rs []) e))
-        (reported-holds ms t (settings-of c) rs);
+        λ t n. subst (ReportsMinimax c.draw_winner (settings_of c) rs p) (sym report_is)
+        (reported_right ms t c.draw_winner (settings_of c) rs n);
+    status_holds =
+        λ t e. subst (λ (x : Reported). StatusHolds (settings_of c) rs p x (analysis p).status)
+        (sym (report_is ∙ ap (λ (w : DrawWinner). reported (game (scoring_with w c.weights)) (settings_of c) p rs []) e))
+        (reported_holds ms t (settings_of c) rs);
   }

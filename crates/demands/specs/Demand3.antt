@@ -4,19 +4,19 @@ use Rattle.rules.specs.declared.DrawWinner.TheVariants.{Nobody}
 use Rattle.rules.specs.Position.{Position, start, unfinished}
 use Rattle.rules.specs.Play.{reached}
 use Rattle.rules.specs.Sound.{sound}
-use Rattle.rules.specs.Hash.{with-turn, zobrist}
+use Rattle.rules.specs.Hash.{with_turn, zobrist}
 use Rattle.rules.specs.Endgame.{analysis}
 use Rattle.theory.specs.Memory.{Responses}
 use Rattle.theory.specs.Reported.{reported}
 use Rattle.rules_game.specs.RulesGame.{game}
-use Rattle.game.specs.Meaning.{position-of}
-use Rattle.game.specs.Built.{new-game}
-use Rattle.game.specs.After.{games-after}
-use Rattle.status.specs.Sets.{status-of}
-use Rattle.endgame.specs.Means.{analysis-number, endgame-stats-of}
+use Rattle.game.specs.Meaning.{position_of}
+use Rattle.game.specs.Built.{new_game}
+use Rattle.game.specs.After.{games_after}
+use Rattle.status.specs.Sets.{status_of}
+use Rattle.endgame.specs.Means.{analysis_number, endgame_stats_of}
 use Rattle.minimax.specs.declared.Minimax.{Minimax}
 use Rattle.minimax.specs.declared.Config.{Config}
-use Rattle.minimax.specs.Report.{scoring-of, settings-of, report-of, responses-of}
+use Rattle.minimax.specs.Report.{scoring_of, settings_of, report_of, responses_of}
 use Rattle.demands.specs.declared.AfterMoves.{AfterMoves}
 use Rattle.demands.specs.Claims.{NotStopped, MarkSays, ReportsMinimax, StatusHolds}
 
@@ -26,22 +26,22 @@ module _ (ms : List ℕ) (m : Minimax) (c : Config) (r : AfterMoves) where
   p = reached start ms
 
   abbrev pub rs : Responses
-  rs = responses-of m.responses
+  rs = responses_of m.responses
 
   pub record Demand3 : Type 0 where
     -- the game, the endgame analysis and the search, each by its definition at that position
-    pub game-is : r.game ≡ games-after new-game ms
-    pub position-is : position-of r.game ≡ p
-    pub key-is : with-turn (position-of r.game) r.game.hash ≡ zobrist p
-    pub refusal_is : analysis-number r.analysis.answer ≡ (analysis p).refusal
-    pub status-is : r.analysis.proven ≡ status-of (analysis p).status
-    pub counts-are : endgame-stats-of r.analysis.stats ≡ (analysis p).stats
-    pub report-is : report-of r.report [] ≡ reported (game (scoring-of c)) (settings-of c) p rs []
+    pub game_is : r.game ≡ games_after new_game ms
+    pub position_is : position_of r.game ≡ p
+    pub key_is : with_turn (position_of r.game) r.game.hash ≡ zobrist p
+    pub refusal_is : analysis_number r.analysis.answer ≡ (analysis p).refusal
+    pub status_is : r.analysis.proven ≡ status_of (analysis p).status
+    pub counts_are : endgame_stats_of r.analysis.stats ≡ (analysis p).stats
+    pub report_is : report_of r.report [] ≡ reported (game (scoring_of c)) (settings_of c) p rs []
     -- and, where the game is unfinished, the claims: the position is sound, and the endgame question is answered
-    pub sound-is : T (unfinished p) → T (sound p)
-    pub answered : T (unfinished p) → analysis-number r.analysis.answer ≡ 0
-    pub mark-says : T (unfinished p) → MarkSays c.draw_winner (settings-of c) rs p (report-of r.report [])
-    pub right : T (unfinished p) → NotStopped c.draw_winner (settings-of c) rs p
-        → ReportsMinimax c.draw_winner (settings-of c) rs p (report-of r.report [])
-    pub status-holds : T (unfinished p) → c.draw_winner ≡ Nobody
-        → StatusHolds (settings-of c) rs p (report-of r.report []) (analysis p).status
+    pub sound_is : T (unfinished p) → T (sound p)
+    pub answered : T (unfinished p) → analysis_number r.analysis.answer ≡ 0
+    pub mark_says : T (unfinished p) → MarkSays c.draw_winner (settings_of c) rs p (report_of r.report [])
+    pub right : T (unfinished p) → NotStopped c.draw_winner (settings_of c) rs p
+        → ReportsMinimax c.draw_winner (settings_of c) rs p (report_of r.report [])
+    pub status_holds : T (unfinished p) → c.draw_winner ≡ Nobody
+        → StatusHolds (settings_of c) rs p (report_of r.report []) (analysis p).status

@@ -4,15 +4,15 @@ use Rattle.rules.specs.declared.DrawWinner.{DrawWinner}
 use Rattle.rules.specs.declared.Weights.{Weights}
 use Rattle.rules.specs.Board.{other}
 use Rattle.rules.specs.Position.{unfinished}
-use Rattle.rules.specs.Evaluation.{won, lost, scoring-with}
+use Rattle.rules.specs.Evaluation.{won, lost, scoring_with}
 use Rattle.game.specs.declared.Game.{Game}
-use Rattle.game.specs.Meaning.{position-of}
+use Rattle.game.specs.Meaning.{position_of}
 use Rattle.evaluation.specs.Values.{Evaluates}
 use Rattle.demands.specs.declared.SidesEvaluations.{SidesEvaluations}
 
 -- the hash, which the evaluation does not look at, is left as it is
-abbrev pub other-to-move : Game → Game
-other-to-move g = record {
+abbrev pub other_to_move : Game → Game
+other_to_move g = record {
   next_player = other g.next_player;
   next_board = g.next_board;
   local_boards = g.local_boards;
@@ -25,11 +25,11 @@ other-to-move g = record {
 module _ (g : Game) (draws : DrawWinner) (w : Weights) where
   pub record EvaluationClaims (r : SidesEvaluations) : Type 0 where
     -- each by the definition
-    pub own_is : Evaluates (scoring-with draws w) g r.own
-    pub others-is : Evaluates (scoring-with draws w) (other-to-move g) r.others
+    pub own_is : Evaluates (scoring_with draws w) g r.own
+    pub others_is : Evaluates (scoring_with draws w) (other_to_move g) r.others
     -- the one is the exact negative of the other
     pub negative : r.others.value ≡ neg_ℤ r.own.value
     -- an unfinished game lies within 24 times a won board's weight and 192 times the larger of the others, either way
-    pub within : T (unfinished (position-of g)) → nat_abs r.own.value ≤ 24 * w.board + 192 * max w.one w.two
+    pub within : T (unfinished (position_of g)) → nat_abs r.own.value ≤ 24 * w.board + 192 * max w.one w.two
     -- and is neither won nor lost
-    pub inside : T (unfinished (position-of g)) → (lost <ℤ r.own.value) × (r.own.value <ℤ won)
+    pub inside : T (unfinished (position_of g)) → (lost <ℤ r.own.value) × (r.own.value <ℤ won)

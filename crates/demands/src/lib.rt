@@ -1,14 +1,16 @@
 // The mission's demands, and functions of which they and the claims on every search and every evaluation are the promises.
+#![tactic(auto)]
+
 ghost use Rattle.std.specs.Prelude.{◌≡◌};
 ghost use Rattle.rules.specs.Play.{no_move};
 ghost use Rattle.theory.specs.Reported.{filled};
-ghost use Rattle.boards.specs.Cursor.{moves-left};
+ghost use Rattle.boards.specs.Cursor.{moves_left};
 ghost use Rattle.minimax.specs.Report.{bytes_of};
 ghost use Rattle.demands.specs.Demand1.{Demand1};
 ghost use Rattle.demands.specs.Demand2.{Demand2, ReadAgain};
 ghost use Rattle.demands.specs.Demand3.{Demand3};
 ghost use Rattle.demands.specs.Searches.{SearchClaims};
-ghost use Rattle.demands.specs.Evaluations.{other-to-move, EvaluationClaims};
+ghost use Rattle.demands.specs.Evaluations.{other_to_move, EvaluationClaims};
 
 use answer_text::AnswerText;
 use boards::{Built, Listed, Move, MoveIterator, PLACES};
@@ -22,7 +24,7 @@ use rules::{DrawWinner, GameState, NextBoard, Player, Weights};
 use status::Status;
 
 // What each entry point that may refuse answers.
-#[derive(Drop)]
+#[derive(Clone, Copy)]
 pub struct EntryAnswers {
     pub read: Parsed,
     pub read_move: ParsedMove,
@@ -38,7 +40,7 @@ pub struct EntryAnswers {
 }
 
 // What each function answers of a text and of a move, and of the game after a list of moves tried from where the text begins.
-#[derive(Drop)]
+#[derive(Clone, Copy)]
 pub struct GameAnswers {
     pub read: Parsed,
     pub read_move: ParsedMove,
@@ -67,14 +69,14 @@ pub struct GameAnswers {
 }
 
 // The evaluation of a game as it is, and with the other side to move.
-#[derive(Drop)]
+#[derive(Clone, Copy)]
 pub struct SidesEvaluations {
     pub own: Evaluation,
     pub others: Evaluation,
 }
 
 // What is said after a list of tried moves: the game, the endgame analysis and the search with the table off.
-#[derive(Drop)]
+#[derive(Clone, Copy)]
 pub struct AfterMoves {
     pub game: Game,
     pub analysis: Analysis,
@@ -117,7 +119,7 @@ pub fn entry_answers(
 
 // The moves that a cursor gives, in their order, and empty places after them.
 pub fn list_moves(cursor: MoveIterator) -> [Move; PLACES]
-    ensures { bytes_of result ≡ filled no_move (moves-left cursor) }
+    ensures { bytes_of result ≡ filled no_move (moves_left cursor) }
 {
     let mut list = [Move::NONE; PLACES];
     let mut left = cursor;
@@ -201,7 +203,7 @@ pub fn search(memory: Minimax, game: Game, config: Config, words: &mut [u64]) ->
 }
 
 fn other_to_move(game: Game) -> Game
-    ensures { result ≡ other-to-move game }
+    ensures { result ≡ other_to_move game }
 {
     let who = game.next_player;
     let next_board = game.next_board;

@@ -10,29 +10,29 @@ use Rattle.base.specs.Lists.{any, all}
 use Rattle.base.proofs.Bool.{neither}
 
 module _ {A : Type 0} (f : A → Bool) where
-  any-join : (xs ys : List A) → any f (xs ++ ys) ≡ (any f xs || any f ys)
+  any_join : (xs ys : List A) → any f (xs ++ ys) ≡ (any f xs || any f ys)
   unfolding any
-  any-join [] ys = refl
-  any-join (x ∷ xs) ys = ap (◌||◌ (f x)) (any-join xs ys) ∙ sym (or_assoc (f x) (any f xs) (any f ys))
+  any_join [] ys = refl
+  any_join (x ∷ xs) ys = ap (◌||◌ (f x)) (any_join xs ys) ∙ sym (or_assoc (f x) (any f xs) (any f ys))
 
   -- no element passes exactly if all fail
-  pub all-fail : (xs : List A) → all (λ x. not (f x)) xs ≡ not (any f xs)
+  pub all_fail : (xs : List A) → all (λ x. not (f x)) xs ≡ not (any f xs)
   unfolding any all
-  all-fail [] = refl
-  all-fail (x ∷ xs) = ap (◌&&◌ (not (f x))) (all-fail xs) ∙ neither (f x) (any f xs)
+  all_fail [] = refl
+  all_fail (x ∷ xs) = ap (◌&&◌ (not (f x))) (all_fail xs) ∙ neither (f x) (any f xs)
 
   module _ (xs : List A) (d : A) (i : ℕ) (h : i < length xs) where
     -- the elements up to i
-    pub any-so-far : any f (take (i + 1) xs) ≡ (any f (take i xs) || f (get_or xs i d))
+    pub any_so_far : any f (take (i + 1) xs) ≡ (any f (take i xs) || f (get_or xs i d))
     unfolding any
-    any-so-far =
-        rw (add-one, take-suc xs i d h) (any-join (take i xs) (get_or xs i d ∷ [])
+    any_so_far =
+        rw (add-one, take-suc xs i d h) (any_join (take i xs) (get_or xs i d ∷ [])
         ∙ ap (◌||◌ (any f (take i xs))) (or-false (f (get_or xs i d))))
 
     -- and those from i on
-    any-from : any f (drop i xs) ≡ (f (get_or xs i d) || any f (drop (i + 1) xs))
+    any_from : any f (drop i xs) ≡ (f (get_or xs i d) || any f (drop (i + 1) xs))
     unfolding any
-    any-from = rw add-one (ap (any f) (drop-cons xs i d h))
+    any_from = rw add-one (ap (any f) (drop-cons xs i d h))
 
     all_from : all f (drop i xs) ≡ (f (get_or xs i d) && all f (drop (i + 1) xs))
     unfolding all
@@ -40,13 +40,13 @@ module _ {A : Type 0} (f : A → Bool) where
 
     module _ (b : Bool) where
       pub any_found : any f (drop i xs) ≡ b → f (get_or xs i d) ≡ true → true ≡ b
-      any_found e t = sym (ap (λ (x : Bool). x || any f (drop (i + 1) xs)) t) ∙ sym any-from ∙ e
+      any_found e t = sym (ap (λ (x : Bool). x || any f (drop (i + 1) xs)) t) ∙ sym any_from ∙ e
 
-      pub any-missed : any f (drop i xs) ≡ b → f (get_or xs i d) ≡ false → any f (drop (i + 1) xs) ≡ b
-      any-missed e t = sym (ap (λ (x : Bool). x || any f (drop (i + 1) xs)) t) ∙ sym any-from ∙ e
+      pub any_missed : any f (drop i xs) ≡ b → f (get_or xs i d) ≡ false → any f (drop (i + 1) xs) ≡ b
+      any_missed e t = sym (ap (λ (x : Bool). x || any f (drop (i + 1) xs)) t) ∙ sym any_from ∙ e
 
-      pub all-failed : all f (drop i xs) ≡ b → f (get_or xs i d) ≡ false → false ≡ b
-      all-failed e t = sym (ap (λ (x : Bool). x && all f (drop (i + 1) xs)) t) ∙ sym all_from ∙ e
+      pub all_failed : all f (drop i xs) ≡ b → f (get_or xs i d) ≡ false → false ≡ b
+      all_failed e t = sym (ap (λ (x : Bool). x && all f (drop (i + 1) xs)) t) ∙ sym all_from ∙ e
 
-      pub all-passed : all f (drop i xs) ≡ b → f (get_or xs i d) ≡ true → all f (drop (i + 1) xs) ≡ b
-      all-passed e t = sym (ap (λ (x : Bool). x && all f (drop (i + 1) xs)) t) ∙ sym all_from ∙ e
+      pub all_passed : all f (drop i xs) ≡ b → f (get_or xs i d) ≡ true → all f (drop (i + 1) xs) ≡ b
+      all_passed e t = sym (ap (λ (x : Bool). x && all f (drop (i + 1) xs)) t) ∙ sym all_from ∙ e

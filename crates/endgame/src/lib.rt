@@ -2,22 +2,24 @@
 // Ported from src/lib/endgame.rs of nelhage/ultimattt at commit 87ef0d9c7c (Apache-2.0, see NOTICE), changed: an unfinished position that
 // is not sound is refused, and so is a move that play refuses; the counts come back with the analysis; sums of counts and printing are left
 // out.
+#![tactic(auto)]
+
 ghost use Rattle.std.specs.Prelude.{◌≡◌, not, cond, ◌||◌, ◌&&◌, ◌<◌, T, eqb};
 ghost use Rattle.std.specs.Int.Count.{ones};
 ghost use Rattle.base.specs.Bits.{bit, digits};
 ghost use Rattle.base.specs.Lists.{any, all};
 ghost use Rattle.rules.specs.Board.{other, nine, lines};
-ghost use Rattle.rules.specs.Position.{unfinished, open-board, free-cell};
-ghost use Rattle.rules.specs.Play.{cell-of};
+ghost use Rattle.rules.specs.Position.{unfinished, open_board, free_cell};
+ghost use Rattle.rules.specs.Play.{cell_of};
 ghost use Rattle.rules.specs.Sound.{sound};
 ghost use Rattle.rules.specs.Status.{unproven};
-ghost use Rattle.rules.specs.Endgame.{critical, prove-attacker, forced-loss, winnable, proven, combine, no-endgame-stats, or-unproven};
+ghost use Rattle.rules.specs.Endgame.{critical, prove_attacker, forced_loss, winnable, proven, combine, no_endgame_stats, or_unproven};
 ghost use Rattle.rules.specs.Endgame.{judge};
-ghost use Rattle.status.specs.Sets.{status-of};
-ghost use Rattle.game.specs.Meaning.{position-of};
+ghost use Rattle.status.specs.Sets.{status_of};
+ghost use Rattle.game.specs.Meaning.{position_of};
 ghost use Rattle.lines.specs.Masks.{line_at};
-ghost use Rattle.endgame.specs.Parts.{live, lacks-one, critical-by};
-ghost use Rattle.endgame.specs.Means.{analysis-number, move-status-number, endgame-stats-of, Analyses, Judges, Narrows, Agrees};
+ghost use Rattle.endgame.specs.Parts.{live, lacks_one, critical_by};
+ghost use Rattle.endgame.specs.Means.{analysis_number, move_status_number, endgame_stats_of, Analyses, Judges, Narrows, Agrees};
 
 use boards::{Answer, Move, MoveError};
 use game::Game;
@@ -26,7 +28,7 @@ use rules::{NextBoard, Player};
 use status::{Read, Status};
 
 // What one analysis found: each 0 or 1, `unwinnable` up to 2.
-#[derive(Drop)]
+#[derive(Clone, Copy)]
 pub struct EndgameStats {
     pub attacker_critical: usize,
     pub defender_critical: usize,
@@ -37,7 +39,7 @@ pub struct EndgameStats {
 }
 
 // Whether an analysis was made.
-#[derive(Drop)]
+#[derive(Clone, Copy)]
 pub enum AnalysisAnswer {
     Analysed,
     Unsound,
@@ -45,7 +47,7 @@ pub enum AnalysisAnswer {
 
 impl AnalysisAnswer {
     pub fn number(self) -> u64
-        ensures { result ≡ analysis-number self }
+        ensures { result ≡ analysis_number self }
     {
         match self {
             AnalysisAnswer::Analysed => 0,
@@ -55,7 +57,7 @@ impl AnalysisAnswer {
 }
 
 // Not made, or of a finished game: the full set and no counts.
-#[derive(Drop)]
+#[derive(Clone, Copy)]
 pub struct Analysis {
     pub answer: AnalysisAnswer,
     pub proven: Status,
@@ -63,7 +65,7 @@ pub struct Analysis {
 }
 
 // Whether a move was judged.
-#[derive(Drop)]
+#[derive(Clone, Copy)]
 pub enum MoveStatusAnswer {
     Judged,
     Refused(MoveError),
@@ -72,7 +74,7 @@ pub enum MoveStatusAnswer {
 
 impl MoveStatusAnswer {
     pub fn number(self) -> u64
-        ensures { result ≡ move-status-number self }
+        ensures { result ≡ move_status_number self }
     {
         match self {
             MoveStatusAnswer::Judged => 0,
@@ -83,7 +85,7 @@ impl MoveStatusAnswer {
 }
 
 // What judging a move gives: refused, the full set.
-#[derive(Drop)]
+#[derive(Clone, Copy)]
 pub struct MoveStatus {
     pub answer: MoveStatusAnswer,
     pub status: Status,
@@ -102,7 +104,7 @@ impl EndgameStats {
 
 // Whether the board, if it is in play, has room and no line in it.
 fn is_live(pos: Game, board: usize) -> bool
-    ensures { result ≡ live (position-of pos) board }
+    ensures { result ≡ live (position_of pos) board }
 {
     let states = pos.global_states;
     let boards = pos.local_boards;
@@ -120,7 +122,7 @@ fn is_live(pos: Game, board: usize) -> bool
 
 // Whether nobody has a line of boards, and all boards are live.
 fn is_sound(pos: Game) -> bool
-    ensures { result ≡ sound (position-of pos) }
+    ensures { result ≡ sound (position_of pos) }
 {
     let states = pos.global_states;
     if has_line(states.xbits()) {
@@ -139,7 +141,7 @@ fn is_sound(pos: Game) -> bool
 
 // Unfinished and not sound.
 fn is_unsound(pos: Game) -> bool
-    ensures { result ≡ (unfinished (position-of pos) && not (sound (position-of pos))) }
+    ensures { result ≡ (unfinished (position_of pos) && not (sound (position_of pos))) }
 {
     if pos.game_over() {
         return false;
@@ -160,8 +162,8 @@ fn count(found: bool) -> usize
 }
 
 fn unanalysed(answer: AnalysisAnswer) -> Analysis
-    ensures { (result.answer ≡ answer) × (result.proven ≡ status-of unproven) ×
-        (endgame-stats-of result.stats ≡ no-endgame-stats) }
+    ensures { (result.answer ≡ answer) × (result.proven ≡ status_of unproven) ×
+        (endgame_stats_of result.stats ≡ no_endgame_stats) }
 {
     Analysis {
         answer,
@@ -185,7 +187,7 @@ impl Analysis {
 
     // The analysis of an unfinished sound position.
     fn analysed(pos: Game) -> Analysis
-        requires { T (unfinished (position-of pos)) × T (sound (position-of pos)) }
+        requires { T (unfinished (position_of pos)) × T (sound (position_of pos)) }
         ensures { Analyses pos result }
     {
         let who = pos.player();
@@ -247,8 +249,8 @@ pub fn evaluate_move(pos: Game, m: Move) -> MoveStatus
 
 // As the Rust gives it, for a move that play accepts.
 fn move_status(pos: Game, m: Move) -> Status
-    requires { T (sound (position-of pos)) × (cell-of m.bits < 9) }
-    ensures { result ≡ status-of (judge (position-of pos) m.bits) }
+    requires { T (sound (position_of pos)) × (cell_of m.bits < 9) }
+    ensures { result ≡ status_of (judge (position_of pos) m.bits) }
 {
     let states = pos.global_states;
     let by = pos.player().other();
@@ -269,7 +271,7 @@ fn move_status(pos: Game, m: Move) -> Status
 
 // What is proved of the side to move, who wins, or loses, or neither.
 fn proven_of(who: Player, wins: bool, loses: bool) -> Status
-    ensures { result ≡ status-of (proven who wins loses) }
+    ensures { result ≡ status_of (proven who wins loses) }
 {
     if wins {
         return Status::for_player(who);
@@ -296,7 +298,7 @@ fn limited(can: bool, left: Status, proven: Read) -> Read
 // What is proved and what can still be won are not in conflict, so the Rust's two panics are never met.
 fn combined(who: Player, wins: bool, loses: bool, x: bool, o: bool) -> Status
     requires { Agrees (combine who wins loses x o) }
-    ensures { result ≡ status-of (or-unproven (combine who wins loses x o)) }
+    ensures { result ≡ status_of (or_unproven (combine who wins loses x o)) }
 {
     let proven = Read::Set(proven_of(who, wins, loses));
     let without_x = limited(x, Status::draw_or_o(), proven);
@@ -308,7 +310,7 @@ fn combined(who: Player, wins: bool, loses: bool, x: bool, o: bool) -> Status
 }
 
 fn is_winnable(pos: Game, by: Player) -> bool
-    ensures { result ≡ winnable (position-of pos) by }
+    ensures { result ≡ winnable (position_of pos) by }
 {
     let states = pos.global_states;
     has_line(states.playerbits(by) | states.openbits())
@@ -327,7 +329,7 @@ fn holds(set: u32, board: usize) -> bool
 
 // Whether every empty cell of a board sends to a wanted one.
 fn sends_to(pos: Game, board: usize, want: u32) -> bool
-    ensures { result ≡ all (λ c. not (free-cell (position-of pos) board c) || bit want c) nine }
+    ensures { result ≡ all (λ c. not (free_cell (position_of pos) board c) || bit want c) nine }
 {
     let boards = pos.local_boards;
     boards.free_squares(board) & !want == 0
@@ -335,8 +337,8 @@ fn sends_to(pos: Game, board: usize, want: u32) -> bool
 
 // The other boards in play to which a board's empty cells send, but for the critical ones.
 fn dests_of(pos: Game, board: usize, critical: u32) -> u32
-    ensures { result ≡ digits (λ i. free-cell (position-of pos) board i &&
-        (open-board (position-of pos) i && (not (bit critical i) && not (eqb i board)))) 9 }
+    ensures { result ≡ digits (λ i. free_cell (position_of pos) board i &&
+        (open_board (position_of pos) i && (not (bit critical i) && not (eqb i board)))) 9 }
 {
     let boards = pos.local_boards;
     let states = pos.global_states;
@@ -349,7 +351,7 @@ fn dests_of(pos: Game, board: usize, critical: u32) -> u32
 
 // Whether one of the boards sends only to wanted ones.
 fn any_sends_to(pos: Game, dests: u32, want: u32) -> bool
-    ensures { result ≡ any (λ i. bit dests i && all (λ c. not (free-cell (position-of pos) i c) || bit want c) nine) nine }
+    ensures { result ≡ any (λ i. bit dests i && all (λ c. not (free_cell (position_of pos) i c) || bit want c) nine) nine }
 {
     for i in 0..9 {
         let sends = sends_to(pos, i, want);
@@ -361,9 +363,9 @@ fn any_sends_to(pos: Game, dests: u32, want: u32) -> bool
 }
 
 fn prove_attacker(pos: Game, attacker_critical: u32, defender_critical: u32) -> bool
-    requires { T (sound (position-of pos)) × (attacker_critical ≡ digits (critical (position-of pos) (position-of pos).turn) 9)
-        × (defender_critical ≡ digits (critical (position-of pos) (other (position-of pos).turn)) 9) }
-    ensures { result ≡ prove-attacker (position-of pos) }
+    requires { T (sound (position_of pos)) × (attacker_critical ≡ digits (critical (position_of pos) (position_of pos).turn) 9)
+        × (defender_critical ≡ digits (critical (position_of pos) (other (position_of pos).turn)) 9) }
+    ensures { result ≡ prove_attacker (position_of pos) }
 {
     if attacker_critical == 0 {
         return false;
@@ -386,9 +388,9 @@ fn prove_attacker(pos: Game, attacker_critical: u32, defender_critical: u32) -> 
 }
 
 fn forced_loss(pos: Game, defender_critical: u32) -> bool
-    requires { T (sound (position-of pos)) ×
-        (defender_critical ≡ digits (critical (position-of pos) (other (position-of pos).turn)) 9) }
-    ensures { result ≡ forced-loss (position-of pos) }
+    requires { T (sound (position_of pos)) ×
+        (defender_critical ≡ digits (critical (position_of pos) (other (position_of pos).turn)) 9) }
+    ensures { result ≡ forced_loss (position_of pos) }
 {
     if defender_critical == 0 {
         return false;
@@ -419,7 +421,7 @@ fn is_single_bit(v: u32) -> bool
 // Whether line i lacks one place only, which is empty.
 fn is_critical(player: u32, empty: u32, i: usize) -> bool
     requires { (player < 512) × (empty < 512) × (i < 8) }
-    ensures { result ≡ lacks-one (bit player) (bit empty) (line_at i) }
+    ensures { result ≡ lacks_one (bit player) (bit empty) (line_at i) }
 {
     let mask = WIN_MASKS[i];
     if (player | empty) & mask != mask {
@@ -430,7 +432,7 @@ fn is_critical(player: u32, empty: u32, i: usize) -> bool
 
 fn has_critical(player: u32, empty: u32) -> bool
     requires { (player < 512) × (empty < 512) }
-    ensures { result ≡ any (lacks-one (bit player) (bit empty)) lines }
+    ensures { result ≡ any (lacks_one (bit player) (bit empty)) lines }
 {
     for i in 0..8 {
         if is_critical(player, empty, i) {
@@ -443,7 +445,7 @@ fn has_critical(player: u32, empty: u32) -> bool
 // The board that line i lacks only, if the player could win it at once.
 fn critical_board(pos: Game, who: Player, i: usize) -> u32
     requires { i < 8 }
-    ensures { result ≡ digits (critical-by (position-of pos) who (line_at i)) 9 }
+    ensures { result ≡ digits (critical_by (position_of pos) who (line_at i)) 9 }
 {
     let states = pos.global_states;
     let boards = pos.local_boards;
@@ -461,8 +463,8 @@ fn critical_board(pos: Game, who: Player, i: usize) -> u32
 }
 
 fn critical_boards(pos: Game, who: Player) -> u32
-    requires { T (sound (position-of pos)) }
-    ensures { result ≡ digits (critical (position-of pos) who) 9 }
+    requires { T (sound (position_of pos)) }
+    ensures { result ≡ digits (critical (position_of pos) who) 9 }
 {
     let mut out: u32 = 0;
     for i in 0..8 {

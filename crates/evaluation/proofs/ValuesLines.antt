@@ -12,24 +12,24 @@ use borrow.Author.Tests.{eq-eqb, ne_eqb, eqb-true, eqb-false, lt-ltb}
 use Rattle.base.specs.Branch.{if◌then◌else◌}
 use Rattle.base.specs.Bits.{bit, digits}
 use Rattle.base.specs.Integers.{sum}
-use Rattle.base.proofs.Integers.{left-sum}
-use Rattle.base.proofs.ListsEvery.{up_to, upTo-at, sameB, sameB-eq}
-use Rattle.base.proofs.Bits.{bit_masked, bit-digits}
+use Rattle.base.proofs.Integers.{left_sum}
+use Rattle.base.proofs.ListsEvery.{up_to, up_to_at, same_b, same_b_eq}
+use Rattle.base.proofs.Bits.{bit_masked, bit_digits}
 use Rattle.rules.specs.declared.Weights.{Weights}
 use Rattle.rules.specs.Board.{Line, lines}
-use Rattle.rules.specs.Evaluation.{places-in, unless-both, worth, board-line}
+use Rattle.rules.specs.Evaluation.{places_in, unless_both, worth, board_line}
 use Rattle.lines.specs.Masks.{line_at}
 use Rattle.lines.proofs.Masks.{mask_at, Low, low}
 
 -- ---- only the nine low digits count
-count_same : (f g : ℕ → Bool) → ((k : ℕ) → k < 9 → f k ≡ g k) → (l : Line) → Low l → places-in f l ≡ places-in g l
-unfolding places-in
+count_same : (f g : ℕ → Bool) → ((k : ℕ) → k < 9 → f k ≡ g k) → (l : Line) → Low l → places_in f l ≡ places_in g l
+unfolding places_in
 count_same f g e l h = rw (e l.i h.0, e l.j h.1, e l.k h.2)
 
-pub count-digits : (f : ℕ → Bool) (n i : ℕ) → n ≡ digits f 9 → i < 8 → places-in (bit n) (line_at i)
-    ≡ places-in f (line_at i)
-count-digits f n i e h =
-    ap (λ (m : ℕ). places-in (bit m) (line_at i)) e ∙ count_same (bit (digits f 9)) f (bit-digits f 9) (line_at i) (low i h)
+pub count_digits : (f : ℕ → Bool) (n i : ℕ) → n ≡ digits f 9 → i < 8 → places_in (bit n) (line_at i)
+    ≡ places_in f (line_at i)
+count_digits f n i e h =
+    ap (λ (m : ℕ). places_in (bit m) (line_at i)) e ∙ count_same (bit (digits f 9)) f (bit_digits f 9) (line_at i) (low i h)
 
 -- eight terms, one for each line
 pub sum_same : (f g : Line → ℤ) → ((i : ℕ) → i < 8 → f (line_at i) ≡ g (line_at i)) → sum f lines ≡ sum g lines
@@ -40,7 +40,7 @@ pub eight : (f : Line → ℤ) → f (line_at 0) +ℤ f (line_at 1) +ℤ f (line
     (line_at 5) +ℤ f (line_at 6) +ℤ f (line_at 7) ≡ sum f lines
 unfolding sum
 eight f =
-    left-sum (f (line_at 0)) (f (line_at 1) ∷ f (line_at 2) ∷ f (line_at 3) ∷ f (line_at 4) ∷ f (line_at 5) ∷ f (line_at 6) ∷
+    left_sum (f (line_at 0)) (f (line_at 1) ∷ f (line_at 2) ∷ f (line_at 3) ∷ f (line_at 4) ∷ f (line_at 5) ∷ f (line_at 6) ∷
     f (line_at 7) ∷ [])
 
 -- ---- what the mask finds
@@ -50,103 +50,103 @@ found m p =
     if eqb p 0 then (λ _. 0) else λ _. if eqb (bit_and p (p - 1)) 0 then (λ _. 1) else λ _. if eqb p m then (λ _. 3) else λ _. 2
 
 -- computed for each line and each board of nine digits
-found-test : ℕ → ℕ → Bool
-found-test i n = eqb (found (mask_at i) (bit_and n (mask_at i))) (places-in (bit n) (line_at i))
+found_test : ℕ → ℕ → Bool
+found_test i n = eqb (found (mask_at i) (bit_and n (mask_at i))) (places_in (bit n) (line_at i))
 
-none-test : ℕ → ℕ → Bool
-none-test i n = sameB (eqb (bit_and n (mask_at i)) 0) (eqb (places-in (bit n) (line_at i)) 0)
+none_test : ℕ → ℕ → Bool
+none_test i n = same_b (eqb (bit_and n (mask_at i)) 0) (eqb (places_in (bit n) (line_at i)) 0)
 
-small-found : (i n : ℕ) → i < 8 → n < 512 → found (mask_at i) (bit_and n (mask_at i)) ≡ places-in (bit n) (line_at i)
-unfolding found-test found if◌then◌else◌ places-in bit
-small-found i n h k = eqb→eq _ _ (upTo-at (found-test i) 512 (upTo-at (λ i. up_to (found-test i) 512) 8 tt i h) n k)
+small_found : (i n : ℕ) → i < 8 → n < 512 → found (mask_at i) (bit_and n (mask_at i)) ≡ places_in (bit n) (line_at i)
+unfolding found_test found if◌then◌else◌ places_in bit
+small_found i n h k = eqb→eq _ _ (up_to_at (found_test i) 512 (up_to_at (λ i. up_to (found_test i) 512) 8 tt i h) n k)
 
-small-none : (i n : ℕ) → i < 8 → n < 512 → eqb (bit_and n (mask_at i)) 0 ≡ eqb (places-in (bit n) (line_at i)) 0
-unfolding none-test places-in bit
-small-none i n h k = sameB-eq _ _ (upTo-at (none-test i) 512 (upTo-at (λ i. up_to (none-test i) 512) 8 tt i h) n k)
+small_none : (i n : ℕ) → i < 8 → n < 512 → eqb (bit_and n (mask_at i)) 0 ≡ eqb (places_in (bit n) (line_at i)) 0
+unfolding none_test places_in bit
+small_none i n h k = same_b_eq _ _ (up_to_at (none_test i) 512 (up_to_at (λ i. up_to (none_test i) 512) 8 tt i h) n k)
 
 module _ (i n : ℕ) (h : i < 8) where
   low_mask : bit_and n (mask_at i) ≡ bit_and (n % 512) (mask_at i)
   low_mask =
       let a = and_mod n (mask_at i) 9 in
       let b = and_le_r n (mask_at i) in
-      let s = ltb→lt (mask_at i) 512 (upTo-at (λ i. ltb (mask_at i) 512) 8 tt i h) in
+      let s = ltb→lt (mask_at i) 512 (up_to_at (λ i. ltb (mask_at i) 512) 8 tt i h) in
       let c : mask_at i % 512 ≡ mask_at i = omega arith in
       let d = ap (bit_and (n % 512)) c in
       omega arith
 
-  low_count : places-in (bit n) (line_at i) ≡ places-in (bit (n % 512)) (line_at i)
+  low_count : places_in (bit n) (line_at i) ≡ places_in (bit (n % 512)) (line_at i)
   low_count = count_same (bit n) (bit (n % 512)) (λ k l. rw (← and_mask n 9) (sym (bit_masked 9 n k l))) (line_at i) (low i h)
 
-  count-found : (k : ℕ) → found (mask_at i) (bit_and n (mask_at i)) ≡ k → k ≡ places-in (bit n) (line_at i)
-  count-found k e = sym e ∙ ap (found (mask_at i)) low_mask ∙ small-found i (n % 512) h (mod-lt n (lit< tt)) ∙ sym low_count
+  count_found : (k : ℕ) → found (mask_at i) (bit_and n (mask_at i)) ≡ k → k ≡ places_in (bit n) (line_at i)
+  count_found k e = sym e ∙ ap (found (mask_at i)) low_mask ∙ small_found i (n % 512) h (mod-lt n (lit< tt)) ∙ sym low_count
 
-  none_found : eqb (bit_and n (mask_at i)) 0 ≡ eqb (places-in (bit n) (line_at i)) 0
+  none_found : eqb (bit_and n (mask_at i)) 0 ≡ eqb (places_in (bit n) (line_at i)) 0
   none_found =
-      ap (λ (p : ℕ). eqb p 0) low_mask ∙ small-none i (n % 512) h (mod-lt n (lit< tt)) ∙ ap (λ (p : ℕ). eqb p 0) (sym low_count)
+      ap (λ (p : ℕ). eqb p 0) low_mask ∙ small_none i (n % 512) h (mod-lt n (lit< tt)) ∙ ap (λ (p : ℕ). eqb p 0) (sym low_count)
 
   abbrev p : ℕ
   p = bit_and n (mask_at i)
 
   -- what the code's tests say of them
-  pub worth-none : (w : Weights) → p ≡ 0 → 0 ≡ worth w (places-in (bit n) (line_at i))
+  pub worth_none : (w : Weights) → p ≡ 0 → 0 ≡ worth w (places_in (bit n) (line_at i))
   unfolding found if◌then◌else◌
-  worth-none w e = ap (worth w) (count-found 0 (rw (eq-eqb p 0 e)))
+  worth_none w e = ap (worth w) (count_found 0 (rw (eq-eqb p 0 e)))
 
-  pub worth-one : (w : Weights) → (p ≡ 0 → ⊥) → bit_and p (p - 1) ≡ 0 → w.one ≡ worth w (places-in (bit n) (line_at i))
+  pub worth_one : (w : Weights) → (p ≡ 0 → ⊥) → bit_and p (p - 1) ≡ 0 → w.one ≡ worth w (places_in (bit n) (line_at i))
   unfolding found if◌then◌else◌
-  worth-one w q e = ap (worth w) (count-found 1 (rw (ne_eqb p 0 q, eq-eqb (bit_and p (p - 1)) 0 e)))
+  worth_one w q e = ap (worth w) (count_found 1 (rw (ne_eqb p 0 q, eq-eqb (bit_and p (p - 1)) 0 e)))
 
-  pub worth-all : (w : Weights) → (p ≡ 0 → ⊥) → (bit_and p (p - 1) ≡ 0 → ⊥) → p ≡ mask_at i →
-      0 ≡ worth w (places-in (bit n) (line_at i))
+  pub worth_all : (w : Weights) → (p ≡ 0 → ⊥) → (bit_and p (p - 1) ≡ 0 → ⊥) → p ≡ mask_at i →
+      0 ≡ worth w (places_in (bit n) (line_at i))
   unfolding found if◌then◌else◌
-  worth-all w q r e = ap (worth w) (count-found 3 (rw (ne_eqb p 0 q, ne_eqb (bit_and p (p - 1)) 0 r, eq-eqb p (mask_at i) e)))
+  worth_all w q r e = ap (worth w) (count_found 3 (rw (ne_eqb p 0 q, ne_eqb (bit_and p (p - 1)) 0 r, eq-eqb p (mask_at i) e)))
 
-  pub worth-two : (w : Weights) → (p ≡ 0 → ⊥) → (bit_and p (p - 1) ≡ 0 → ⊥) → (p ≡ mask_at i → ⊥) →
-      w.two ≡ worth w (places-in (bit n) (line_at i))
+  pub worth_two : (w : Weights) → (p ≡ 0 → ⊥) → (bit_and p (p - 1) ≡ 0 → ⊥) → (p ≡ mask_at i → ⊥) →
+      w.two ≡ worth w (places_in (bit n) (line_at i))
   unfolding found if◌then◌else◌
-  worth-two w q r e = ap (worth w) (count-found 2 (rw (ne_eqb p 0 q, ne_eqb (bit_and p (p - 1)) 0 r, ne_eqb p (mask_at i) e)))
+  worth_two w q r e = ap (worth w) (count_found 2 (rw (ne_eqb p 0 q, ne_eqb (bit_and p (p - 1)) 0 r, ne_eqb p (mask_at i) e)))
 
-  pub none-there : p ≡ 0 → places-in (bit n) (line_at i) ≡ 0
-  none-there e = eqb-true _ 0 (sym none_found ∙ eq-eqb p 0 e)
+  pub none_there : p ≡ 0 → places_in (bit n) (line_at i) ≡ 0
+  none_there e = eqb-true _ 0 (sym none_found ∙ eq-eqb p 0 e)
 
-  pub some-there : (p ≡ 0 → ⊥) → 0 < places-in (bit n) (line_at i)
-  some-there q = let r = eqb-false (places-in (bit n) (line_at i)) 0 (sym none_found ∙ ne_eqb p 0 q) in omega (arith, r)
+  pub some_there : (p ≡ 0 → ⊥) → 0 < places_in (bit n) (line_at i)
+  some_there q = let r = eqb-false (places_in (bit n) (line_at i)) 0 (sym none_found ∙ ne_eqb p 0 q) in omega (arith, r)
 
 -- ---- a line of a board
 module _ (w : Weights) (x o : ℕ) where
-  only_x : o ≡ 0 → pos (worth w x) ≡ unless-both x o (pos (worth w x) -ℤ pos (worth w o))
-  unfolding unless-both if◌then◌else◌
+  only_x : o ≡ 0 → pos (worth w x) ≡ unless_both x o (pos (worth w x) -ℤ pos (worth w o))
+  unfolding unless_both if◌then◌else◌
   only_x e = rw (e, and-false (ltb 0 x)) (sym (+ℤ_idr (pos (worth w x))))
 
-  only-o : x ≡ 0 → neg_ℤ (pos (worth w o)) ≡ unless-both x o (pos (worth w x) -ℤ pos (worth w o))
-  unfolding unless-both if◌then◌else◌
-  only-o e = rw e (sym (+ℤ_idl (neg_ℤ (pos (worth w o)))))
+  only_o : x ≡ 0 → neg_ℤ (pos (worth w o)) ≡ unless_both x o (pos (worth w x) -ℤ pos (worth w o))
+  unfolding unless_both if◌then◌else◌
+  only_o e = rw e (sym (+ℤ_idl (neg_ℤ (pos (worth w o)))))
 
 -- a line with both sides in it gives nothing
-pub both-sides : (x o : ℕ) (z : ℤ) → 0 < x → 0 < o → pos 0 ≡ unless-both x o z
-unfolding unless-both if◌then◌else◌
-both-sides x o z h k = rw (lt-ltb 0 x h, lt-ltb 0 o k)
+pub both_sides : (x o : ℕ) (z : ℤ) → 0 < x → 0 < o → pos 0 ≡ unless_both x o z
+unfolding unless_both if◌then◌else◌
+both_sides x o z h k = rw (lt-ltb 0 x h, lt-ltb 0 o k)
 
 -- one with at most one side in it gives what it has
-pub no-x : (x o : ℕ) (z : ℤ) → x ≡ 0 → z ≡ unless-both x o z
-unfolding unless-both if◌then◌else◌
-no-x x o z e = rw e
+pub no_x : (x o : ℕ) (z : ℤ) → x ≡ 0 → z ≡ unless_both x o z
+unfolding unless_both if◌then◌else◌
+no_x x o z e = rw e
 
-pub no-o : (x o : ℕ) (z : ℤ) → o ≡ 0 → z ≡ unless-both x o z
-unfolding unless-both if◌then◌else◌
-no-o x o z e = rw (e, and-false (ltb 0 x))
+pub no_o : (x o : ℕ) (z : ℤ) → o ≡ 0 → z ≡ unless_both x o z
+unfolding unless_both if◌then◌else◌
+no_o x o z e = rw (e, and-false (ltb 0 x))
 
 module _ (w : Weights) (i x o : ℕ) (h : i < 8) where
-  pub line_x : bit_and o (mask_at i) ≡ 0 → pos (worth w (places-in (bit x) (line_at i))) ≡ board-line w (bit x) (bit o) (line_at i)
-  unfolding board-line
-  line_x e = only_x w (places-in (bit x) (line_at i)) (places-in (bit o) (line_at i)) (none-there i o h e)
+  pub line_x : bit_and o (mask_at i) ≡ 0 → pos (worth w (places_in (bit x) (line_at i))) ≡ board_line w (bit x) (bit o) (line_at i)
+  unfolding board_line
+  line_x e = only_x w (places_in (bit x) (line_at i)) (places_in (bit o) (line_at i)) (none_there i o h e)
 
-  pub line-o : bit_and x (mask_at i) ≡ 0 → neg_ℤ (pos (worth w (places-in (bit o) (line_at i))))
-      ≡ board-line w (bit x) (bit o) (line_at i)
-  unfolding board-line
-  line-o e = only-o w (places-in (bit x) (line_at i)) (places-in (bit o) (line_at i)) (none-there i x h e)
+  pub line_o : bit_and x (mask_at i) ≡ 0 → neg_ℤ (pos (worth w (places_in (bit o) (line_at i))))
+      ≡ board_line w (bit x) (bit o) (line_at i)
+  unfolding board_line
+  line_o e = only_o w (places_in (bit x) (line_at i)) (places_in (bit o) (line_at i)) (none_there i x h e)
 
-  pub line-both : (bit_and x (mask_at i) ≡ 0 → ⊥) → (bit_and o (mask_at i) ≡ 0 → ⊥) →
-      pos 0 ≡ board-line w (bit x) (bit o) (line_at i)
-  unfolding board-line
-  line-both q r = both-sides (places-in (bit x) (line_at i)) (places-in (bit o) (line_at i)) _ (some-there i x h q) (some-there i o h r)
+  pub line_both : (bit_and x (mask_at i) ≡ 0 → ⊥) → (bit_and o (mask_at i) ≡ 0 → ⊥) →
+      pos 0 ≡ board_line w (bit x) (bit o) (line_at i)
+  unfolding board_line
+  line_both q r = both_sides (places_in (bit x) (line_at i)) (places_in (bit o) (line_at i)) _ (some_there i x h q) (some_there i o h r)

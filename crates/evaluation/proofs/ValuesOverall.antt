@@ -7,66 +7,66 @@ use lib.Dec.{T}
 use lib.IntN.{ℤ, pos, neg_ℤ, ◌+ℤ◌, ◌-ℤ◌, +ℤ_assoc}
 use Rattle.base.specs.Bits.{bit, digits}
 use Rattle.base.specs.Integers.{sum}
-use Rattle.base.proofs.Branch.{if-ind}
+use Rattle.base.proofs.Branch.{if_ind}
 use Rattle.base.proofs.Integers.{hi, lo, zarith, sm, ng}
 use Rattle.rules.specs.declared.Player.TheVariants.{X, O}
 use Rattle.rules.specs.declared.GameState.{GameState}
 use Rattle.rules.specs.declared.GameState.TheVariants.{InPlay, Drawn, Won}
 use Rattle.rules.specs.declared.Weights.{Weights}
-use Rattle.rules.specs.Board.{in-play, Line, lines}
-use Rattle.rules.specs.Position.{Position, unfinished, won-boards}
-use Rattle.rules.specs.Evaluation.{places-in, board-score, overall-line, score, seen_by, state-value, evaluate, Scoring}
+use Rattle.rules.specs.Board.{in_play, Line, lines}
+use Rattle.rules.specs.Position.{Position, unfinished, won_boards}
+use Rattle.rules.specs.Evaluation.{places_in, board_score, overall_line, score, seen_by, state_value, evaluate, Scoring}
 use Rattle.lines.specs.Masks.{line_at}
 use Rattle.lines.proofs.Masks.{mask_at, place_at, places, low}
-use Rattle.evaluation.specs.Values.{board-value, values_of, value-at, overall-value, score-by, evaluate-by}
-use Rattle.evaluation.proofs.ValuesLines.{count-digits, sum_same, none-there, some-there, both-sides, no-x, no-o}
-use Rattle.evaluation.proofs.ValuesBoards.{value-parts, nine-values}
+use Rattle.evaluation.specs.Values.{board_value, values_of, value_at, overall_value, score_by, evaluate_by}
+use Rattle.evaluation.proofs.ValuesLines.{count_digits, sum_same, none_there, some_there, both_sides, no_x, no_o}
+use Rattle.evaluation.proofs.ValuesBoards.{value_parts, nine_values}
 
 -- ---- as the code finds it
 module _ (i x o : ℕ) (values : List ℤ) (h : i < 8) where
-  pub overall-both : (bit_and x (mask_at i) ≡ 0 → ⊥) → (bit_and o (mask_at i) ≡ 0 → ⊥) →
-      pos 0 ≡ overall-value (bit x) (bit o) values (line_at i)
-  unfolding overall-value
-  overall-both q r = both-sides (places-in (bit x) (line_at i)) (places-in (bit o) (line_at i)) _ (some-there i x h q) (some-there i o h r)
+  pub overall_both : (bit_and x (mask_at i) ≡ 0 → ⊥) → (bit_and o (mask_at i) ≡ 0 → ⊥) →
+      pos 0 ≡ overall_value (bit x) (bit o) values (line_at i)
+  unfolding overall_value
+  overall_both q r = both_sides (places_in (bit x) (line_at i)) (places_in (bit o) (line_at i)) _ (some_there i x h q) (some_there i o h r)
 
   abbrev three : ℤ
-  three = value-at values (place_at i 0) +ℤ value-at values (place_at i 1) +ℤ value-at values (place_at i 2)
+  three = value_at values (place_at i 0) +ℤ value_at values (place_at i 1) +ℤ value_at values (place_at i 2)
 
-  three-is : three ≡ value-at values (line_at i).i +ℤ (value-at values (line_at i).j +ℤ value-at values (line_at i).k)
-  three-is =
+  three_is : three ≡ value_at values (line_at i).i +ℤ (value_at values (line_at i).j +ℤ value_at values (line_at i).k)
+  three_is =
       let e = places i h in
-      rw (e.0, e.1, e.2) (+ℤ_assoc (value-at values (line_at i).i) (value-at values (line_at i).j) (value-at values (line_at i).k))
+      rw (e.0, e.1, e.2) (+ℤ_assoc (value_at values (line_at i).i) (value_at values (line_at i).j) (value_at values (line_at i).k))
 
-  pub overall-x : bit_and o (mask_at i) ≡ 0 → three ≡ overall-value (bit x) (bit o) values (line_at i)
-  unfolding overall-value
-  overall-x e = three-is ∙ no-o (places-in (bit x) (line_at i)) (places-in (bit o) (line_at i)) _ (none-there i o h e)
+  pub overall_x : bit_and o (mask_at i) ≡ 0 → three ≡ overall_value (bit x) (bit o) values (line_at i)
+  unfolding overall_value
+  overall_x e = three_is ∙ no_o (places_in (bit x) (line_at i)) (places_in (bit o) (line_at i)) _ (none_there i o h e)
 
-  pub overall-o : bit_and x (mask_at i) ≡ 0 → three ≡ overall-value (bit x) (bit o) values (line_at i)
-  unfolding overall-value
-  overall-o e = three-is ∙ no-x (places-in (bit x) (line_at i)) (places-in (bit o) (line_at i)) _ (none-there i x h e)
+  pub overall_o : bit_and x (mask_at i) ≡ 0 → three ≡ overall_value (bit x) (bit o) values (line_at i)
+  unfolding overall_value
+  overall_o e = three_is ∙ no_x (places_in (bit x) (line_at i)) (places_in (bit o) (line_at i)) _ (none_there i x h e)
 
 -- ---- the definition
 module _ (w : Weights) (p : Position) where
   abbrev v : ℕ → ℤ
-  v = board-value w p
+  v = board_value w p
 
   abbrev s : ℕ → ℤ
-  s = board-score w p
+  s = board_score w p
 
   -- three boards: their values are their scores, and the weight for each that is won
-  three-boards : (l : Line) →
+  three_boards : (l : Line) →
       v l.i +ℤ (v l.j +ℤ v l.k)
-      ≡ (pos (places-in (won-boards p X) l * w.board) -ℤ pos (places-in (won-boards p O) l * w.board)) +ℤ
+      ≡ (pos (places_in (won_boards p X) l * w.board) -ℤ pos (places_in (won_boards p O) l * w.board)) +ℤ
       (s l.i +ℤ (s l.j +ℤ s l.k))
-  unfolding places-in hi lo
-  three-boards l =
-      let x = places-in (won-boards p X) l * w.board in
-      let o = places-in (won-boards p O) l * w.board in
+  unfolding places_in hi lo
+  three_boards l =
+      let x = places_in (won_boards p X) l * w.board in
+      let o = places_in (won_boards p O) l * w.board in
       omega (
         zarith,
-        value-parts w p l.i,
-        value-parts w p l.j,
-        value-parts w p l.k,
+        value_parts w p l.i,
+        value_parts w p l.j,
+        value_parts w p l.k,
         sm (v l.i) (v l.j +ℤ v l.k),
         sm (v l.j) (v l.k),
         sm (pos x -ℤ pos o) (s l.i +ℤ (s l.j +ℤ s l.k)),
@@ -76,39 +76,39 @@ module _ (w : Weights) (p : Position) where
         sm (s l.j) (s l.k),
       )
 
-  line-is : (i : ℕ) → i < 8 → overall-value (won-boards p X) (won-boards p O) (values_of w p) (line_at i)
-      ≡ overall-line w (won-boards p X) (won-boards p O) s (line_at i)
-  unfolding overall-value overall-line
-  line-is i h =
+  line_is : (i : ℕ) → i < 8 → overall_value (won_boards p X) (won_boards p O) (values_of w p) (line_at i)
+      ≡ overall_line w (won_boards p X) (won_boards p O) s (line_at i)
+  unfolding overall_value overall_line
+  line_is i h =
       let k = low i h in
       rw (
-        nine-values w p (line_at i).i k.0,
-        nine-values w p (line_at i).j k.1,
-        nine-values w p (line_at i).k k.2,
-        three-boards (line_at i),
+        nine_values w p (line_at i).i k.0,
+        nine_values w p (line_at i).j k.1,
+        nine_values w p (line_at i).k k.2,
+        three_boards (line_at i),
       )
 
-  score-is : score-by p (values_of w p) ≡ score w p
-  unfolding score-by score
-  score-is =
-      sum_same (overall-value (won-boards p X) (won-boards p O) (values_of w p)) (overall-line w (won-boards p X) (won-boards p O) s)
-      line-is
+  score_is : score_by p (values_of w p) ≡ score w p
+  unfolding score_by score
+  score_is =
+      sum_same (overall_value (won_boards p X) (won_boards p O) (values_of w p)) (overall_line w (won_boards p X) (won_boards p O) s)
+      line_is
 
 -- the lines, by the nine digits of each side's boards
-pub score-bits : (p : Position) (x o : ℕ) (values : List ℤ) → x ≡ digits (won-boards p X) 9 → o ≡ digits (won-boards p O) 9 →
-    sum (overall-value (bit x) (bit o) values) lines ≡ score-by p values
-unfolding score-by overall-value
-score-bits p x o values e d = sum_same (overall-value (bit x) (bit o) values) (overall-value (won-boards p X) (won-boards p O) values)
-    (λ i h. rw (count-digits (won-boards p X) x i e h, count-digits (won-boards p O) o i d h))
+pub score_bits : (p : Position) (x o : ℕ) (values : List ℤ) → x ≡ digits (won_boards p X) 9 → o ≡ digits (won_boards p O) 9 →
+    sum (overall_value (bit x) (bit o) values) lines ≡ score_by p values
+unfolding score_by overall_value
+score_bits p x o values e d = sum_same (overall_value (bit x) (bit o) values) (overall_value (won_boards p X) (won_boards p O) values)
+    (λ i h. rw (count_digits (won_boards p X) x i e h, count_digits (won_boards p O) o i d h))
 
 -- with its own values the evaluation is the definition's
-pub by_values : (sc : Scoring) (p : Position) → evaluate-by sc p (values_of sc.weights p) ≡ evaluate sc p
-unfolding evaluate-by evaluate
+pub by_values : (sc : Scoring) (p : Position) → evaluate_by sc p (values_of sc.weights p) ≡ evaluate sc p
+unfolding evaluate_by evaluate
 by_values sc p =
-    if-ind (λ (z : ℤ). z ≡ evaluate sc p) (unfinished p) _ _
-    (λ t. ap (seen_by p.turn) (score-is sc.weights p) ∙ in-play-score p.state t) (λ _. refl)
+    if_ind (λ (z : ℤ). z ≡ evaluate sc p) (unfinished p) _ _
+    (λ t. ap (seen_by p.turn) (score_is sc.weights p) ∙ in_play_score p.state t) (λ _. refl)
   where
-    in-play-score : (s : GameState) → T (in-play s) → seen_by p.turn (score sc.weights p) ≡ seen_by p.turn (state-value sc p s)
-    in-play-score InPlay t = refl
-    in-play-score Drawn t = absurd t
-    in-play-score (Won w) t = absurd t
+    in_play_score : (s : GameState) → T (in_play s) → seen_by p.turn (score sc.weights p) ≡ seen_by p.turn (state_value sc p s)
+    in_play_score InPlay t = refl
+    in_play_score Drawn t = absurd t
+    in_play_score (Won w) t = absurd t

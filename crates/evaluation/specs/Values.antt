@@ -7,10 +7,10 @@ use Rattle.rules.specs.declared.Weights.{Weights}
 use Rattle.base.specs.Branch.{if◌then◌else◌}
 use Rattle.base.specs.Integers.{sum}
 use Rattle.rules.specs.Board.{nine, Line, lines}
-use Rattle.rules.specs.Position.{Position, unfinished, won-boards}
-use Rattle.rules.specs.Evaluation.{Scoring, places-in, unless-both, board-score, seen_by, evaluate, evaluated}
+use Rattle.rules.specs.Position.{Position, unfinished, won_boards}
+use Rattle.rules.specs.Evaluation.{Scoring, places_in, unless_both, board_score, seen_by, evaluate, evaluated}
 use Rattle.game.specs.declared.Game.{Game}
-use Rattle.game.specs.Meaning.{position-of}
+use Rattle.game.specs.Meaning.{position_of}
 use Rattle.evaluation.specs.declared.EvaluationAnswer.{EvaluationAnswer}
 use Rattle.evaluation.specs.declared.EvaluationAnswer.TheVariants.{Accepted, BadWeight}
 use Rattle.evaluation.specs.declared.Evaluation.{Evaluation}
@@ -18,40 +18,40 @@ use Rattle.evaluation.specs.declared.Evaluation.{Evaluation}
 -- ---- the values
 -- the weight of a board that a side has won, and the score of one in play
 abbrev pub value_in : Weights → Position → ℕ → GameState → ℤ
-value_in w p b InPlay = board-score w p b
+value_in w p b InPlay = board_score w p b
 value_in w p b Drawn = pos 0
 value_in w p b (Won X) = pos w.board
 value_in w p b (Won O) = neg_ℤ (pos w.board)
 
-unfoldable pub board-value : Weights → Position → ℕ → ℤ
-board-value w p b = value_in w p b (p.states b)
+unfoldable pub board_value : Weights → Position → ℕ → ℤ
+board_value w p b = value_in w p b (p.states b)
 
 unfoldable pub values_of : Weights → Position → List ℤ
-values_of w p = map (board-value w p) nine
+values_of w p = map (board_value w p) nine
 
 -- the value of board i
-abbrev pub value-at : List ℤ → ℕ → ℤ
-value-at values i = get_or values i (pos 0)
+abbrev pub value_at : List ℤ → ℕ → ℤ
+value_at values i = get_or values i (pos 0)
 
 -- an overall line by the values of its three boards
-unfoldable pub overall-value : (ℕ → Bool) → (ℕ → Bool) → List ℤ → Line → ℤ
-overall-value xs os values l =
-    unless-both (places-in xs l) (places-in os l) (value-at values l.i +ℤ (value-at values l.j +ℤ value-at values l.k))
+unfoldable pub overall_value : (ℕ → Bool) → (ℕ → Bool) → List ℤ → Line → ℤ
+overall_value xs os values l =
+    unless_both (places_in xs l) (places_in os l) (value_at values l.i +ℤ (value_at values l.j +ℤ value_at values l.k))
 
 -- as X sees it
-unfoldable pub score-by : Position → List ℤ → ℤ
-score-by p values = sum (overall-value (won-boards p X) (won-boards p O) values) lines
+unfoldable pub score_by : Position → List ℤ → ℤ
+score_by p values = sum (overall_value (won_boards p X) (won_boards p O) values) lines
 
 -- the evaluation, with boards that are said to have these values, which count in play alone
-unfoldable pub evaluate-by : Scoring → Position → List ℤ → ℤ
-evaluate-by sc p values = if unfinished p then (λ _. seen_by p.turn (score-by p values)) else λ _. evaluate sc p
+unfoldable pub evaluate_by : Scoring → Position → List ℤ → ℤ
+evaluate_by sc p values = if unfinished p then (λ _. seen_by p.turn (score_by p values)) else λ _. evaluate sc p
 
 -- ---- the evaluation alone
-abbrev pub evaluation-number : EvaluationAnswer → ℕ
-evaluation-number Accepted = 0
-evaluation-number BadWeight = 20
+abbrev pub evaluation_number : EvaluationAnswer → ℕ
+evaluation_number Accepted = 0
+evaluation_number BadWeight = 20
 
 -- what `evaluate` gives
 pub record Evaluates (sc : Scoring) (g : Game) (r : Evaluation) : Type 0 where
-  pub refusal : evaluation-number r.answer ≡ (evaluated sc (position-of g)).refusal
-  pub value : r.value ≡ (evaluated sc (position-of g)).value
+  pub refusal : evaluation_number r.answer ≡ (evaluated sc (position_of g)).refusal
+  pub value : r.value ≡ (evaluated sc (position_of g)).value

@@ -2,16 +2,18 @@
 // Ported from src/lib/minimax.rs of nelhage/ultimattt at commit 87ef0d9c7c (Apache-2.0, see NOTICE), changed: draw winner and weights
 // are arguments, a board's own score and what it is won for are one value, and the nine boards' values can be carried from a position to
 // the next.
+#![tactic(auto)]
+
 ghost use Rattle.std.specs.Prelude.{◌≡◌, ◌≤◌, ◌<◌, pos, nat_abs, set};
 ghost use Rattle.base.specs.Bits.{bit};
 ghost use Rattle.base.specs.Integers.{sum};
 ghost use Rattle.rules.specs.Board.{lines, mine};
-ghost use Rattle.rules.specs.Evaluation.{won, scoring-with, places-in, worth, board-line, seen_by, draw-value};
+ghost use Rattle.rules.specs.Evaluation.{won, scoring_with, places_in, worth, board_line, seen_by, draw_value};
 ghost use Rattle.boards.specs.Packed.{cell_at};
-ghost use Rattle.game.specs.Meaning.{position-of};
+ghost use Rattle.game.specs.Meaning.{position_of};
 ghost use Rattle.lines.specs.Masks.{line_at};
-ghost use Rattle.evaluation.specs.Values.{board-value, values_of, overall-value, score-by, evaluate-by};
-ghost use Rattle.evaluation.specs.Values.{evaluation-number, Evaluates};
+ghost use Rattle.evaluation.specs.Values.{board_value, values_of, overall_value, score_by, evaluate_by};
+ghost use Rattle.evaluation.specs.Values.{evaluation_number, Evaluates};
 
 use boards::LocalBoards;
 use game::Game;
@@ -34,7 +36,7 @@ fn won_by(who: Player, turn: Player) -> i64
 }
 
 fn drawn(draw_winner: DrawWinner, turn: Player) -> i64
-    ensures { result ≡ seen_by turn (draw-value draw_winner) }
+    ensures { result ≡ seen_by turn (draw_value draw_winner) }
 {
     match draw_winner {
         DrawWinner::Nobody => 0,
@@ -52,7 +54,7 @@ fn weight(w: u16) -> i32
 // What a side's places in line i give, if the other side has none there: nothing for three.
 fn potential(bits: u32, i: usize, weights: Weights) -> i32
     requires { i < 8 }
-    ensures { (result ≡ pos (worth weights (places-in (bit bits) (line_at i)))) × (nat_abs result ≤ 65535) }
+    ensures { (result ≡ pos (worth weights (places_in (bit bits) (line_at i)))) × (nat_abs result ≤ 65535) }
 {
     let mask = WIN_MASKS[i];
     let places = bits & mask;
@@ -71,7 +73,7 @@ fn potential(bits: u32, i: usize, weights: Weights) -> i32
 // A line with both sides in it gives nothing.
 fn score_line(i: usize, xbits: u32, obits: u32, weights: Weights) -> i32
     requires { i < 8 }
-    ensures { (result ≡ board-line weights (bit xbits) (bit obits) (line_at i)) × (nat_abs result ≤ 65535) }
+    ensures { (result ≡ board_line weights (bit xbits) (bit obits) (line_at i)) × (nat_abs result ≤ 65535) }
 {
     let mask = WIN_MASKS[i];
     if obits & mask == 0 {
@@ -85,7 +87,7 @@ fn score_line(i: usize, xbits: u32, obits: u32, weights: Weights) -> i32
 
 // The score of a board in play.
 fn score_board(boards: LocalBoards, board: usize, weights: Weights) -> i32
-    ensures { result ≡ sum (board-line weights (λ c. mine Player.X (cell_at boards board c))
+    ensures { result ≡ sum (board_line weights (λ c. mine Player.X (cell_at boards board c))
         (λ c. mine Player.O (cell_at boards board c))) lines }
 {
     let x = boards.xbits(board);
@@ -102,7 +104,7 @@ fn score_board(boards: LocalBoards, board: usize, weights: Weights) -> i32
 
 // What a board gives in each overall line that counts: its own score while in play, and what it is won for.
 fn value_of(g: Game, board: usize, weights: Weights) -> i32
-    ensures { result ≡ board-value weights (position-of g) board }
+    ensures { result ≡ board_value weights (position_of g) board }
 {
     let states = g.global_states;
     let boards = g.local_boards;
@@ -127,7 +129,7 @@ fn wide(v: i32) -> i64
 // An overall line with both sides in it gives nothing.
 fn score_overall(i: usize, x: u32, o: u32, values: [i32; 9]) -> i64
     requires { i < 8 }
-    ensures { (result ≡ overall-value (bit x) (bit o) values (line_at i)) × (nat_abs result ≤ 6442450944) }
+    ensures { (result ≡ overall_value (bit x) (bit o) values (line_at i)) × (nat_abs result ≤ 6442450944) }
 {
     let mask = WIN_MASKS[i];
     let places = WIN_PATTERNS[i];
@@ -143,13 +145,13 @@ fn score_overall(i: usize, x: u32, o: u32, values: [i32; 9]) -> i64
 }
 
 // The values of the nine boards, and the weights by which they are worked out.
-#[derive(Drop)]
+#[derive(Clone, Copy)]
 pub struct Values {
     pub boards: [i32; 9],
     pub weights: Weights,
 }
 
-#[derive(Drop)]
+#[derive(Clone, Copy)]
 pub enum EvaluationAnswer {
     Accepted,
     BadWeight,
@@ -157,7 +159,7 @@ pub enum EvaluationAnswer {
 
 impl EvaluationAnswer {
     pub fn number(self) -> u64
-        ensures { result ≡ evaluation-number self }
+        ensures { result ≡ evaluation_number self }
     {
         match self {
             EvaluationAnswer::Accepted => 0,
@@ -167,7 +169,7 @@ impl EvaluationAnswer {
 }
 
 // What the evaluation alone gives: refused, the value is 0.
-#[derive(Drop)]
+#[derive(Clone, Copy)]
 pub struct Evaluation {
     pub answer: EvaluationAnswer,
     pub value: i64,
@@ -175,7 +177,7 @@ pub struct Evaluation {
 
 impl Values {
     pub fn new(g: Game, weights: Weights) -> Values
-        ensures { result ≡ record { boards = values_of weights (position-of g); weights = weights } }
+        ensures { result ≡ record { boards = values_of weights (position_of g); weights = weights } }
     {
         Values {
             boards: [
@@ -196,7 +198,7 @@ impl Values {
     // The values after a move in a board: that board's anew.
     pub fn after(self, g: Game, board: usize) -> Values
         ensures { result ≡ record {
-          boards = set self.boards board (board-value self.weights (position-of g) board);
+          boards = set self.boards board (board_value self.weights (position_of g) board);
           weights = self.weights;
         } }
     {
@@ -210,7 +212,7 @@ impl Values {
 
     // The evaluation of an unfinished position for X.
     fn score(self, g: Game) -> i64
-        ensures { (result ≡ score-by (position-of g) self.boards) × (nat_abs result ≤ 51539607552) }
+        ensures { (result ≡ score_by (position_of g) self.boards) × (nat_abs result ≤ 51539607552) }
     {
         let states = g.global_states;
         let x = states.xbits();
@@ -228,7 +230,7 @@ impl Values {
 
     // The evaluation of a position whose boards are said to have these values.
     pub fn evaluate(self, g: Game, draw_winner: DrawWinner) -> i64
-        ensures { result ≡ evaluate-by (scoring-with draw_winner self.weights) (position-of g) self.boards }
+        ensures { result ≡ evaluate_by (scoring_with draw_winner self.weights) (position_of g) self.boards }
     {
         let turn = g.next_player;
         let state = g.game_state;
@@ -248,7 +250,7 @@ impl Values {
 
 // Refusal 20.
 pub fn evaluate(g: Game, draw_winner: DrawWinner, weights: Weights) -> Evaluation
-    ensures { Evaluates (scoring-with draw_winner weights) g result }
+    ensures { Evaluates (scoring_with draw_winner weights) g result }
 {
     let value = Values::new(g, weights).evaluate(g, draw_winner);
     if weights.are_accepted() {

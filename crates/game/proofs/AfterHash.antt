@@ -10,59 +10,59 @@ use Rattle.rules.specs.declared.Player.{Player}
 use Rattle.rules.specs.declared.GameState.{GameState}
 use Rattle.rules.specs.declared.NextBoard.{NextBoard}
 use Rattle.rules.specs.declared.NextBoard.TheVariants.{Any, Only}
-use Rattle.rules.specs.Play.{board-of, cell-of, accepts}
-use Rattle.rules.specs.Hash.{cell-key, next-board-key, player-key, xors, cells-hash, board-hash, hash, hash-after, with-turn, zobrist}
-use Rattle.rules.specs.Keys.{next-board-keys}
-use Rattle.rules.proofs.Hash.{hash-kept-is-fresh}
+use Rattle.rules.specs.Play.{board_of, cell_of, accepts}
+use Rattle.rules.specs.Hash.{cell_key, next_board_key, player_key, xors, cells_hash, board_hash, hash, hash_after, with_turn, zobrist}
+use Rattle.rules.specs.Keys.{next_board_keys}
+use Rattle.rules.proofs.Hash.{hash_kept_is_fresh}
 use Rattle.rules.proofs.Play.{accepts→}
 use Rattle.boards.specs.declared.local.LocalBoards.{LocalBoards}
 use Rattle.boards.specs.declared.states.GlobalStates.{GlobalStates}
 use Rattle.game.specs.declared.Game.{Game}
-use Rattle.game.specs.Meaning.{position-of}
-use Rattle.game.specs.After.{after-move, game-after}
-use Rattle.game.specs.Built.{new-game, packed, recalculated}
-use Rattle.game.proofs.Meaning.{after-move-means, game-accepted, game-refused, new-game-means}
+use Rattle.game.specs.Meaning.{position_of}
+use Rattle.game.specs.After.{after_move, game_after}
+use Rattle.game.specs.Built.{new_game, packed, recalculated}
+use Rattle.game.proofs.Meaning.{after_move_means, game_accepted, game_refused, new_game_means}
 
-module _ (n : NextBoard) (w : Player) (k : ℕ) (e : k ≡ player-key w) where
-  pub turn-any : n ≡ Any → k ≡ bit_xor (next-board-key n) (player-key w)
-  unfolding next-board-key
-  turn-any f = rw f (e ∙ sym (xor_zero_l (player-key w)))
+module _ (n : NextBoard) (w : Player) (k : ℕ) (e : k ≡ player_key w) where
+  pub turn_any : n ≡ Any → k ≡ bit_xor (next_board_key n) (player_key w)
+  unfolding next_board_key
+  turn_any f = rw f (e ∙ sym (xor_zero_l (player_key w)))
 
-  pub turn-only : (b j : ℕ) → n ≡ Only b → j ≡ get_or next-board-keys b 0 →
-      bit_xor j k ≡ bit_xor (next-board-key n) (player-key w)
-  unfolding next-board-key
-  turn-only b j f d = rw f (ap₂ bit_xor d e)
+  pub turn_only : (b j : ℕ) → n ≡ Only b → j ≡ get_or next_board_keys b 0 →
+      bit_xor j k ≡ bit_xor (next_board_key n) (player_key w)
+  unfolding next_board_key
+  turn_only b j f d = rw f (ap₂ bit_xor d e)
 
 -- ---- the hash that a game has is the one worked out afresh from its position
 abbrev pub Fresh : Game → Type 0
-Fresh g = g.hash ≡ hash (position-of g)
+Fresh g = g.hash ≡ hash (position_of g)
 
 -- play keeps it so
-pub game-after-hash : (g : Game) (m : ℕ) → length g.local_boards.rows ≡ 3 → Fresh g → Fresh (game-after g m)
-unfolding after-move
-game-after-hash g m n e = elim (is (accepts (position-of g) m)) [
-  | inl t ↦ (let p = position-of g in let b = board-of m in let c = cell-of m in let l = accepts→ p m t in
-      ap (λ (h : Game). h.hash) (game-accepted g m t)
-      ∙ ap (hash-after p b c) e
-      ∙ sym (hash-kept-is-fresh p b c l)
-      ∙ ap hash (sym (ap position-of (game-accepted g m t) ∙ after-move-means g b c n l.board l.cell l.opened l.empty)))
-  | inr t ↦ subst Fresh (sym (game-refused g m t)) e
+pub game_after_hash : (g : Game) (m : ℕ) → length g.local_boards.rows ≡ 3 → Fresh g → Fresh (game_after g m)
+unfolding after_move
+game_after_hash g m n e = elim (is (accepts (position_of g) m)) [
+  | inl t ↦ (let p = position_of g in let b = board_of m in let c = cell_of m in let l = accepts→ p m t in
+      ap (λ (h : Game). h.hash) (game_accepted g m t)
+      ∙ ap (hash_after p b c) e
+      ∙ sym (hash_kept_is_fresh p b c l)
+      ∙ ap hash (sym (ap position_of (game_accepted g m t) ∙ after_move_means g b c n l.board l.cell l.opened l.empty)))
+  | inr t ↦ subst Fresh (sym (game_refused g m t)) e
 ]
 
-pub new-game-hash : Fresh new-game
-unfolding hash xors board-hash cells-hash cell-key if◌then◌else◌
-new-game-hash = sym (ap hash new-game-means)
+pub new_game_hash : Fresh new_game
+unfolding hash xors board_hash cells_hash cell_key if◌then◌else◌
+new_game_hash = sym (ap hash new_game_means)
 
-pub packed-hash : (w : Player) (n : NextBoard) (l : LocalBoards) (s : GlobalStates) (t : GameState) → Fresh (packed w n l s t)
+pub packed_hash : (w : Player) (n : NextBoard) (l : LocalBoards) (s : GlobalStates) (t : GameState) → Fresh (packed w n l s t)
 unfolding packed hash
-packed-hash w n l s t = refl
+packed_hash w n l s t = refl
 
 -- the game's state is no part of it
-pub recalculated-hash : (g : Game) → Fresh g → Fresh (recalculated g)
+pub recalculated_hash : (g : Game) → Fresh g → Fresh (recalculated g)
 unfolding recalculated hash
-recalculated-hash g e = e
+recalculated_hash g e = e
 
 -- with next board and side to move it is Zobrist's hash of the rules
-pub zobrist-fresh : (g : Game) → Fresh g → with-turn (position-of g) g.hash ≡ zobrist (position-of g)
+pub zobrist_fresh : (g : Game) → Fresh g → with_turn (position_of g) g.hash ≡ zobrist (position_of g)
 unfolding zobrist
-zobrist-fresh g e = ap (with-turn (position-of g)) e
+zobrist_fresh g e = ap (with_turn (position_of g)) e

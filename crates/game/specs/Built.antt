@@ -6,34 +6,34 @@ use Rattle.rules.specs.declared.GameState.{GameState}
 use Rattle.rules.specs.declared.GameState.TheVariants.{InPlay}
 use Rattle.rules.specs.declared.NextBoard.{NextBoard}
 use Rattle.rules.specs.declared.NextBoard.TheVariants.{Any}
-use Rattle.rules.specs.Board.{other, result, in-play, won-by}
+use Rattle.rules.specs.Board.{other, result_of, in_play, won_by}
 use Rattle.rules.specs.Hash.{hash}
 use Rattle.boards.specs.declared.local.LocalBoards.{LocalBoards}
 use Rattle.boards.specs.declared.states.GlobalStates.{GlobalStates}
-use Rattle.boards.specs.Packed.{no_row, state-at}
+use Rattle.boards.specs.Packed.{no_row, state_at}
 use Rattle.game.specs.declared.Game.{Game}
-use Rattle.game.specs.Meaning.{position-of}
+use Rattle.game.specs.Meaning.{position_of}
 
-abbrev pub no-boards : LocalBoards
-no-boards = record { rows = replicate 3 no_row }
+abbrev pub no_boards : LocalBoards
+no_boards = record { rows = replicate 3 no_row }
 
-abbrev pub no-states : GlobalStates
-no-states = record { x = 0; o = 0 }
+abbrev pub no_states : GlobalStates
+no_states = record { x = 0; o = 0 }
 
 -- `Game::new`: X to move, free choice, hash 0
-abbrev pub new-game : Game
-new-game =
+abbrev pub new_game : Game
+new_game =
     record {
       next_player = X;
       next_board = Any;
-      local_boards = no-boards;
-      global_states = no-states;
+      local_boards = no_boards;
+      global_states = no_states;
       game_state = InPlay;
       hash = 0;
     }
 
-abbrev pub with-hash : Game → ℕ → Game
-with-hash g h =
+abbrev pub with_hash : Game → ℕ → Game
+with_hash g h =
     record {
       next_player = g.next_player;
       next_board = g.next_board;
@@ -50,7 +50,7 @@ parts w n l s g =
 
 -- with its hash worked out
 unfoldable pub packed : Player → NextBoard → LocalBoards → GlobalStates → GameState → Game
-packed w n l s g = with-hash (parts w n l s g) (hash (position-of (parts w n l s g)))
+packed w n l s g = with_hash (parts w n l s g) (hash (position_of (parts w n l s g)))
 
 -- the game's state as the side not to move has left it
 unfoldable pub recalculated : Game → Game
@@ -62,6 +62,6 @@ recalculated g =
       next_board = g.next_board;
       local_boards = g.local_boards;
       global_states = g.global_states;
-      game_state = result v (λ b. won-by v (state-at s b)) (λ b. in-play (state-at s b));
+      game_state = result_of v (λ b. won_by v (state_at s b)) (λ b. in_play (state_at s b));
       hash = g.hash;
     }

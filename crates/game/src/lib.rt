@@ -1,25 +1,27 @@
 // The rules of Ultimate Tic Tac Toe on packed boards: play, the list of moves and the hash.
 // Ported from src/lib/game.rs of nelhage/ultimattt at commit 87ef0d9c7c (Apache-2.0, see NOTICE), changed: games go in and come back by
 // value, refusals are numbered, a finished game lists no moves, and every value of the structs means a position.
+#![tactic(auto)]
+
 ghost use Rattle.std.specs.Prelude.{◌≡◌, not, ◌&&◌, ◌<◌, T, length};
 ghost use Rattle.base.specs.Bits.{digits};
-ghost use Rattle.rules.specs.Board.{same-state};
-ghost use Rattle.rules.specs.Position.{unfinished, open-board, free-cell};
+ghost use Rattle.rules.specs.Board.{same_state};
+ghost use Rattle.rules.specs.Position.{unfinished, open_board, free_cell};
 ghost use Rattle.rules.specs.Play.{may, play};
 ghost use Rattle.rules.specs.Moves.{moves};
-ghost use Rattle.rules.specs.Compare.{bound-depth, open-boards, equivalent};
-ghost use Rattle.rules.specs.Hash.{with-turn};
-ghost use Rattle.boards.specs.Answers.{answer-number};
-ghost use Rattle.boards.specs.Cursor.{cursor-over};
-ghost use Rattle.game.specs.Meaning.{position-of};
-ghost use Rattle.game.specs.After.{after-move, games-after, refusal, Plays};
-ghost use Rattle.game.specs.Built.{new-game, packed, recalculated};
-ghost use Rattle.game.specs.Look.{Looks-cell, Looks-state};
+ghost use Rattle.rules.specs.Compare.{bound_depth, open_boards, equivalent};
+ghost use Rattle.rules.specs.Hash.{with_turn};
+ghost use Rattle.boards.specs.Answers.{answer_number};
+ghost use Rattle.boards.specs.Cursor.{cursor_over};
+ghost use Rattle.game.specs.Meaning.{position_of};
+ghost use Rattle.game.specs.After.{after_move, games_after, refusal, Plays};
+ghost use Rattle.game.specs.Built.{new_game, packed, recalculated};
+ghost use Rattle.game.specs.Look.{LooksCell, LooksState};
 
 use boards::{Answer, GlobalStates, LocalBoards, Move, MoveError, MoveIterator};
 use rules::{CellState, GameState, NextBoard, Player};
 
-#[derive(Drop)]
+#[derive(Clone, Copy)]
 pub struct Game {
     pub next_player: Player,
     pub next_board: NextBoard,
@@ -30,21 +32,21 @@ pub struct Game {
 }
 
 // What playing a move gives: refused, the game is the old one.
-#[derive(Drop)]
+#[derive(Clone, Copy)]
 pub struct MoveResult {
     pub game: Game,
     pub answer: Answer,
 }
 
 // What looking at a cell gives: refused, an empty cell.
-#[derive(Drop)]
+#[derive(Clone, Copy)]
 pub struct CellAnswer {
     pub answer: Answer,
     pub cell: CellState,
 }
 
 // What looking at a board gives: refused, an open board.
-#[derive(Drop)]
+#[derive(Clone, Copy)]
 pub struct StateAnswer {
     pub answer: Answer,
     pub state: GameState,
@@ -52,7 +54,7 @@ pub struct StateAnswer {
 
 // Whether two states are the same.
 fn same_state(a: GameState, b: GameState) -> bool
-    ensures { result ≡ same-state a b }
+    ensures { result ≡ same_state a b }
 {
     match a {
         GameState::InPlay => match b {
@@ -85,7 +87,7 @@ impl Game {
     };
 
     pub fn new() -> Game
-        ensures { result ≡ new-game }
+        ensures { result ≡ new_game }
     {
         Game::NEW
     }
@@ -116,7 +118,7 @@ impl Game {
 
     // What a move is answered, in the order of refusals 9 to 13.
     fn check_move(self, m: Move) -> Answer
-        ensures { answer-number result ≡ refusal (play (position-of self) m.bits) }
+        ensures { answer_number result ≡ refusal (play (position_of self) m.bits) }
     {
         let global = m.global();
         let local = m.local();
@@ -170,7 +172,7 @@ impl Game {
 
     // The game after a list of moves, tried one after the other.
     pub fn play_all(self, moves: &[u8]) -> Game
-        ensures { result ≡ games-after self moves.now }
+        ensures { result ≡ games_after self moves.now }
     {
         let mut game = self;
         for i in 0..moves.len() {
@@ -182,9 +184,9 @@ impl Game {
 
     // The game after a move that is accepted.
     fn play(self, global: usize, local: usize) -> Game
-        requires { (global < 9) × (local < 9) × T (open-board (position-of self) global) ×
-            T (free-cell (position-of self) global local) }
-        ensures { result ≡ after-move self global local }
+        requires { (global < 9) × (local < 9) × T (open_board (position_of self) global) ×
+            T (free_cell (position_of self) global local) }
+        ensures { result ≡ after_move self global local }
     {
         let who = self.next_player;
         let boards = self.local_boards;
@@ -233,8 +235,8 @@ impl Game {
 
     // The boards in which a move may be played: none of a finished game.
     fn playable(self) -> u32
-        ensures { result ≡ digits (λ b. unfinished (position-of self) &&
-            (open-board (position-of self) b && may (position-of self).next-board b)) 9 }
+        ensures { result ≡ digits (λ b. unfinished (position_of self) &&
+            (open_board (position_of self) b && may (position_of self).next_board b)) 9 }
     {
         if self.game_over() {
             return 0;
@@ -256,7 +258,7 @@ impl Game {
 
     // The cursor over the moves that play accepts, boards rising, cells rising.
     pub fn all_moves(self) -> MoveIterator
-        ensures { result ≡ cursor-over (moves (position-of self)) }
+        ensures { result ≡ cursor_over (moves (position_of self)) }
     {
         let boards = self.local_boards;
         boards.free_in(self.playable())
@@ -264,7 +266,7 @@ impl Game {
 
     // How many moves play accepts.
     pub fn legal_moves(self) -> usize
-        ensures { result ≡ length (moves (position-of self)) }
+        ensures { result ≡ length (moves (position_of self)) }
     {
         self.all_moves().count()
     }
@@ -276,7 +278,7 @@ impl Game {
     }
 
     pub fn game_over(self) -> bool
-        ensures { result ≡ not (unfinished (position-of self)) }
+        ensures { result ≡ not (unfinished (position_of self)) }
     {
         let state = self.game_state;
         state.terminal()
@@ -295,7 +297,7 @@ impl Game {
     }
 
     pub fn at(self, board: usize, cell: usize) -> CellAnswer
-        ensures { Looks-cell (position-of self) board cell result }
+        ensures { LooksCell (position_of self) board cell result }
     {
         if board > 8 {
             return CellAnswer {
@@ -317,7 +319,7 @@ impl Game {
     }
 
     pub fn board_state(self, board: usize) -> StateAnswer
-        ensures { Looks-state (position-of self) board result }
+        ensures { LooksState (position_of self) board result }
     {
         if board > 8 {
             return StateAnswer {
@@ -333,7 +335,7 @@ impl Game {
     }
 
     pub fn zobrist(self) -> u64
-        ensures { result ≡ with-turn (position-of self) self.hash }
+        ensures { result ≡ with_turn (position_of self) self.hash }
     {
         let who = self.next_player;
         let next = self.next_board;
@@ -346,7 +348,7 @@ impl Game {
 
     // The empty cells in open boards.
     pub fn bound_depth(self) -> usize
-        ensures { result ≡ bound-depth (position-of self) }
+        ensures { result ≡ bound_depth (position_of self) }
     {
         let states = self.global_states;
         let boards = self.local_boards;
@@ -354,7 +356,7 @@ impl Game {
     }
 
     pub fn open_boards(self) -> u8
-        ensures { result ≡ open-boards (position-of self) }
+        ensures { result ≡ open_boards (position_of self) }
     {
         let states = self.global_states;
         u32::count_ones(states.openbits()) as u8
@@ -362,7 +364,7 @@ impl Game {
 
     // As the Rust has it: the states of the two games' boards are not compared.
     pub fn equivalent(self, rhs: Game) -> bool
-        ensures { result ≡ equivalent (position-of self) (position-of rhs) }
+        ensures { result ≡ equivalent (position_of self) (position_of rhs) }
     {
         let who = self.next_player;
         let by = rhs.next_player;

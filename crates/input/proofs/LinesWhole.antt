@@ -8,92 +8,92 @@ use lib.ListN.{length, set, take, length-append, length-set}
 use lib.Seq.{take-suc-set, append_snoc}
 use borrow.Author.Tests.{lt-ltb, le-leb, lt-leb, ne_eqb}
 use Rattle.base.specs.Branch.{if◌then◌else◌}
-use Rattle.base.specs.LineFeed.{line-feed, UpToFeed, up-to-feed}
-use Rattle.base.proofs.LineFeed.{feed-append, feed-found}
+use Rattle.base.specs.LineFeed.{line_feed, UpToFeed, up_to_feed}
+use Rattle.base.proofs.LineFeed.{feed_append, feed_found}
 use Rattle.input.specs.declared.InputLine.{InputLine}
-use Rattle.input.specs.Lines.{longest, new_line, count-on, one-longer, complete-line, KeptLine, kept-with, line_taken}
-use Rattle.input.proofs.Lines.{all-counted}
+use Rattle.input.specs.Lines.{longest, new_line, count_on, one_longer, complete_line, KeptLine, kept_with, line_taken}
+use Rattle.input.proofs.Lines.{all_counted}
 
 -- no byte of a list is a line feed
 abbrev pub Unbroken : List ℕ → Type 0
 Unbroken [] = Unit {0}
-Unbroken (b ∷ bs) = (b ≡ line-feed → ⊥) × Unbroken bs
+Unbroken (b ∷ bs) = (b ≡ line_feed → ⊥) × Unbroken bs
 
 -- ---- counting
-pub count-on-is : (n : ℕ) → n < longest → count-on n ≡ suc n
-unfolding count-on if◌then◌else◌
-count-on-is n h = rw (lt-ltb n longest h) (omega arith)
+pub count_on_is : (n : ℕ) → n < longest → count_on n ≡ suc n
+unfolding count_on if◌then◌else◌
+count_on_is n h = rw (lt-ltb n longest h) (omega arith)
 
-pub count-on-stops : count-on longest ≡ longest
-unfolding count-on if◌then◌else◌
-count-on-stops = refl
+pub count_on_stops : count_on longest ≡ longest
+unfolding count_on if◌then◌else◌
+count_on_stops = refl
 
 -- ---- bytes without a line feed
 goes_on : (l : InputLine) (kept bs : List ℕ) → Unbroken bs →
     ((line_taken l kept bs).found ≡ false) × ((line_taken l kept bs).left ≡ []) ×
     (length (line_taken l kept bs).line.kept ≡ length kept)
-unfolding up-to-feed if◌then◌else◌
+unfolding up_to_feed if◌then◌else◌
 goes_on l kept [] u = (refl, refl, refl)
 goes_on l kept (b ∷ bs) u =
-    let h = goes_on (one-longer l) (set kept l.length b) bs u.1 in
-    rw (ne_eqb b line-feed u.0) (h.0, h.1, h.2 ∙ length-set kept l.length b)
+    let h = goes_on (one_longer l) (set kept l.length b) bs u.1 in
+    rw (ne_eqb b line_feed u.0) (h.0, h.1, h.2 ∙ length-set kept l.length b)
 
 -- with room for them, they are kept after those that came before
 keeps : (l : InputLine) (kept came bs : List ℕ) → Unbroken bs → l.length ≡ length came → take (length came) kept ≡ came →
     length came + length bs ≤ length kept → length kept < longest →
     take (length (came ++ bs)) (line_taken l kept bs).line.kept ≡ came ++ bs
-unfolding up-to-feed if◌then◌else◌
+unfolding up_to_feed if◌then◌else◌
 keeps l kept came [] u e k fits small = rw (append-nil came) k
 keeps l kept came (b ∷ bs) u e k fits small =
     let n : l.length < length kept = omega arith in
     let m : l.length < longest = omega arith in
     let more = came ++ (b ∷ []) in
     let count : length more ≡ suc (length came) = simp length-append (omega arith) in
-    let len : count-on l.length ≡ length more = count-on-is l.length m ∙ ap suc e ∙ sym count in
+    let len : count_on l.length ≡ length more = count_on_is l.length m ∙ ap suc e ∙ sym count in
     let put : take (length more) (set kept l.length b) ≡ more = rw (count, ← e) (take-suc-set kept l.length b n ∙ rw (e, k)) in
     let room : length (set kept l.length b) ≡ length kept = length-set kept l.length b in
-    let next = keeps (one-longer l) (set kept l.length b) more bs u.1 len put (omega arith) (omega arith) in
-    rw (ne_eqb b line-feed u.0, ← append_snoc came b bs) next
+    let next = keeps (one_longer l) (set kept l.length b) more bs u.1 len put (omega arith) (omega arith) in
+    rw (ne_eqb b line_feed u.0, ← append_snoc came b bs) next
 
 -- ---- a line
 -- the bytes, and then either the end of the input or a line feed and others
 module _ (kept bs : List ℕ) (u : Unbroken bs) (small : length kept < longest) where
   abbrev whole : UpToFeed KeptLine → List ℕ
-  whole t = complete-line t.line.counted t.line.kept
+  whole t = complete_line t.line.counted t.line.kept
 
-  line-length : (line_taken new_line kept bs).line.counted.length ≡ min longest (length bs)
-  line-length = all-counted new_line kept bs (omega arith) (goes_on new_line kept bs u).0 ∙ omega arith
+  line_length : (line_taken new_line kept bs).line.counted.length ≡ min longest (length bs)
+  line_length = all_counted new_line kept bs (omega arith) (goes_on new_line kept bs u).0 ∙ omega arith
 
   pub last_line : length bs ≤ length kept → whole (line_taken new_line kept bs) ≡ bs
-  unfolding complete-line if◌then◌else◌
+  unfolding complete_line if◌then◌else◌
   last_line fits =
       let h : (line_taken new_line kept bs).line.counted.length ≤ length (line_taken new_line kept bs).line.kept =
-      omega (arith, line-length, (goes_on new_line kept bs u).2) in
-      let n : (line_taken new_line kept bs).line.counted.length ≡ length bs = line-length ∙ omega arith in
+      omega (arith, line_length, (goes_on new_line kept bs u).2) in
+      let n : (line_taken new_line kept bs).line.counted.length ≡ length bs = line_length ∙ omega arith in
       rw (le-leb _ _ h, n) (keeps new_line kept [] bs u refl refl (omega arith) small)
 
-  pub long-last-line : length kept < length bs → whole (line_taken new_line kept bs) ≡ []
-  unfolding complete-line if◌then◌else◌
-  long-last-line long =
+  pub long_last_line : length kept < length bs → whole (line_taken new_line kept bs) ≡ []
+  unfolding complete_line if◌then◌else◌
+  long_last_line long =
       let h : length (line_taken new_line kept bs).line.kept < (line_taken new_line kept bs).line.counted.length =
-      omega (arith, line-length, (goes_on new_line kept bs u).2) in
+      omega (arith, line_length, (goes_on new_line kept bs u).2) in
       rw (lt-leb _ _ h)
 
   module _ (rest : List ℕ) where
-    feed-after : line_taken new_line kept (bs ++ (line-feed ∷ rest)) ≡ record
+    feed_after : line_taken new_line kept (bs ++ (line_feed ∷ rest)) ≡ record
         { line = (line_taken new_line kept bs).line; left = rest; found = true }
-    feed-after =
-        feed-append kept-with (record { counted = new_line; kept = kept }) bs (line-feed ∷ rest) (goes_on new_line kept bs u).0
-        ∙ feed-found kept-with (line_taken new_line kept bs).line line-feed rest refl
+    feed_after =
+        feed_append kept_with (record { counted = new_line; kept = kept }) bs (line_feed ∷ rest) (goes_on new_line kept bs u).0
+        ∙ feed_found kept_with (line_taken new_line kept bs).line line_feed rest refl
 
-    pub whole-line : length bs ≤ length kept → whole (line_taken new_line kept (bs ++ (line-feed ∷ rest))) ≡ bs
-    whole-line fits = rw feed-after (last_line fits)
+    pub whole_line : length bs ≤ length kept → whole (line_taken new_line kept (bs ++ (line_feed ∷ rest))) ≡ bs
+    whole_line fits = rw feed_after (last_line fits)
 
-    pub long-line : length kept < length bs → whole (line_taken new_line kept (bs ++ (line-feed ∷ rest))) ≡ []
-    long-line long = rw feed-after (long-last-line long)
+    pub long_line : length kept < length bs → whole (line_taken new_line kept (bs ++ (line_feed ∷ rest))) ≡ []
+    long_line long = rw feed_after (long_last_line long)
 
-    pub line-found : (line_taken new_line kept (bs ++ (line-feed ∷ rest))).found ≡ true
-    line-found = rw feed-after
+    pub line_found : (line_taken new_line kept (bs ++ (line_feed ∷ rest))).found ≡ true
+    line_found = rw feed_after
 
-    pub rest-left : (line_taken new_line kept (bs ++ (line-feed ∷ rest))).left ≡ rest
-    rest-left = rw feed-after
+    pub rest_left : (line_taken new_line kept (bs ++ (line_feed ∷ rest))).left ≡ rest
+    rest_left = rw feed_after

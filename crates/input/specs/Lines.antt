@@ -3,7 +3,7 @@ use Rattle.std.specs.Prelude.{◌≡◌, Bool, true, false, not, ◌&&◌, ◌||
 use Rattle.std.specs.Int.Signed.{lt_z}
 use Rattle.io.specs.Counts.{clamp_len}
 use Rattle.base.specs.Branch.{if◌then◌else◌}
-use Rattle.base.specs.LineFeed.{UpToFeed, up-to-feed}
+use Rattle.base.specs.LineFeed.{UpToFeed, up_to_feed}
 use Rattle.input.specs.declared.InputLine.{InputLine}
 use Rattle.input.specs.declared.Input.{Input}
 
@@ -14,40 +14,40 @@ abbrev pub new_line : InputLine
 new_line = record { length = 0 }
 
 -- one more, but for the largest number
-unfoldable pub count-on : ℕ → ℕ
-count-on n = if ltb n longest then (λ _. n + 1) else λ _. n
+unfoldable pub count_on : ℕ → ℕ
+count_on n = if ltb n longest then (λ _. n + 1) else λ _. n
 
 -- a line with one byte more
-abbrev pub one-longer : InputLine → InputLine
-one-longer l = record { length = count-on l.length }
+abbrev pub one_longer : InputLine → InputLine
+one_longer l = record { length = count_on l.length }
 
 -- the line, or nothing if it is longer than what is kept
-unfoldable pub complete-line : InputLine → List ℕ → List ℕ
-complete-line l kept = if leb l.length (length kept) then (λ _. take l.length kept) else λ _. []
+unfoldable pub complete_line : InputLine → List ℕ → List ℕ
+complete_line l kept = if leb l.length (length kept) then (λ _. take l.length kept) else λ _. []
 
 -- a line with what is kept of it
 pub record KeptLine : Type 0 where
   pub counted : InputLine
   pub kept : List ℕ
 
-abbrev pub kept-with : KeptLine → ℕ → KeptLine
-kept-with k b = record { counted = one-longer k.counted; kept = set k.kept k.counted.length b }
+abbrev pub kept_with : KeptLine → ℕ → KeptLine
+kept_with k b = record { counted = one_longer k.counted; kept = set k.kept k.counted.length b }
 
 -- what bytes make of a line and of what is kept of it, up to a line feed
 abbrev pub line_taken : InputLine → List ℕ → List ℕ → UpToFeed KeptLine
-line_taken l kept bs = up-to-feed kept-with (record { counted = l; kept = kept }) bs
+line_taken l kept bs = up_to_feed kept_with (record { counted = l; kept = kept }) bs
 
 -- the bytes that are not yet used
 abbrev pub unused : Input → List ℕ → List ℕ
 unused i buffer = drop i.at (take i.end buffer)
 
 -- no line came: a read failed, or the input ended with nothing on its last line
-abbrev pub no-line-came : Input → Bool
-no-line-came i = i.failed || (not i.found && eqb i.line.length 0)
+abbrev pub no_line_came : Input → Bool
+no_line_came i = i.failed || (not i.found && eqb i.line.length 0)
 
 -- nothing was read yet
-abbrev pub new-input : Input
-new-input = record { at = 0; end = 0; line = new_line; found = false; failed = false }
+abbrev pub new_input : Input
+new_input = record { at = 0; end = 0; line = new_line; found = false; failed = false }
 
 -- a new line, with the same bytes to use
 abbrev pub begun : Input → Input
@@ -61,12 +61,12 @@ refilled i got room = record { at = 0; end = clamp_len got room; line = i.line; 
 -- the input after a line was taken from it, in an unchanged buffer
 pub record TakesLine (i : Input) (buffer kept : List ℕ) (r : Input) (after : List ℕ) : Type 0 where
   pub end_is : r.end ≡ i.end
-  pub failed-is : r.failed ≡ i.failed
-  pub line-is : r.line ≡ (line_taken i.line kept (unused i buffer)).line.counted
-  pub found-is : r.found ≡ (line_taken i.line kept (unused i buffer)).found
-  pub kept-is : after ≡ (line_taken i.line kept (unused i buffer)).line.kept
+  pub failed_is : r.failed ≡ i.failed
+  pub line_is : r.line ≡ (line_taken i.line kept (unused i buffer)).line.counted
+  pub found_is : r.found ≡ (line_taken i.line kept (unused i buffer)).found
+  pub kept_is : after ≡ (line_taken i.line kept (unused i buffer)).line.kept
   pub left_is : unused r buffer ≡ (line_taken i.line kept (unused i buffer)).left
-  pub at-is : r.at + length (line_taken i.line kept (unused i buffer)).left ≡ i.at + length (unused i buffer)
+  pub at_is : r.at + length (line_taken i.line kept (unused i buffer)).left ≡ i.at + length (unused i buffer)
 
 -- nothing was read, and the same bytes are passed or left; or what came ends with all bytes of the last read, which stand first in the
 -- buffer
@@ -81,13 +81,13 @@ abbrev pub NoFeedCame : Input → Type 0
 NoFeedCame r = (r.end ≡ 0) ⊎ (r.line.length ≡ longest)
 
 -- the next line: the bytes that were not yet used, and then those that were read
-pub record ReadsLine (i : Input) (buffer kept : List ℕ) (r : Input) (buffer-after after : List ℕ) : Type 0 where
+pub record ReadsLine (i : Input) (buffer kept : List ℕ) (r : Input) (buffer_after after : List ℕ) : Type 0 where
   pub came : List ℕ
-  pub last-read : LastRead i buffer came r buffer-after
-  pub line-is : r.line ≡ (line_taken new_line kept (unused i buffer ++ came)).line.counted
-  pub found-is : r.found ≡ (line_taken new_line kept (unused i buffer ++ came)).found
-  pub kept-is : after ≡ (line_taken new_line kept (unused i buffer ++ came)).line.kept
-  pub left_is : unused r buffer-after ≡ (line_taken new_line kept (unused i buffer ++ came)).left
+  pub last_read : LastRead i buffer came r buffer_after
+  pub line_is : r.line ≡ (line_taken new_line kept (unused i buffer ++ came)).line.counted
+  pub found_is : r.found ≡ (line_taken new_line kept (unused i buffer ++ came)).found
+  pub kept_is : after ≡ (line_taken new_line kept (unused i buffer ++ came)).line.kept
+  pub left_is : unused r buffer_after ≡ (line_taken new_line kept (unused i buffer ++ came)).left
   pub ends : r.found ≡ false → NoFeedCame r
   -- a failed read is the last one, and no line is found with it
   pub failed_ends : r.failed ≡ true → (r.found ≡ false) × (r.end ≡ 0)

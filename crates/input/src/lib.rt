@@ -1,6 +1,8 @@
 // Lines of standard input, of any length, read into lent memory of any size.
+#![tactic(auto)]
+
 ghost use Rattle.std.specs.Prelude.{◌≡◌, min, length, set};
-ghost use Rattle.input.specs.Lines.{one-longer, count-on, complete-line, new-input, no-line-came, begun, refilled};
+ghost use Rattle.input.specs.Lines.{one_longer, count_on, complete_line, new_input, no_line_came, begun, refilled};
 ghost use Rattle.input.specs.Lines.{TakesLine, ReadsLine};
 
 use libc::STDIN_FILENO;
@@ -8,14 +10,14 @@ use libc::STDIN_FILENO;
 const LONGEST: usize = 18446744073709551615;
 
 // A line as far as it came: its length.
-#[derive(Drop)]
+#[derive(Clone, Copy)]
 pub struct InputLine {
     pub length: usize,
 }
 
 // The bytes of the buffer from `at` up to `end` are not yet used. `found` says that the line's end was met, `failed` that the last
 // read failed.
-#[derive(Drop)]
+#[derive(Clone, Copy)]
 pub struct Input {
     pub at: usize,
     pub end: usize,
@@ -26,7 +28,7 @@ pub struct Input {
 
 // One more, but for the largest number.
 pub fn one_more(n: usize) -> usize
-    ensures { result ≡ count-on n }
+    ensures { result ≡ count_on n }
 {
     if n < LONGEST { n + 1 } else { n }
 }
@@ -42,7 +44,7 @@ impl InputLine {
 
     // One byte more. It is kept if there is room.
     pub fn push(self, b: u8, kept: &mut [u8]) -> InputLine
-        ensures { (result ≡ one-longer self) × (kept.new ≡ set kept.old self.length b) }
+        ensures { (result ≡ one_longer self) × (kept.new ≡ set kept.old self.length b) }
     {
         let at = self.length;
         let longer = InputLine {
@@ -57,7 +59,7 @@ impl InputLine {
 
     // The line, or nothing if not all of it was kept.
     pub fn whole(self, kept: &[u8]) -> &[u8]
-        ensures { result.now ≡ complete-line self kept.now }
+        ensures { result.now ≡ complete_line self kept.now }
     {
         let n = self.length;
         if n <= kept.len() {
@@ -70,7 +72,7 @@ impl InputLine {
 
 impl Input {
     pub fn new() -> Input
-        ensures { result ≡ new-input }
+        ensures { result ≡ new_input }
     {
         Input {
             at: 0,
@@ -83,7 +85,7 @@ impl Input {
 
     // Whether no line came: a read failed, or the input ended with nothing on its last line.
     pub fn no_line_came(self) -> bool
-        ensures { result ≡ no-line-came self }
+        ensures { result ≡ no_line_came self }
     {
         if self.failed {
             return true;

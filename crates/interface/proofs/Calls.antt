@@ -14,188 +14,188 @@ use Rattle.rules.specs.declared.DrawWinner.{DrawWinner}
 use Rattle.rules.specs.declared.Weights.{Weights}
 use Rattle.rules.specs.Endgame.{analysis}
 use Rattle.rules.specs.Status.{as_byte}
-use Rattle.rules.specs.Evaluation.{Evaluated, scoring-with, evaluated}
+use Rattle.rules.specs.Evaluation.{Evaluated, scoring_with, evaluated}
 use Rattle.theory.specs.Table.{to_word}
 use Rattle.theory.specs.Reported.{Reported}
-use Rattle.text.specs.Reading.{Reading, reads, refuses, text-refusal, read}
+use Rattle.text.specs.Reading.{Reading, reads, refuses, text_refusal, read}
 use Rattle.text.specs.Writing.{text_of}
-use Rattle.text.proofs.Writing.{text-has-101-bytes}
+use Rattle.text.proofs.Writing.{text_has_101_bytes}
 use Rattle.status.specs.declared.Status.{Status}
 use Rattle.game.specs.declared.Game.{Game}
-use Rattle.game.specs.Meaning.{position-of}
-use Rattle.game.specs.Built.{new-game}
-use Rattle.game.specs.After.{games-after, answers-each}
+use Rattle.game.specs.Meaning.{position_of}
+use Rattle.game.specs.Built.{new_game}
+use Rattle.game.specs.After.{games_after, answers_each}
 use Rattle.notation.specs.declared.ParseAnswer.{ParseAnswer}
 use Rattle.notation.specs.declared.ParseAnswer.TheVariants.{Accepted, Refused}
 use Rattle.notation.specs.declared.Parsed.{Parsed}
-use Rattle.notation.specs.Parsed.{parse-number, reading-of, game-for, Parses}
+use Rattle.notation.specs.Parsed.{parse_number, reading_of, game_for, Parses}
 use Rattle.evaluation.specs.declared.Evaluation.{Evaluation}
-use Rattle.evaluation.specs.Values.{evaluation-number, Evaluates}
+use Rattle.evaluation.specs.Values.{evaluation_number, Evaluates}
 use Rattle.endgame.specs.declared.Analysis.{Analysis}
-use Rattle.endgame.specs.Means.{analysis-number, Analyses}
+use Rattle.endgame.specs.Means.{analysis_number, Analyses}
 use Rattle.minimax.specs.declared.Config.{Config}
 use Rattle.minimax.specs.declared.Minimax.{Minimax}
 use Rattle.minimax.specs.declared.Report.{Report}
-use Rattle.minimax.specs.Report.{ending-number, report-of, reported-of, responses-of}
+use Rattle.minimax.specs.Report.{ending_number, report_of, reported_of, responses_of}
 use Rattle.answer_text.specs.declared.AnswerText.{AnswerText}
-use Rattle.program_line.specs.Answered.{answer-line, asked-text}
-use Rattle.line_buffer.specs.Buffer.{new-buffer, pushed-all, buffer-asks}
-use Rattle.answer_text.specs.AnswerBytes.{text-of-bytes}
-use Rattle.text.proofs.Padded.{length-padded}
-use Rattle.program_line.proofs.Answered.{line-is-answered}
+use Rattle.program_line.specs.Answered.{answer_line, asked_text}
+use Rattle.line_buffer.specs.Buffer.{new_buffer, pushed_all, buffer_asks}
+use Rattle.answer_text.specs.AnswerBytes.{text_of_bytes}
+use Rattle.text.proofs.Padded.{length_padded}
+use Rattle.program_line.proofs.Answered.{line_is_answered}
 use Rattle.line_buffer.specs.declared.LineBuffer.{LineBuffer}
 use Rattle.interface.specs.Lent.{Puts}
-use Rattle.interface.specs.Position.{words_of, game-from, is-position}
-use Rattle.interface.specs.Calls.{Answers, Starts, read-place, ReadsPosition, Renders, PlaysAll}
-use Rattle.interface.specs.Calls.{responses-from, responses-bytes, report-words, analyze-ok, found, Analyzes}
-use Rattle.interface.specs.Calls.{evaluate-ok, valued, EvaluatesPosition}
-use Rattle.interface.specs.Settings.{draws-from, weights-from, settings-ok, held-weights, config-from}
-use Rattle.interface.proofs.LentPlaces.{left-written, left-kept, returned-bad, returned-well}
-use Rattle.interface.proofs.CallsPlay.{answers-length}
-use Rattle.interface.proofs.SettingsHeld.{held-evaluated, settings-reported}
+use Rattle.interface.specs.Position.{words_of, game_from, is_position}
+use Rattle.interface.specs.Calls.{Answers, Starts, read_place, ReadsPosition, Renders, PlaysAll}
+use Rattle.interface.specs.Calls.{responses_from, responses_bytes, report_words, analyze_ok, found, Analyzes}
+use Rattle.interface.specs.Calls.{evaluate_ok, valued, EvaluatesPosition}
+use Rattle.interface.specs.Settings.{draws_from, weights_from, settings_ok, held_weights, config_from}
+use Rattle.interface.proofs.LentPlaces.{left_written, left_kept, returned_bad, returned_well}
+use Rattle.interface.proofs.CallsPlay.{answers_length}
+use Rattle.interface.proofs.SettingsHeld.{held_evaluated, settings_reported}
 
 -- ---- tests joined
 both : (a b : Bool) → a ≡ true → b ≡ true → (a && b) ≡ true
 both a b p q = ap (λ (x : Bool). x && b) p ∙ q
 
-first-no : (a b : Bool) → a ≡ false → (a && b) ≡ false
-first-no a b p = ap (λ (x : Bool). x && b) p
+first_no : (a b : Bool) → a ≡ false → (a && b) ≡ false
+first_no a b p = ap (λ (x : Bool). x && b) p
 
-later-no : (a b : Bool) → a ≡ true → b ≡ false → (a && b) ≡ false
-later-no a b p q = ap (λ (x : Bool). x && b) p ∙ q
+later_no : (a b : Bool) → a ≡ true → b ≡ false → (a && b) ≡ false
+later_no a b p q = ap (λ (x : Bool). x && b) p ∙ q
 
 -- ---- answer
-module _ (line : List ℕ) (empty : LineBuffer) (empty-is : empty ≡ new-buffer) (held : LineBuffer) (held-is : held ≡ pushed-all empty line)
-    (o : AnswerText) (o_is : o ≡ text-of-bytes (asked-text (buffer-asks held)))
-    (n : ℕ) (n-is : n ≡ min o.len 224) where
-  answered : take n o.bytes ≡ answer-line line
+module _ (line : List ℕ) (empty : LineBuffer) (empty_is : empty ≡ new_buffer) (held : LineBuffer) (held_is : held ≡ pushed_all empty line)
+    (o : AnswerText) (o_is : o ≡ text_of_bytes (asked_text (buffer_asks held)))
+    (n : ℕ) (n_is : n ≡ min o.len 224) where
+  answered : take n o.bytes ≡ answer_line line
   answered =
-      ap (λ (k : ℕ). take k o.bytes) n-is
-      ∙ (line-is-answered line o (o_is ∙ ap (λ (k : LineBuffer). text-of-bytes (asked-text (buffer-asks k)))
-      (held-is ∙ ap (λ (k : LineBuffer). pushed-all k line) empty-is))).written_is
+      ap (λ (k : ℕ). take k o.bytes) n_is
+      ∙ (line_is_answered line o (o_is ∙ ap (λ (k : LineBuffer). text_of_bytes (asked_text (buffer_asks k)))
+      (held_is ∙ ap (λ (k : LineBuffer). pushed_all k line) empty_is))).written_is
 
   pub room : n ≤ length o.bytes
-  room = omega (arith, ap (λ (k : AnswerText). length k.bytes) o_is ∙ length-padded 224 (asked-text (buffer-asks held)))
+  room = omega (arith, ap (λ (k : AnswerText). length k.bytes) o_is ∙ length_padded 224 (asked_text (buffer_asks held)))
 
-  pub taken-length : n ≡ length (take n o.bytes)
-  taken-length = let r : n ≤ length o.bytes = room in simp length-take (omega arith)
+  pub taken_length : n ≡ length (take n o.bytes)
+  taken_length = let r : n ≤ length o.bytes = room in simp length-take (omega arith)
 
-  length-is : n ≡ length (answer-line line)
-  length-is = taken-length ∙ ap length answered
+  length_is : n ≡ length (answer_line line)
+  length_is = taken_length ∙ ap length answered
 
-  pub answers-written : (out m : List ℕ) → n ≤ length out → m ≡ sets out 0 (take n o.bytes) → Answers line out m n
-  answers-written out m r e = record {
-    returns = length-is;
-    out-is =
-        let q : length (answer-line line) ≤ length out = omega (arith, length-is) in
-        left-written (answer-line line) out m _ (le-leb _ _ q) q (e ∙ ap (sets out 0) answered);
+  pub answers_written : (out m : List ℕ) → n ≤ length out → m ≡ sets out 0 (take n o.bytes) → Answers line out m n
+  answers_written out m r e = record {
+    returns = length_is;
+    out_is =
+        let q : length (answer_line line) ≤ length out = omega (arith, length_is) in
+        left_written (answer_line line) out m _ (le-leb _ _ q) q (e ∙ ap (sets out 0) answered);
   }
 
-  pub answers-kept : (out : List ℕ) → length out < n → Answers line out out n
-  answers-kept out r = record {
-    returns = length-is;
-    out-is = let q : length out < length (answer-line line) = omega (arith, length-is) in left-kept (answer-line line) out _ (lt-leb _ _ q);
+  pub answers_kept : (out : List ℕ) → length out < n → Answers line out out n
+  answers_kept out r = record {
+    returns = length_is;
+    out_is = let q : length out < length (answer_line line) = omega (arith, length_is) in left_kept (answer_line line) out _ (lt-leb _ _ q);
   }
 
 -- ---- new
-pub begins-short : (p : List ℕ) → length p < 12 → Starts p p 255
-begins-short p h =
-    record { returns = returned-bad 0 _ (lt-leb 12 (length p) h); position-is = left-kept (words_of new-game) p _ (lt-leb 12 (length p) h) }
+pub begins_short : (p : List ℕ) → length p < 12 → Starts p p 255
+begins_short p h =
+    record { returns = returned_bad 0 _ (lt-leb 12 (length p) h); position_is = left_kept (words_of new_game) p _ (lt-leb 12 (length p) h) }
 
-pub begins-well : (p m : List ℕ) (g : Game) → 12 ≤ length p → g ≡ new-game → Puts p (words_of g) 12 m → Starts p m 0
-begins-well p m g h e q = record {
-  returns = returned-well 0 0 _ (le-leb 12 (length p) h) refl;
-  position-is =
-      left-written (words_of new-game) p m _ (le-leb 12 (length p) h) h (q.stored ∙ ap (λ (k : Game). sets p 0 (words_of k)) e);
+pub begins_well : (p m : List ℕ) (g : Game) → 12 ≤ length p → g ≡ new_game → Puts p (words_of g) 12 m → Starts p m 0
+begins_well p m g h e q = record {
+  returns = returned_well 0 0 _ (le-leb 12 (length p) h) refl;
+  position_is =
+      left_written (words_of new_game) p m _ (le-leb 12 (length p) h) h (q.stored ∙ ap (λ (k : Game). sets p 0 (words_of k)) e);
 }
 
 -- ---- read
-place-length : (x : Reading) → length (read-place x) ≡ 2
-place-length (reads p) = refl
-place-length (refuses n offset size) = refl
+place_length : (x : Reading) → length (read_place x) ≡ 2
+place_length (reads p) = refl
+place_length (refuses n offset size) = refl
 
 -- the number in the answer's code is the reading's
-answer-reads : (a : ParseAnswer) (g : Game) → parse-number a ≡ text-refusal (reading-of a g)
-answer-reads Accepted g = refl
-answer-reads (Refused e) g = refl
+answer_reads : (a : ParseAnswer) (g : Game) → parse_number a ≡ text_refusal (reading_of a g)
+answer_reads Accepted g = refl
+answer_reads (Refused e) g = refl
 
 module _ (text p q : List ℕ) where
-  reads-wrongly : (leb 12 (length p) && leb 2 (length q)) ≡ false → ReadsPosition text p q p q 255
-  reads-wrongly bad = record { returns = returned-bad _ _ bad; position-is = left-kept _ p _ bad; place_is = left-kept _ q _ bad }
+  reads_wrongly : (leb 12 (length p) && leb 2 (length q)) ≡ false → ReadsPosition text p q p q 255
+  reads_wrongly bad = record { returns = returned_bad _ _ bad; position_is = left_kept _ p _ bad; place_is = left_kept _ q _ bad }
 
   pub reads_short : length p < 12 → ReadsPosition text p q p q 255
-  reads_short h = reads-wrongly (first-no _ _ (lt-leb 12 (length p) h))
+  reads_short h = reads_wrongly (first_no _ _ (lt-leb 12 (length p) h))
 
-  pub reads-no-place : 12 ≤ length p → length q < 2 → ReadsPosition text p q p q 255
-  reads-no-place h k = reads-wrongly (later-no _ _ (le-leb 12 (length p) h) (lt-leb 2 (length q) k))
+  pub reads_no_place : 12 ≤ length p → length q < 2 → ReadsPosition text p q p q 255
+  reads_no_place h k = reads_wrongly (later_no _ _ (le-leb 12 (length p) h) (lt-leb 2 (length q) k))
 
-  pub reads-well : (r : Parsed) (p-after q-after : List ℕ) (n : ℕ) → Parses text r → 12 ≤ length p → 2 ≤ length q
-      → Puts p (words_of r.game) 12 p-after → q-after ≡ sets q 0 (read-place (reading-of r.answer r.game))
-      → n ≡ parse-number r.answer → ReadsPosition text p q p-after q-after n
-  reads-well r p-after q-after n is h k e f g =
+  pub reads_well : (r : Parsed) (p_after q_after : List ℕ) (n : ℕ) → Parses text r → 12 ≤ length p → 2 ≤ length q
+      → Puts p (words_of r.game) 12 p_after → q_after ≡ sets q 0 (read_place (reading_of r.answer r.game))
+      → n ≡ parse_number r.answer → ReadsPosition text p q p_after q_after n
+  reads_well r p_after q_after n is h k e f g =
       let ok = both _ _ (le-leb 12 (length p) h) (le-leb 2 (length q) k) in
       record {
         returns =
-            returned-well n (text-refusal (read text)) _ ok (g ∙ answer-reads r.answer r.game ∙ ap text-refusal is.says);
-        position-is =
-            left-written (words_of (game-for (read text))) p p-after _ ok
-            (omega (arith, sym (ap (λ (x : Game). length (words_of x)) is.game-is) ∙ e.many))
-            (e.stored ∙ ap (λ (x : Game). sets p 0 (words_of x)) is.game-is);
+            returned_well n (text_refusal (read text)) _ ok (g ∙ answer_reads r.answer r.game ∙ ap text_refusal is.says);
+        position_is =
+            left_written (words_of (game_for (read text))) p p_after _ ok
+            (omega (arith, sym (ap (λ (x : Game). length (words_of x)) is.game_is) ∙ e.many))
+            (e.stored ∙ ap (λ (x : Game). sets p 0 (words_of x)) is.game_is);
         place_is =
-            left-written (read-place (read text)) q q-after _ ok (omega (arith, place-length (read text)))
-            (f ∙ ap (λ (x : Reading). sets q 0 (read-place x)) is.says);
+            left_written (read_place (read text)) q q_after _ ok (omega (arith, place_length (read text)))
+            (f ∙ ap (λ (x : Reading). sets q 0 (read_place x)) is.says);
       }
 
 -- ---- render
 module _ (p out : List ℕ) where
-  renders-wrongly : (is-position p && leb 101 (length out)) ≡ false → Renders p out out 255
-  renders-wrongly bad = record { returns = returned-bad _ _ bad; out-is = left-kept _ out _ bad }
+  renders_wrongly : (is_position p && leb 101 (length out)) ≡ false → Renders p out out 255
+  renders_wrongly bad = record { returns = returned_bad _ _ bad; out_is = left_kept _ out _ bad }
 
-  pub renders-none : is-position p ≡ false → Renders p out out 255
-  renders-none e = renders-wrongly (first-no _ _ e)
+  pub renders_none : is_position p ≡ false → Renders p out out 255
+  renders_none e = renders_wrongly (first_no _ _ e)
 
-  pub renders-short : is-position p ≡ true → length out < 101 → Renders p out out 255
-  renders-short e h = renders-wrongly (later-no _ _ e (lt-leb 101 (length out) h))
+  pub renders_short : is_position p ≡ true → length out < 101 → Renders p out out 255
+  renders_short e h = renders_wrongly (later_no _ _ e (lt-leb 101 (length out) h))
 
-  pub renders-well : (m t : List ℕ) (g : Game) → is-position p ≡ true → 101 ≤ length out
-      → g ≡ game-from p → t ≡ text_of (position-of g) → m ≡ sets out 0 t → Renders p out m 0
-  renders-well m t g e h q s w =
+  pub renders_well : (m t : List ℕ) (g : Game) → is_position p ≡ true → 101 ≤ length out
+      → g ≡ game_from p → t ≡ text_of (position_of g) → m ≡ sets out 0 t → Renders p out m 0
+  renders_well m t g e h q s w =
       let ok = both _ _ e (le-leb 101 (length out) h) in
       record {
-        returns = returned-well 0 0 _ ok refl;
-        out-is =
-            left-written (text_of (position-of (game-from p))) out m _ ok (omega (arith, text-has-101-bytes (position-of (game-from p))))
-            (w ∙ ap (sets out 0) (s ∙ ap (λ (k : Game). text_of (position-of k)) q));
+        returns = returned_well 0 0 _ ok refl;
+        out_is =
+            left_written (text_of (position_of (game_from p))) out m _ ok (omega (arith, text_has_101_bytes (position_of (game_from p))))
+            (w ∙ ap (sets out 0) (s ∙ ap (λ (k : Game). text_of (position_of k)) q));
       }
 
 -- ---- play
 module _ (p ms answers : List ℕ) where
-  plays-wrongly : (is-position p && leb (length ms) (length answers)) ≡ false → PlaysAll p ms answers p answers 255
-  plays-wrongly bad = record { returns = returned-bad _ _ bad; position-is = left-kept _ p _ bad; answers-is = left-kept _ answers _ bad }
+  plays_wrongly : (is_position p && leb (length ms) (length answers)) ≡ false → PlaysAll p ms answers p answers 255
+  plays_wrongly bad = record { returns = returned_bad _ _ bad; position_is = left_kept _ p _ bad; answers_is = left_kept _ answers _ bad }
 
-  pub plays-none : is-position p ≡ false → PlaysAll p ms answers p answers 255
-  plays-none e = plays-wrongly (first-no _ _ e)
+  pub plays_none : is_position p ≡ false → PlaysAll p ms answers p answers 255
+  plays_none e = plays_wrongly (first_no _ _ e)
 
-  pub plays-short : is-position p ≡ true → length answers < length ms → PlaysAll p ms answers p answers 255
-  plays-short e h = plays-wrongly (later-no _ _ e (lt-leb (length ms) (length answers) h))
+  pub plays_short : is_position p ≡ true → length answers < length ms → PlaysAll p ms answers p answers 255
+  plays_short e h = plays_wrongly (later_no _ _ e (lt-leb (length ms) (length answers) h))
 
-  pub plays-well : (g after : Game) (p-after answers-after : List ℕ) → is-position p ≡ true → length ms ≤ length answers →
+  pub plays_well : (g after : Game) (p_after answers_after : List ℕ) → is_position p ≡ true → length ms ≤ length answers →
       12 ≤ length p
-      → g ≡ game-from p → after ≡ games-after g ms → answers-after ≡ sets answers 0 (answers-each g ms) →
-      Puts p (words_of after) 12 p-after
-      → PlaysAll p ms answers p-after answers-after 0
-  plays-well g after p-after answers-after e h k q s w x =
+      → g ≡ game_from p → after ≡ games_after g ms → answers_after ≡ sets answers 0 (answers_each g ms) →
+      Puts p (words_of after) 12 p_after
+      → PlaysAll p ms answers p_after answers_after 0
+  plays_well g after p_after answers_after e h k q s w x =
       let ok = both _ _ e (le-leb (length ms) (length answers) h) in
-      let t = s ∙ ap (λ (y : Game). games-after y ms) q in
+      let t = s ∙ ap (λ (y : Game). games_after y ms) q in
       record {
-        returns = returned-well 0 0 _ ok refl;
-        position-is =
-            left-written (words_of (games-after (game-from p) ms)) p p-after _ ok
+        returns = returned_well 0 0 _ ok refl;
+        position_is =
+            left_written (words_of (games_after (game_from p) ms)) p p_after _ ok
             (omega (arith, sym (ap (λ (y : Game). length (words_of y)) t) ∙ x.many))
             (x.stored ∙ ap (λ (y : Game). sets p 0 (words_of y)) t);
-        answers-is =
-            left-written (answers-each (game-from p) ms) answers answers-after _ ok
-            (omega (arith, answers-length (game-from p) ms)) (w ∙ ap (λ (y : Game). sets answers 0 (answers-each y ms)) q);
+        answers_is =
+            left_written (answers_each (game_from p) ms) answers answers_after _ ok
+            (omega (arith, answers_length (game_from p) ms)) (w ∙ ap (λ (y : Game). sets answers 0 (answers_each y ms)) q);
       }
 
 -- ---- analyze
@@ -205,133 +205,133 @@ module _ (p ms settings answers words report : List ℕ) where
 
   -- the game at the end of the moves
   abbrev here : Game
-  here = games-after (game-from p) ms
+  here = games_after (game_from p) ms
 
-  kept-words : (t : List ℕ) (b : Bool) → b ≡ false → words ≡ (if b then (λ _. t) else λ _. words)
+  kept_words : (t : List ℕ) (b : Bool) → b ≡ false → words ≡ (if b then (λ _. t) else λ _. words)
   unfolding if◌then◌else◌
-  kept-words t b e = sym (ap (λ (x : Bool). if x then (λ _. t) else λ _. words) e)
+  kept_words t b e = sym (ap (λ (x : Bool). if x then (λ _. t) else λ _. words) e)
 
-  left-words : (m t : List ℕ) (b : Bool) → b ≡ true → m ≡ t → m ≡ (if b then (λ _. t) else λ _. words)
+  left_words : (m t : List ℕ) (b : Bool) → b ≡ true → m ≡ t → m ≡ (if b then (λ _. t) else λ _. words)
   unfolding if◌then◌else◌
-  left-words m t b e q = q ∙ sym (ap (λ (x : Bool). if x then (λ _. t) else λ _. words) e)
+  left_words m t b e q = q ∙ sym (ap (λ (x : Bool). if x then (λ _. t) else λ _. words) e)
 
-  wrongly : analyze-ok p ms settings answers words report ≡ false → Here answers words report 255
+  wrongly : analyze_ok p ms settings answers words report ≡ false → Here answers words report 255
   wrongly bad =
       record {
-        returns = returned-bad _ _ bad;
-        responses-is = left-kept _ answers _ bad;
-        words-is = kept-words _ _ bad;
-        report-is = left-kept _ report _ bad;
+        returns = returned_bad _ _ bad;
+        responses_is = left_kept _ answers _ bad;
+        words_is = kept_words _ _ bad;
+        report_is = left_kept _ report _ bad;
       }
 
-  pub analyzes-none : is-position p ≡ false → Here answers words report 255
-  analyzes-none e = wrongly (first-no _ _ e)
+  pub analyzes_none : is_position p ≡ false → Here answers words report 255
+  analyzes_none e = wrongly (first_no _ _ e)
 
-  module _ (e : is-position p ≡ true) where
-    pub analyzes-few-settings : length settings < 6 → Here answers words report 255
-    analyzes-few-settings h = wrongly (later-no _ _ e (first-no _ _ (first-no _ _ (lt-leb 6 (length settings) h))))
+  module _ (e : is_position p ≡ true) where
+    pub analyzes_few_settings : length settings < 6 → Here answers words report 255
+    analyzes_few_settings h = wrongly (later_no _ _ e (first_no _ _ (first_no _ _ (lt-leb 6 (length settings) h))))
 
     module _ (six : 6 ≤ length settings) where
-      pub analyzes-no-draws : 2 < get_or settings 2 0 → Here answers words report 255
-      analyzes-no-draws h =
-          wrongly (later-no _ _ e (first-no _ _ (later-no _ _ (le-leb 6 (length settings) six) (lt-leb (get_or settings 2 0) 2 h))))
+      pub analyzes_no_draws : 2 < get_or settings 2 0 → Here answers words report 255
+      analyzes_no_draws h =
+          wrongly (later_no _ _ e (first_no _ _ (later_no _ _ (le-leb 6 (length settings) six) (lt-leb (get_or settings 2 0) 2 h))))
 
       module _ (d : get_or settings 2 0 ≤ 2) where
-        settled : settings-ok settings ≡ true
+        settled : settings_ok settings ≡ true
         settled = both _ _ (le-leb 6 (length settings) six) (le-leb (get_or settings 2 0) 2 d)
 
-        pub analyzes-few-answers : length answers < 512 → Here answers words report 255
-        analyzes-few-answers h = wrongly (later-no _ _ e (later-no _ _ settled (first-no _ _ (lt-leb 512 (length answers) h))))
+        pub analyzes_few_answers : length answers < 512 → Here answers words report 255
+        analyzes_few_answers h = wrongly (later_no _ _ e (later_no _ _ settled (first_no _ _ (lt-leb 512 (length answers) h))))
 
         module _ (a : 512 ≤ length answers) where
-          pub analyzes-no-report : length report < 655 → Here answers words report 255
-          analyzes-no-report h = wrongly (later-no _ _ e (later-no _ _ settled
-              (later-no _ _ (le-leb 512 (length answers) a) (lt-leb 655 (length report) h))))
+          pub analyzes_no_report : length report < 655 → Here answers words report 255
+          analyzes_no_report h = wrongly (later_no _ _ e (later_no _ _ settled
+              (later_no _ _ (le-leb 512 (length answers) a) (lt-leb 655 (length report) h))))
 
-          module _ (b : 655 ≤ length report) (g : Game) (g-is : g ≡ here) (c : Config) (c-is : c ≡ config-from settings) (m : Minimax)
-              (rs-is : responses-of m.responses ≡ responses-from answers)
-              (r : Report) (words-after : List ℕ) (r-is : report-of r words-after ≡ reported-of m g c words) where
+          module _ (b : 655 ≤ length report) (g : Game) (g_is : g ≡ here) (c : Config) (c_is : c ≡ config_from settings) (m : Minimax)
+              (rs_is : responses_of m.responses ≡ responses_from answers)
+              (r : Report) (words_after : List ℕ) (r_is : report_of r words_after ≡ reported_of m g c words) where
             abbrev x : Reported
             x = found p ms settings answers words report
 
-            found-is : report-of r words-after ≡ x
-            found-is = cc (settings-reported settings m here words)
+            found_is : report_of r words_after ≡ x
+            found_is = cc (settings_reported settings m here words)
 
-            module _ (s : Analysis) (s-is : Analyses g s) where
+            module _ (s : Analysis) (s_is : Analyses g s) where
               abbrev number : ℕ
-              number = analysis-number s.answer
+              number = analysis_number s.answer
 
               abbrev byte : ℕ
               byte = s.proven.bits
 
-              number_is : number ≡ (analysis (position-of here)).refusal
-              number_is = s-is.refusal ∙ ap (λ (k : Game). (analysis (position-of k)).refusal) g-is
+              number_is : number ≡ (analysis (position_of here)).refusal
+              number_is = s_is.refusal ∙ ap (λ (k : Game). (analysis (position_of k)).refusal) g_is
 
-              byte-is : byte ≡ as_byte (analysis (position-of here)).status
-              byte-is = ap (λ (k : Status). k.bits) s-is.status ∙ ap (λ (k : Game). as_byte (analysis (position-of k)).status) g-is
+              byte_is : byte ≡ as_byte (analysis (position_of here)).status
+              byte_is = ap (λ (k : Status). k.bits) s_is.status ∙ ap (λ (k : Game). as_byte (analysis (position_of k)).status) g_is
 
-              words_are : report-words (report-of r []) number byte ≡ report-words x (analysis (position-of here)).refusal
-                  (as_byte (analysis (position-of here)).status)
+              words_are : report_words (report_of r []) number byte ≡ report_words x (analysis (position_of here)).refusal
+                  (as_byte (analysis (position_of here)).status)
               words_are =
-                  ap (λ (k : Reported). report-words k number byte) found-is
-                  ∙ ap (λ (k : ℕ). report-words x k byte) number_is
-                  ∙ ap (report-words x (analysis (position-of here)).refusal) byte-is
+                  ap (λ (k : Reported). report_words k number byte) found_is
+                  ∙ ap (λ (k : ℕ). report_words x k byte) number_is
+                  ∙ ap (report_words x (analysis (position_of here)).refusal) byte_is
 
-              answers-are : responses-bytes (responses-of r.state.responses) ≡ responses-bytes x.responses
-              answers-are = ap (λ (k : Reported). responses-bytes k.responses) found-is
+              answers_are : responses_bytes (responses_of r.state.responses) ≡ responses_bytes x.responses
+              answers_are = ap (λ (k : Reported). responses_bytes k.responses) found_is
 
-              pub analyzes-well : (answers-after report-after : List ℕ) (n : ℕ)
-                  → Puts answers (responses-bytes (responses-of r.state.responses)) 512 answers-after
-                  → Puts report (report-words (report-of r []) number byte) 655 report-after
-                  → n ≡ ending-number r.ending → Here answers-after words-after report-after n
-              analyzes-well answers-after report-after n u v y =
+              pub analyzes_well : (answers_after report_after : List ℕ) (n : ℕ)
+                  → Puts answers (responses_bytes (responses_of r.state.responses)) 512 answers_after
+                  → Puts report (report_words (report_of r []) number byte) 655 report_after
+                  → n ≡ ending_number r.ending → Here answers_after words_after report_after n
+              analyzes_well answers_after report_after n u v y =
                   let all = both _ _ e (both _ _ settled (both _ _ (le-leb 512 (length answers) a) (le-leb 655 (length report) b))) in
                   record {
-                    returns = returned-well n x.number _ all (y ∙ ap (λ (k : Reported). k.number) found-is);
-                    responses-is =
-                        left-written (responses-bytes x.responses) answers answers-after _ all
-                        (omega (arith, sym (ap length answers-are) ∙ u.many)) (u.stored ∙ ap (sets answers 0) answers-are);
-                    words-is = left-words words-after x.table _ all (ap (λ (k : Reported). k.table) found-is);
-                    report-is =
-                        left-written _ report report-after _ all
+                    returns = returned_well n x.number _ all (y ∙ ap (λ (k : Reported). k.number) found_is);
+                    responses_is =
+                        left_written (responses_bytes x.responses) answers answers_after _ all
+                        (omega (arith, sym (ap length answers_are) ∙ u.many)) (u.stored ∙ ap (sets answers 0) answers_are);
+                    words_is = left_words words_after x.table _ all (ap (λ (k : Reported). k.table) found_is);
+                    report_is =
+                        left_written _ report report_after _ all
                         (omega (arith, sym (ap length words_are) ∙ v.many)) (v.stored ∙ ap (sets report 0) words_are);
                   }
 
 -- ---- evaluate
 module _ (p : List ℕ) (draws : ℕ) (weights score : List ℕ) where
-  evaluates-wrongly : evaluate-ok p draws weights score ≡ false → EvaluatesPosition p draws weights score score 255
-  evaluates-wrongly bad = record { returns = returned-bad _ _ bad; score-is = left-kept _ score _ bad }
+  evaluates_wrongly : evaluate_ok p draws weights score ≡ false → EvaluatesPosition p draws weights score score 255
+  evaluates_wrongly bad = record { returns = returned_bad _ _ bad; score_is = left_kept _ score _ bad }
 
-  pub evaluates-none : is-position p ≡ false → EvaluatesPosition p draws weights score score 255
-  evaluates-none e = evaluates-wrongly (first-no _ _ e)
+  pub evaluates_none : is_position p ≡ false → EvaluatesPosition p draws weights score score 255
+  evaluates_none e = evaluates_wrongly (first_no _ _ e)
 
-  module _ (e : is-position p ≡ true) where
-    pub evaluates-no-draws : 2 < draws → EvaluatesPosition p draws weights score score 255
-    evaluates-no-draws h = evaluates-wrongly (later-no _ _ e (first-no _ _ (lt-leb draws 2 h)))
+  module _ (e : is_position p ≡ true) where
+    pub evaluates_no_draws : 2 < draws → EvaluatesPosition p draws weights score score 255
+    evaluates_no_draws h = evaluates_wrongly (later_no _ _ e (first_no _ _ (lt-leb draws 2 h)))
 
     module _ (d : draws ≤ 2) where
-      pub evaluates-few-weights : length weights < 3 → EvaluatesPosition p draws weights score score 255
-      evaluates-few-weights h =
-          evaluates-wrongly (later-no _ _ e (later-no _ _ (le-leb draws 2 d) (first-no _ _ (lt-leb 3 (length weights) h))))
+      pub evaluates_few_weights : length weights < 3 → EvaluatesPosition p draws weights score score 255
+      evaluates_few_weights h =
+          evaluates_wrongly (later_no _ _ e (later_no _ _ (le-leb draws 2 d) (first_no _ _ (lt-leb 3 (length weights) h))))
 
       module _ (three : 3 ≤ length weights) where
-        pub evaluates-no-score : length score < 1 → EvaluatesPosition p draws weights score score 255
-        evaluates-no-score h = evaluates-wrongly (later-no _ _ e (later-no _ _ (le-leb draws 2 d)
-            (later-no _ _ (le-leb 3 (length weights) three) (lt-leb 1 (length score) h))))
+        pub evaluates_no_score : length score < 1 → EvaluatesPosition p draws weights score score 255
+        evaluates_no_score h = evaluates_wrongly (later_no _ _ e (later_no _ _ (le-leb draws 2 d)
+            (later_no _ _ (le-leb 3 (length weights) three) (lt-leb 1 (length score) h))))
 
-        module _ (one : 1 ≤ length score) (g : Game) (g-is : g ≡ game-from p) (w : DrawWinner) (w-is : w ≡ draws-from draws)
-            (v : Weights) (v-is : v ≡ held-weights (weights-from weights)) (r : Evaluation) (r-is : Evaluates (scoring-with w v) g r) where
-          value-is : evaluated (scoring-with w v) (position-of g) ≡ valued p draws weights score
-          value-is = cc (held-evaluated (draws-from draws) (weights-from weights) (position-of (game-from p)))
+        module _ (one : 1 ≤ length score) (g : Game) (g_is : g ≡ game_from p) (w : DrawWinner) (w_is : w ≡ draws_from draws)
+            (v : Weights) (v_is : v ≡ held_weights (weights_from weights)) (r : Evaluation) (r_is : Evaluates (scoring_with w v) g r) where
+          value_is : evaluated (scoring_with w v) (position_of g) ≡ valued p draws weights score
+          value_is = cc (held_evaluated (draws_from draws) (weights_from weights) (position_of (game_from p)))
 
-          pub evaluates-well : (score-after : List ℕ) (n : ℕ) → score-after ≡ sets score 0 (to_word r.value ∷ [])
-              → n ≡ evaluation-number r.answer → EvaluatesPosition p draws weights score score-after n
-          evaluates-well score-after n u y =
+          pub evaluates_well : (score_after : List ℕ) (n : ℕ) → score_after ≡ sets score 0 (to_word r.value ∷ [])
+              → n ≡ evaluation_number r.answer → EvaluatesPosition p draws weights score score_after n
+          evaluates_well score_after n u y =
               let all = both _ _ e (both _ _ (le-leb draws 2 d) (both _ _ (le-leb 3 (length weights) three)
               (le-leb 1 (length score) one))) in
               record {
-                returns = returned-well n _ _ all (y ∙ r-is.refusal ∙ ap (λ (k : Evaluated). k.refusal) value-is);
-                score-is =
-                    left-written (to_word (valued p draws weights score).value ∷ []) score score-after _ all one
-                    (u ∙ ap (λ (z : ℤ). sets score 0 (to_word z ∷ [])) (r-is.value ∙ ap (λ (k : Evaluated). k.value) value-is));
+                returns = returned_well n _ _ all (y ∙ r_is.refusal ∙ ap (λ (k : Evaluated). k.refusal) value_is);
+                score_is =
+                    left_written (to_word (valued p draws weights score).value ∷ []) score score_after _ all one
+                    (u ∙ ap (λ (z : ℤ). sets score 0 (to_word z ∷ [])) (r_is.value ∙ ap (λ (k : Evaluated). k.value) value_is));
               }

@@ -9,58 +9,58 @@ use Rattle.rules.specs.Status.{as_byte}
 use Rattle.rules.specs.Endgame.{analysis}
 use Rattle.theory.specs.Reported.{Reported}
 use Rattle.status.specs.declared.Status.{Status}
-use Rattle.game.specs.Meaning.{position-of}
-use Rattle.game.specs.Built.{new-game}
-use Rattle.game.specs.After.{games-after}
-use Rattle.endgame.specs.Means.{analysis-number}
+use Rattle.game.specs.Meaning.{position_of}
+use Rattle.game.specs.Built.{new_game}
+use Rattle.game.specs.After.{games_after}
+use Rattle.endgame.specs.Means.{analysis_number}
 use Rattle.minimax.specs.declared.Minimax.{Minimax}
 use Rattle.minimax.specs.declared.Config.{Config}
-use Rattle.minimax.specs.Report.{scoring-of, settings-of, report-of, responses-of}
+use Rattle.minimax.specs.Report.{scoring_of, settings_of, report_of, responses_of}
 use Rattle.demands.specs.declared.AfterMoves.{AfterMoves}
 use Rattle.demands.specs.Demand3.{Demand3}
 use Rattle.interface.specs.Lent.{left}
-use Rattle.interface.specs.Position.{game-from}
-use Rattle.interface.specs.Calls.{responses-from, report-words, analyze-ok, found, Analyzes}
-use Rattle.interface.specs.Settings.{config-from}
-use Rattle.interface.proofs.SettingsHeld.{settings-reported}
-use Rattle.interface.proofs.CallsAfterPlay.{played-reported, reached-is}
+use Rattle.interface.specs.Position.{game_from}
+use Rattle.interface.specs.Calls.{responses_from, report_words, analyze_ok, found, Analyzes}
+use Rattle.interface.specs.Settings.{config_from}
+use Rattle.interface.proofs.SettingsHeld.{settings_reported}
+use Rattle.interface.proofs.CallsAfterPlay.{played_reported, reached_is}
 
-module _ (p ms settings answers report : List ℕ) (m : Minimax) (new : game-from p ≡ new-game)
-    (rs-is : responses-of m.responses ≡ responses-from answers)
-    (r : AfterMoves) (r-is : Demand3 ms m (config-from settings) r) where
+module _ (p ms settings answers report : List ℕ) (m : Minimax) (new : game_from p ≡ new_game)
+    (rs_is : responses_of m.responses ≡ responses_from answers)
+    (r : AfterMoves) (r_is : Demand3 ms m (config_from settings) r) where
   abbrev c : Config
-  c = config-from settings
+  c = config_from settings
 
   abbrev here : Position
-  here = position-of (games-after (game-from p) ms)
+  here = position_of (games_after (game_from p) ms)
 
   abbrev ok : Bool
-  ok = analyze-ok p ms settings answers [] report
+  ok = analyze_ok p ms settings answers [] report
 
-  here-is : here ≡ reached start ms
-  unfolding games-after
-  here-is = reached-is p [] ms settings answers report new
+  here_is : here ≡ reached start ms
+  unfolding games_after
+  here_is = reached_is p [] ms settings answers report new
 
-  found-is : found p ms settings answers [] report ≡ report-of r.report []
-  found-is =
+  found_is : found p ms settings answers [] report ≡ report_of r.report []
+  found_is =
       cc (
-        settings-reported settings m (games-after (game-from p) ms) [],
-        played-reported (scoring-of c) (settings-of c) ms (responses-of m.responses),
+        settings_reported settings m (games_after (game_from p) ms) [],
+        played_reported (scoring_of c) (settings_of c) ms (responses_of m.responses),
       )
 
-  number_is : (analysis here).refusal ≡ analysis-number r.analysis.answer
-  number_is = ap (λ (q : Position). (analysis q).refusal) here-is ∙ sym r-is.refusal_is
+  number_is : (analysis here).refusal ≡ analysis_number r.analysis.answer
+  number_is = ap (λ (q : Position). (analysis q).refusal) here_is ∙ sym r_is.refusal_is
 
-  byte-is : as_byte (analysis here).status ≡ r.analysis.proven.bits
-  byte-is = ap (λ (q : Position). as_byte (analysis q).status) here-is ∙ sym (ap (λ (s : Status). s.bits) r-is.status-is)
+  byte_is : as_byte (analysis here).status ≡ r.analysis.proven.bits
+  byte_is = ap (λ (q : Position). as_byte (analysis q).status) here_is ∙ sym (ap (λ (s : Status). s.bits) r_is.status_is)
 
   -- word by word
-  pub analyzed-after : (answers-after words-after report-after : List ℕ) (n : ℕ)
-      → Analyzes p ms settings answers [] report answers-after words-after report-after n
-      → report-after ≡ left ok (report-words (report-of r.report []) (analysis-number r.analysis.answer)
+  pub analyzed_after : (answers_after words_after report_after : List ℕ) (n : ℕ)
+      → Analyzes p ms settings answers [] report answers_after words_after report_after n
+      → report_after ≡ left ok (report_words (report_of r.report []) (analysis_number r.analysis.answer)
       r.analysis.proven.bits) report
-  analyzed-after answers-after words-after report-after n a =
-      a.report-is
-      ∙ ap (λ (x : Reported). left ok (report-words x (analysis here).refusal (as_byte (analysis here).status)) report) found-is
-      ∙ ap (λ (k : ℕ). left ok (report-words (report-of r.report []) k (as_byte (analysis here).status)) report) number_is
-      ∙ ap (λ (k : ℕ). left ok (report-words (report-of r.report []) (analysis-number r.analysis.answer) k) report) byte-is
+  analyzed_after answers_after words_after report_after n a =
+      a.report_is
+      ∙ ap (λ (x : Reported). left ok (report_words x (analysis here).refusal (as_byte (analysis here).status)) report) found_is
+      ∙ ap (λ (k : ℕ). left ok (report_words (report_of r.report []) k (as_byte (analysis here).status)) report) number_is
+      ∙ ap (λ (k : ℕ). left ok (report_words (report_of r.report []) (analysis_number r.analysis.answer) k) report) byte_is

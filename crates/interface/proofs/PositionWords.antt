@@ -10,26 +10,26 @@ use lib.ListN.{length, get_or, drop, drop_of_length-le}
 use lib.Seq.{drop-cons}
 use Rattle.base.specs.Lists.{all}
 use Rattle.base.proofs.Bool.{and→, →and}
-use Rattle.game.specs.Neat.{neat-row, neat-next, neat}
+use Rattle.game.specs.Neat.{neat_row, neat_next, neat}
 use Rattle.game.proofs.Neat.{neat→}
 use borrow.Author.Tests.{le-leb, lt-leb, ne_eqb}
 use Rattle.rules.specs.declared.Player.{Player}
 use Rattle.rules.specs.declared.Player.TheVariants.{X, O}
 use Rattle.rules.specs.declared.GameState.{GameState}
 use Rattle.rules.specs.declared.GameState.TheVariants.{InPlay, Drawn, Won}
-use Rattle.rules.specs.Board.{side-number, side-from, state-number}
+use Rattle.rules.specs.Board.{side_number, side_from, state_number}
 use Rattle.boards.specs.declared.local.Row.{Row}
 use Rattle.rules.specs.declared.NextBoard.{NextBoard}
 use Rattle.rules.specs.declared.NextBoard.TheVariants.{Any, Only}
 use Rattle.game.specs.declared.Game.{Game}
-use Rattle.interface.specs.Position.{next-board-word, row_words, words_of, next-board-from, state-from, row_from}
-use Rattle.interface.specs.Position.{game-from, most, all-within, is-position}
+use Rattle.interface.specs.Position.{next_board_word, row_words, words_of, next_board_from, state_from, row_from}
+use Rattle.interface.specs.Position.{game_from, most, all_within, is_position}
 
-pub within-short : (bs ws : List ℕ) → length ws < length bs → false ≡ all-within bs ws
-unfolding all-within
-within-short [] ws h = absurd (omega arith)
-within-short (b ∷ bs) [] h = refl
-within-short (b ∷ bs) (w ∷ ws) h = rest (leb w b) (all-within bs ws) (within-short bs ws (omega arith))
+pub within_short : (bs ws : List ℕ) → length ws < length bs → false ≡ all_within bs ws
+unfolding all_within
+within_short [] ws h = absurd (omega arith)
+within_short (b ∷ bs) [] h = refl
+within_short (b ∷ bs) (w ∷ ws) h = rest (leb w b) (all_within bs ws) (within_short bs ws (omega arith))
   where
     rest : (a t : Bool) → false ≡ t → false ≡ (a && t)
     rest true t e = e
@@ -37,73 +37,73 @@ within-short (b ∷ bs) (w ∷ ws) h = rest (leb w b) (all-within bs ws) (within
 
 -- one place on
 within_step : (bs ws : List ℕ) (i : ℕ) → i < length bs → i < length ws →
-    all-within (drop i bs) (drop i ws) ≡ (leb (get_or ws i 0) (get_or bs i 0) && all-within (drop (suc i) bs) (drop (suc i) ws))
-unfolding all-within
+    all_within (drop i bs) (drop i ws) ≡ (leb (get_or ws i 0) (get_or bs i 0) && all_within (drop (suc i) bs) (drop (suc i) ws))
+unfolding all_within
 within_step bs ws i h k =
-    ap (λ (l : List ℕ). all-within l (drop i ws)) (drop-cons bs i 0 h) ∙ ap (all-within (get_or bs i 0 ∷ drop (suc i) bs))
+    ap (λ (l : List ℕ). all_within l (drop i ws)) (drop-cons bs i 0 h) ∙ ap (all_within (get_or bs i 0 ∷ drop (suc i) bs))
     (drop-cons ws i 0 k)
 
-pub within-over : (bs ws : List ℕ) (i : ℕ) → i < length bs → i < length ws → get_or bs i 0 < get_or ws i 0 →
-    all-within (drop i bs) (drop i ws) ≡ false
-within-over bs ws i h k o =
-    within_step bs ws i h k ∙ ap (λ (t : Bool). t && all-within (drop (suc i) bs) (drop (suc i) ws))
+pub within_over : (bs ws : List ℕ) (i : ℕ) → i < length bs → i < length ws → get_or bs i 0 < get_or ws i 0 →
+    all_within (drop i bs) (drop i ws) ≡ false
+within_over bs ws i h k o =
+    within_step bs ws i h k ∙ ap (λ (t : Bool). t && all_within (drop (suc i) bs) (drop (suc i) ws))
     (lt-leb (get_or ws i 0) (get_or bs i 0) o)
 
-pub within-under : (bs ws : List ℕ) (i : ℕ) → i < length bs → i < length ws → get_or ws i 0 ≤ get_or bs i 0 →
-    all-within (drop i bs) (drop i ws) ≡ all-within (drop (i + 1) bs) (drop (i + 1) ws)
-within-under bs ws i h k o =
-    within_step bs ws i h k ∙ ap (λ (t : Bool). t && all-within (drop (suc i) bs) (drop (suc i) ws))
+pub within_under : (bs ws : List ℕ) (i : ℕ) → i < length bs → i < length ws → get_or ws i 0 ≤ get_or bs i 0 →
+    all_within (drop i bs) (drop i ws) ≡ all_within (drop (i + 1) bs) (drop (i + 1) ws)
+within_under bs ws i h k o =
+    within_step bs ws i h k ∙ ap (λ (t : Bool). t && all_within (drop (suc i) bs) (drop (suc i) ws))
     (le-leb (get_or ws i 0) (get_or bs i 0) o)
-    ∙ sym (ap (λ (n : ℕ). all-within (drop n bs) (drop n ws)) (add-one i))
+    ∙ sym (ap (λ (n : ℕ). all_within (drop n bs) (drop n ws)) (add-one i))
 
-pub within_end : (bs ws : List ℕ) (i : ℕ) → length bs ≤ i → all-within (drop i bs) (drop i ws) ≡ true
-unfolding all-within
-within_end bs ws i h = ap (λ (l : List ℕ). all-within l (drop i ws)) (drop_of_length-le bs h)
+pub within_end : (bs ws : List ℕ) (i : ℕ) → length bs ≤ i → all_within (drop i bs) (drop i ws) ≡ true
+unfolding all_within
+within_end bs ws i h = ap (λ (l : List ℕ). all_within l (drop i ws)) (drop_of_length-le bs h)
 
 -- each word is within its bound
-pub within-at : (bs ws : List ℕ) → T (all-within bs ws) → (k : ℕ) → k < length bs → get_or ws k 0 ≤ get_or bs k 0
-unfolding all-within
-within-at [] ws t k h = absurd (omega arith)
-within-at (b ∷ bs) [] t k h = absurd t
-within-at (b ∷ bs) (w ∷ ws) t zero h = leb→le w b (first (leb w b) (all-within bs ws) t)
+pub within_at : (bs ws : List ℕ) → T (all_within bs ws) → (k : ℕ) → k < length bs → get_or ws k 0 ≤ get_or bs k 0
+unfolding all_within
+within_at [] ws t k h = absurd (omega arith)
+within_at (b ∷ bs) [] t k h = absurd t
+within_at (b ∷ bs) (w ∷ ws) t zero h = leb→le w b (first (leb w b) (all_within bs ws) t)
   where
     first : (x y : Bool) → T (x && y) → T x
     first true y s = tt
     first false y s = s
-within-at (b ∷ bs) (w ∷ ws) t (suc k) h = within-at bs ws (second (leb w b) (all-within bs ws) t) k (omega arith)
+within_at (b ∷ bs) (w ∷ ws) t (suc k) h = within_at bs ws (second (leb w b) (all_within bs ws) t) k (omega arith)
   where
     second : (x y : Bool) → T (x && y) → T y
     second true y s = s
     second false y s = absurd s
 
-pub within-long : (bs ws : List ℕ) → T (all-within bs ws) → length bs ≤ length ws
-unfolding all-within
-within-long [] ws t = omega arith
-within-long (b ∷ bs) [] t = absurd t
-within-long (b ∷ bs) (w ∷ ws) t =
-    let h : length bs ≤ length ws = within-long bs ws (and→ (leb w b) (all-within bs ws) t).1 in omega arith
+pub within_long : (bs ws : List ℕ) → T (all_within bs ws) → length bs ≤ length ws
+unfolding all_within
+within_long [] ws t = omega arith
+within_long (b ∷ bs) [] t = absurd t
+within_long (b ∷ bs) (w ∷ ws) t =
+    let h : length bs ≤ length ws = within_long bs ws (and→ (leb w b) (all_within bs ws) t).1 in omega arith
 
 -- ---- the twelve words of a position
-module _ (ws : List ℕ) (t : T (is-position ws)) where
+module _ (ws : List ℕ) (t : T (is_position ws)) where
   pub twelve : 12 ≤ length ws
-  twelve = within-long most ws t
+  twelve = within_long most ws t
 
-  pub word-most : (k : ℕ) → k < 12 → get_or ws k 0 ≤ get_or most k 0
-  word-most = within-at most ws t
+  pub word_most : (k : ℕ) → k < 12 → get_or ws k 0 ≤ get_or most k 0
+  word_most = within_at most ws t
 
 -- ---- the words of a game, and a game of words, from their parts
 abbrev row_at : List Row → ℕ → Row
 row_at rs k = get_or rs k (record { x = 0; o = 0 })
 
-six-words : (rs : List Row) (ws : List ℕ) (a b c d e f : ℕ) → length rs ≡ 3
+six_words : (rs : List Row) (ws : List ℕ) (a b c d e f : ℕ) → length rs ≡ 3
     → a ≡ (row_at rs 0).x → b ≡ (row_at rs 0).o → c ≡ (row_at rs 1).x → d ≡ (row_at rs 1).o → e ≡ (row_at rs 2).x →
     f ≡ (row_at rs 2).o
     → a ∷ b ∷ c ∷ d ∷ e ∷ f ∷ ws ≡ row_words rs ++ ws
-six-words [] ws a b c d e f n p q r s t u = absurd (omega arith)
-six-words (x ∷ []) ws a b c d e f n p q r s t u = absurd (omega arith)
-six-words (x ∷ y ∷ []) ws a b c d e f n p q r s t u = absurd (omega arith)
-six-words (x ∷ y ∷ z ∷ []) ws a b c d e f n p q r s t u = cc
-six-words (x ∷ y ∷ z ∷ v ∷ rs) ws a b c d e f n p q r s t u = absurd (omega arith)
+six_words [] ws a b c d e f n p q r s t u = absurd (omega arith)
+six_words (x ∷ []) ws a b c d e f n p q r s t u = absurd (omega arith)
+six_words (x ∷ y ∷ []) ws a b c d e f n p q r s t u = absurd (omega arith)
+six_words (x ∷ y ∷ z ∷ []) ws a b c d e f n p q r s t u = cc
+six_words (x ∷ y ∷ z ∷ v ∷ rs) ws a b c d e f n p q r s t u = absurd (omega arith)
 
 module _ (g : Game) where
   abbrev rs : List Row
@@ -113,20 +113,20 @@ module _ (g : Game) where
   abbrev last : ℕ → ℕ → ℕ → List ℕ
   last who due state = g.global_states.x ∷ g.global_states.o ∷ who ∷ due ∷ state ∷ g.hash ∷ []
 
-  pub words-made : (a b c d e f who due state : ℕ) → length rs ≡ 3
+  pub words_made : (a b c d e f who due state : ℕ) → length rs ≡ 3
       → a ≡ (row_at rs 0).x → b ≡ (row_at rs 0).o → c ≡ (row_at rs 1).x → d ≡ (row_at rs 1).o → e ≡ (row_at rs 2).x →
       f ≡ (row_at rs 2).o
-      → who ≡ side-number g.next_player → due ≡ next-board-word g.next_board →
-      state ≡ state-number g.game_state
+      → who ≡ side_number g.next_player → due ≡ next_board_word g.next_board →
+      state ≡ state_number g.game_state
       → a ∷ b ∷ c ∷ d ∷ e ∷ f ∷ last who due state ≡ words_of g
-  words-made a b c d e f who due state n p q r s t u v w x =
-      six-words rs (last who due state) a b c d e f n p q r s t u
+  words_made a b c d e f who due state n p q r s t u v w x =
+      six_words rs (last who due state) a b c d e f n p q r s t u
       ∙ ap (λ (k : ℕ). row_words rs ++ last k due state) v
-      ∙ ap (λ (k : ℕ). row_words rs ++ last (side-number g.next_player) k state) w
-      ∙ ap (λ (k : ℕ). row_words rs ++ last (side-number g.next_player) (next-board-word g.next_board) k) x
+      ∙ ap (λ (k : ℕ). row_words rs ++ last (side_number g.next_player) k state) w
+      ∙ ap (λ (k : ℕ). row_words rs ++ last (side_number g.next_player) (next_board_word g.next_board) k) x
 
-pub game-made : (ws : List ℕ) (who : Player) (next : NextBoard) (a b c : Row) (state : GameState)
-    → who ≡ side-from (get_or ws 8 0) → next ≡ next-board-from (get_or ws 9 0) → state ≡ state-from (get_or ws 10 0)
+pub game_made : (ws : List ℕ) (who : Player) (next : NextBoard) (a b c : Row) (state : GameState)
+    → who ≡ side_from (get_or ws 8 0) → next ≡ next_board_from (get_or ws 9 0) → state ≡ state_from (get_or ws 10 0)
     → a ≡ row_from ws 0 → b ≡ row_from ws 2 → c ≡ row_from ws 4
     → ◌≡◌ {A = Game} (record {
       next_player = who;
@@ -135,32 +135,32 @@ pub game-made : (ws : List ℕ) (who : Player) (next : NextBoard) (a b c : Row) 
       global_states = record { x = get_or ws 6 0; o = get_or ws 7 0 };
       game_state = state;
       hash = get_or ws 11 0;
-    }) (game-from ws)
-unfolding game-from
-game-made ws who next a b c state p q r s t u = simp (p, q, r, s, t, u)
+    }) (game_from ws)
+unfolding game_from
+game_made ws who next a b c state p q r s t u = simp (p, q, r, s, t, u)
 
 -- ---- a game comes back from a slice that its words were left in: three rows, and a due board that is a byte
-side-back : (w : Player) → side-from (side-number w) ≡ w
-side-back X = refl
-side-back O = refl
+side_back : (w : Player) → side_from (side_number w) ≡ w
+side_back X = refl
+side_back O = refl
 
-state-back : (s : GameState) → state-from (state-number s) ≡ s
-state-back InPlay = refl
-state-back Drawn = refl
-state-back (Won X) = refl
-state-back (Won O) = refl
+state_back : (s : GameState) → state_from (state_number s) ≡ s
+state_back InPlay = refl
+state_back Drawn = refl
+state_back (Won X) = refl
+state_back (Won O) = refl
 
 abbrev pub Byte : NextBoard → Type 0
 Byte Any = Unit {0}
 Byte (Only b) = b < 256
 
-due-back : (n : NextBoard) → Byte n → next-board-from (next-board-word n) ≡ n
-due-back Any h = refl
-due-back (Only b) h = simp (ne_eqb b 256 (λ e. omega arith))
+due_back : (n : NextBoard) → Byte n → next_board_from (next_board_word n) ≡ n
+due_back Any h = refl
+due_back (Only b) h = simp (ne_eqb b 256 (λ e. omega arith))
 
 slice_back : (who : Player) (next : NextBoard) (rs : List Row) (x o : ℕ) (state : GameState) (h : ℕ) (rest : List ℕ) →
     length rs ≡ 3 → Byte next
-    → game-from (words_of
+    → game_from (words_of
     (record {
       next_player = who;
       next_board = next;
@@ -177,21 +177,21 @@ slice_back : (who : Player) (next : NextBoard) (rs : List Row) (x o : ℕ) (stat
       game_state = state;
       hash = h;
     }
-unfolding game-from
+unfolding game_from
 slice_back who next [] x o state h rest n k = absurd (omega arith)
 slice_back who next (a ∷ []) x o state h rest n k = absurd (omega arith)
 slice_back who next (a ∷ b ∷ []) x o state h rest n k = absurd (omega arith)
-slice_back who next (a ∷ b ∷ c ∷ []) x o state h rest n k = simp (side-back who, due-back next k, state-back state)
+slice_back who next (a ∷ b ∷ c ∷ []) x o state h rest n k = simp (side_back who, due_back next k, state_back state)
 slice_back who next (a ∷ b ∷ c ∷ d ∷ rs) x o state h rest n k = absurd (omega arith)
 
-pub slice-comes-back : (g : Game) (rest : List ℕ) → length g.local_boards.rows ≡ 3 → Byte g.next_board →
-    game-from (words_of g ++ rest) ≡ g
-slice-comes-back g rest =
+pub slice_comes_back : (g : Game) (rest : List ℕ) → length g.local_boards.rows ≡ 3 → Byte g.next_board →
+    game_from (words_of g ++ rest) ≡ g
+slice_comes_back g rest =
     slice_back g.next_player g.next_board g.local_boards.rows g.global_states.x g.global_states.o
     g.game_state g.hash rest
 
 -- ---- the words of a neat game are a position, whatever follows them: so a call takes what another has left
-row_fits : (r : Row) → T (neat-row r) → (r.x ≤ 0xffff_ffff) × (r.o ≤ 0xffff_ffff)
+row_fits : (r : Row) → T (neat_row r) → (r.x ≤ 0xffff_ffff) × (r.o ≤ 0xffff_ffff)
 row_fits r t =
     let a = and→ (ltb r.x (2 ^ 27)) _ t in
     let b = and→ (ltb r.o (2 ^ 27)) _ a.1 in
@@ -199,23 +199,23 @@ row_fits r t =
     let o = ltb→lt r.o (2 ^ 27) b.0 in
     (omega (arith, x), omega (arith, o))
 
-side-fits : (w : Player) → T (leb (side-number w) 1)
-side-fits X = tt
-side-fits O = tt
+side_fits : (w : Player) → T (leb (side_number w) 1)
+side_fits X = tt
+side_fits O = tt
 
-due-fits : (n : NextBoard) → T (neat-next n) → T (leb (next-board-word n) 256)
-due-fits Any t = tt
-due-fits (Only b) t = le→leb b 256 (let h = ltb→lt b 9 t in omega (arith, h))
+due_fits : (n : NextBoard) → T (neat_next n) → T (leb (next_board_word n) 256)
+due_fits Any t = tt
+due_fits (Only b) t = le→leb b 256 (let h = ltb→lt b 9 t in omega (arith, h))
 
-state-fits : (s : GameState) → T (leb (state-number s) 3)
-state-fits InPlay = tt
-state-fits Drawn = tt
-state-fits (Won X) = tt
-state-fits (Won O) = tt
+state_fits : (s : GameState) → T (leb (state_number s) 3)
+state_fits InPlay = tt
+state_fits Drawn = tt
+state_fits (Won X) = tt
+state_fits (Won O) = tt
 
 fits : (who : Player) (next : NextBoard) (rs : List Row) (x o : ℕ) (state : GameState) (h : ℕ) (rest : List ℕ)
-    → T (neat-next next) → length rs ≡ 3 → T (all neat-row rs) → x < 2 ^ 9 → o < 2 ^ 9 → h ≤ 0xffff_ffff_ffff_ffff
-    → T (is-position (words_of
+    → T (neat_next next) → length rs ≡ 3 → T (all neat_row rs) → x < 2 ^ 9 → o < 2 ^ 9 → h ≤ 0xffff_ffff_ffff_ffff
+    → T (is_position (words_of
     (record {
       next_player = who;
       next_board = next;
@@ -224,14 +224,14 @@ fits : (who : Player) (next : NextBoard) (rs : List Row) (x o : ℕ) (state : Ga
       game_state = state;
       hash = h;
     }) ++ rest))
-unfolding all-within all
+unfolding all_within all
 fits who next [] x o state h rest d n t p q w = absurd (omega arith)
 fits who next (a ∷ []) x o state h rest d n t p q w = absurd (omega arith)
 fits who next (a ∷ b ∷ []) x o state h rest d n t p q w = absurd (omega arith)
 fits who next (a ∷ b ∷ c ∷ []) x o state h rest d n t p q w =
-    let t₁ = and→ (neat-row a) _ t in
-    let t₂ = and→ (neat-row b) _ t₁.1 in
-    let t₃ = and→ (neat-row c) _ t₂.1 in
+    let t₁ = and→ (neat_row a) _ t in
+    let t₂ = and→ (neat_row b) _ t₁.1 in
+    let t₃ = and→ (neat_row c) _ t₂.1 in
     let i = row_fits a t₁.0 in
     let j = row_fits b t₂.0 in
     let k = row_fits c t₃.0 in
@@ -239,13 +239,13 @@ fits who next (a ∷ b ∷ c ∷ []) x o state h rest d n t p q w =
     (→and (leb b.x 0xffff_ffff) _ (le→leb _ _ j.0) (→and (leb b.o 0xffff_ffff) _ (le→leb _ _ j.1)
     (→and (leb c.x 0xffff_ffff) _ (le→leb _ _ k.0) (→and (leb c.o 0xffff_ffff) _ (le→leb _ _ k.1)
     (→and (leb x 0xffff) _ (le→leb x 0xffff (omega arith)) (→and (leb o 0xffff) _ (le→leb o 0xffff (omega arith))
-    (→and (leb (side-number who) 1) _ (side-fits who) (→and (leb (next-board-word next) 256) _ (due-fits next d)
-    (→and (leb (state-number state) 3) _ (state-fits state) (→and (leb h 0xffff_ffff_ffff_ffff) _ (le→leb _ _ w) tt)))))))))))
+    (→and (leb (side_number who) 1) _ (side_fits who) (→and (leb (next_board_word next) 256) _ (due_fits next d)
+    (→and (leb (state_number state) 3) _ (state_fits state) (→and (leb h 0xffff_ffff_ffff_ffff) _ (le→leb _ _ w) tt)))))))))))
 fits who next (a ∷ b ∷ c ∷ e ∷ es) x o state h rest d n t p q w = absurd (omega arith)
 
-pub neat-is-position : (g : Game) (rest : List ℕ) → T (neat g) → g.hash ≤ 0xffff_ffff_ffff_ffff →
-    T (is-position (words_of g ++ rest))
-neat-is-position g rest t = let n = neat→ g t in
+pub neat_is_position : (g : Game) (rest : List ℕ) → T (neat g) → g.hash ≤ 0xffff_ffff_ffff_ffff →
+    T (is_position (words_of g ++ rest))
+neat_is_position g rest t = let n = neat→ g t in
     fits g.next_player g.next_board g.local_boards.rows g.global_states.x g.global_states.o
     g.game_state g.hash rest
     n.next n.three n.each n.xs n.os

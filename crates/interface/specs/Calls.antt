@@ -3,120 +3,120 @@ use Rattle.std.specs.Prelude.{◌≡◌, Bool, cond, ◌&&◌, List, [], ◌∷�
 use Rattle.base.specs.Branch.{if◌then◌else◌}
 use Rattle.rules.specs.Status.{as_byte}
 use Rattle.rules.specs.Endgame.{analysis}
-use Rattle.rules.specs.Evaluation.{Evaluated, scoring-with, evaluated}
+use Rattle.rules.specs.Evaluation.{Evaluated, scoring_with, evaluated}
 use Rattle.theory.specs.Table.{to_word}
 use Rattle.theory.specs.Memory.{Responses}
 use Rattle.theory.specs.Deepening.{Stats}
 use Rattle.theory.specs.Reported.{Reported, reported}
-use Rattle.text.specs.Reading.{Reading, reads, refuses, text-refusal, read}
+use Rattle.text.specs.Reading.{Reading, reads, refuses, text_refusal, read}
 use Rattle.text.specs.Writing.{text_of}
 use Rattle.game.specs.declared.Game.{Game}
-use Rattle.game.specs.Meaning.{position-of}
-use Rattle.game.specs.Built.{new-game}
-use Rattle.game.specs.After.{games-after, answers-each}
-use Rattle.notation.specs.Parsed.{game-for}
+use Rattle.game.specs.Meaning.{position_of}
+use Rattle.game.specs.Built.{new_game}
+use Rattle.game.specs.After.{games_after, answers_each}
+use Rattle.notation.specs.Parsed.{game_for}
 use Rattle.minimax.specs.Structs.{structs}
-use Rattle.program_line.specs.Answered.{answer-line}
+use Rattle.program_line.specs.Answered.{answer_line}
 use Rattle.interface.specs.Lent.{returned, left}
-use Rattle.interface.specs.Position.{words_of, game-from, is-position}
-use Rattle.interface.specs.Settings.{draws-from, weights-from, settings-from, scoring-from, settings-ok}
+use Rattle.interface.specs.Position.{words_of, game_from, is_position}
+use Rattle.interface.specs.Settings.{draws_from, weights_from, settings_from, scoring_from, settings_ok}
 
 -- ---- ultimattt_answer: the program's answer to a line
 module _ (line out : List ℕ) where
-  pub record Answers (out-after : List ℕ) (r : ℕ) : Type 0 where
-    pub returns : r ≡ length (answer-line line)
-    pub out-is : out-after ≡ left (leb (length (answer-line line)) (length out)) (answer-line line) out
+  pub record Answers (out_after : List ℕ) (r : ℕ) : Type 0 where
+    pub returns : r ≡ length (answer_line line)
+    pub out_is : out_after ≡ left (leb (length (answer_line line)) (length out)) (answer_line line) out
 
 -- ---- ultimattt_new: the empty board
-pub record Starts (position position-after : List ℕ) (r : ℕ) : Type 0 where
+pub record Starts (position position_after : List ℕ) (r : ℕ) : Type 0 where
   pub returns : r ≡ returned (leb 12 (length position)) 0
-  pub position-is : position-after ≡ left (leb 12 (length position)) (words_of new-game) position
+  pub position_is : position_after ≡ left (leb 12 (length position)) (words_of new_game) position
 
 -- ---- ultimattt_read: a text, as a position
-abbrev pub read-place : Reading → List ℕ
-read-place (reads p) = 0 ∷ 0 ∷ []
-read-place (refuses n offset size) = offset ∷ size ∷ []
+abbrev pub read_place : Reading → List ℕ
+read_place (reads p) = 0 ∷ 0 ∷ []
+read_place (refuses n offset size) = offset ∷ size ∷ []
 
 module _ (text position place : List ℕ) where
   abbrev pub read_ok : Bool
   read_ok = leb 12 (length position) && leb 2 (length place)
 
-  pub record ReadsPosition (position-after place_after : List ℕ) (r : ℕ) : Type 0 where
-    pub returns : r ≡ returned read_ok (text-refusal (read text))
-    pub position-is : position-after ≡ left read_ok (words_of (game-for (read text))) position
-    pub place_is : place_after ≡ left read_ok (read-place (read text)) place
+  pub record ReadsPosition (position_after place_after : List ℕ) (r : ℕ) : Type 0 where
+    pub returns : r ≡ returned read_ok (text_refusal (read text))
+    pub position_is : position_after ≡ left read_ok (words_of (game_for (read text))) position
+    pub place_is : place_after ≡ left read_ok (read_place (read text)) place
 
 -- ---- ultimattt_render: a position, as a text
 module _ (position out : List ℕ) where
-  abbrev pub render-ok : Bool
-  render-ok = is-position position && leb 101 (length out)
+  abbrev pub render_ok : Bool
+  render_ok = is_position position && leb 101 (length out)
 
-  pub record Renders (out-after : List ℕ) (r : ℕ) : Type 0 where
-    pub returns : r ≡ returned render-ok 0
-    pub out-is : out-after ≡ left render-ok (text_of (position-of (game-from position))) out
+  pub record Renders (out_after : List ℕ) (r : ℕ) : Type 0 where
+    pub returns : r ≡ returned render_ok 0
+    pub out_is : out_after ≡ left render_ok (text_of (position_of (game_from position))) out
 
 -- ---- ultimattt_play: moves, tried one after the other; each is answered by 9 to 13, or by 0 where it is played
 module _ (position moves answers : List ℕ) where
-  abbrev pub play-ok : Bool
-  play-ok = is-position position && leb (length moves) (length answers)
+  abbrev pub play_ok : Bool
+  play_ok = is_position position && leb (length moves) (length answers)
 
-  pub record PlaysAll (position-after answers-after : List ℕ) (r : ℕ) : Type 0 where
-    pub returns : r ≡ returned play-ok 0
-    pub position-is : position-after ≡ left play-ok (words_of (games-after (game-from position) moves)) position
-    pub answers-is : answers-after ≡ left play-ok (answers-each (game-from position) moves) answers
+  pub record PlaysAll (position_after answers_after : List ℕ) (r : ℕ) : Type 0 where
+    pub returns : r ≡ returned play_ok 0
+    pub position_is : position_after ≡ left play_ok (words_of (games_after (game_from position) moves)) position
+    pub answers_is : answers_after ≡ left play_ok (answers_each (game_from position) moves) answers
 
 -- ---- ultimattt_analyze: endgame analysis and search after tried moves
 -- the response tables as bytes: to X's moves, then to O's
-abbrev pub responses-from : List ℕ → Responses
-responses-from bytes = record { to-x = take 256 bytes; to-o = take 256 (drop 256 bytes) }
+abbrev pub responses_from : List ℕ → Responses
+responses_from bytes = record { to_x = take 256 bytes; to_o = take 256 (drop 256 bytes) }
 
-abbrev pub responses-bytes : Responses → List ℕ
-responses-bytes rs = rs.to-x ++ rs.to-o
+abbrev pub responses_bytes : Responses → List ℕ
+responses_bytes rs = rs.to_x ++ rs.to_o
 
-abbrev pub stats-words : Stats → List ℕ
-stats-words s =
-    s.depth ∷ to_word s.score ∷ s.tally.visited ∷ s.tally.terminal ∷ s.tally.cuts ∷ s.tally.tt-hit ∷
-    s.tally.tt-suffice ∷ []
+abbrev pub stats_words : Stats → List ℕ
+stats_words s =
+    s.depth ∷ to_word s.score ∷ s.tally.visited ∷ s.tally.terminal ∷ s.tally.cuts ∷ s.tally.tt_hit ∷
+    s.tally.tt_suffice ∷ []
 
-unfoldable pub all-stats : List Stats → List ℕ
-all-stats [] = []
-all-stats (s ∷ ss) = stats-words s ++ all-stats ss
+unfoldable pub all_stats : List Stats → List ℕ
+all_stats [] = []
+all_stats (s ∷ ss) = stats_words s ++ all_stats ss
 
 -- of the search, and of the endgame analysis, by its number and its status byte
-abbrev pub head-words : Reported → ℕ → ℕ → List ℕ
-head-words x refusal status =
-    x.number ∷ cond x.is-stopped 1 0 ∷ x.depth ∷ to_word x.score ∷ x.count ∷ refusal ∷ status ∷ []
+abbrev pub head_words : Reported → ℕ → ℕ → List ℕ
+head_words x refusal status =
+    x.number ∷ cond x.is_stopped 1 0 ∷ x.depth ∷ to_word x.score ∷ x.count ∷ refusal ∷ status ∷ []
 
 -- then the line's moves, and seven words for each depth
-abbrev pub report-words : Reported → ℕ → ℕ → List ℕ
-report-words x refusal status = head-words x refusal status ++ (x.pv ++ all-stats x.stats)
+abbrev pub report_words : Reported → ℕ → ℕ → List ℕ
+report_words x refusal status = head_words x refusal status ++ (x.pv ++ all_stats x.stats)
 
 module _ (position moves settings responses words report : List ℕ) where
-  abbrev pub analyze-ok : Bool
-  analyze-ok = is-position position && (settings-ok settings && (leb 512 (length responses) && leb 655 (length report)))
+  abbrev pub analyze_ok : Bool
+  analyze_ok = is_position position && (settings_ok settings && (leb 512 (length responses) && leb 655 (length report)))
 
   abbrev pub analysed : Game
-  analysed = games-after (game-from position) moves
+  analysed = games_after (game_from position) moves
 
   abbrev pub found : Reported
-  found = reported (structs (scoring-from settings)) (settings-from settings) analysed (responses-from responses) words
+  found = reported (structs (scoring_from settings)) (settings_from settings) analysed (responses_from responses) words
 
-  pub record Analyzes (responses-after words-after report-after : List ℕ) (r : ℕ) : Type 0 where
-    pub returns : r ≡ returned analyze-ok found.number
-    pub responses-is : responses-after ≡ left analyze-ok (responses-bytes found.responses) responses
-    pub words-is : words-after ≡ (if analyze-ok then (λ _. found.table) else λ _. words)
-    pub report-is :
-        report-after ≡ left analyze-ok (report-words found (analysis (position-of analysed)).refusal
-        (as_byte (analysis (position-of analysed)).status)) report
+  pub record Analyzes (responses_after words_after report_after : List ℕ) (r : ℕ) : Type 0 where
+    pub returns : r ≡ returned analyze_ok found.number
+    pub responses_is : responses_after ≡ left analyze_ok (responses_bytes found.responses) responses
+    pub words_is : words_after ≡ (if analyze_ok then (λ _. found.table) else λ _. words)
+    pub report_is :
+        report_after ≡ left analyze_ok (report_words found (analysis (position_of analysed)).refusal
+        (as_byte (analysis (position_of analysed)).status)) report
 
 -- ---- ultimattt_evaluate: the evaluation alone
 module _ (position : List ℕ) (draws : ℕ) (weights score : List ℕ) where
-  abbrev pub evaluate-ok : Bool
-  evaluate-ok = is-position position && (leb draws 2 && (leb 3 (length weights) && leb 1 (length score)))
+  abbrev pub evaluate_ok : Bool
+  evaluate_ok = is_position position && (leb draws 2 && (leb 3 (length weights) && leb 1 (length score)))
 
   abbrev pub valued : Evaluated
-  valued = evaluated (scoring-with (draws-from draws) (weights-from weights)) (position-of (game-from position))
+  valued = evaluated (scoring_with (draws_from draws) (weights_from weights)) (position_of (game_from position))
 
-  pub record EvaluatesPosition (score-after : List ℕ) (r : ℕ) : Type 0 where
-    pub returns : r ≡ returned evaluate-ok valued.refusal
-    pub score-is : score-after ≡ left evaluate-ok (to_word valued.value ∷ []) score
+  pub record EvaluatesPosition (score_after : List ℕ) (r : ℕ) : Type 0 where
+    pub returns : r ≡ returned evaluate_ok valued.refusal
+    pub score_is : score_after ≡ left evaluate_ok (to_word valued.value ∷ []) score

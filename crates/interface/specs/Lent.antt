@@ -4,11 +4,11 @@ use Rattle.std.proofs.lemmas.List.Edits.{sets}
 use Rattle.base.specs.Branch.{if◌then◌else◌}
 
 -- a slice is too short, words are no position, or a draw winner is over 2
-abbrev pub bad-argument : ℕ
-bad-argument = 255
+abbrev pub bad_argument : ℕ
+bad_argument = 255
 
 unfoldable pub returned : Bool → ℕ → ℕ
-returned ok n = if ok then (λ _. n) else λ _. bad-argument
+returned ok n = if ok then (λ _. n) else λ _. bad_argument
 
 -- xs in the first places and the rest as it was; asked wrongly, all as it was
 unfoldable pub left : Bool → List ℕ → List ℕ → List ℕ

@@ -2,16 +2,16 @@
 use Rattle.std.specs.Prelude.{Bool, true, false, cond, ◌&&◌, List, [], ◌∷◌, ◌++◌, ℕ, ◌+◌, ◌-◌, eqb, leb, get_or}
 use Rattle.rules.specs.declared.GameState.{GameState}
 use Rattle.rules.specs.declared.GameState.TheVariants.{InPlay, Drawn, Won}
-use Rattle.rules.specs.Board.{side-number, side-from, state-number}
+use Rattle.rules.specs.Board.{side_number, side_from, state_number}
 use Rattle.boards.specs.declared.local.Row.{Row}
 use Rattle.rules.specs.declared.NextBoard.{NextBoard}
 use Rattle.rules.specs.declared.NextBoard.TheVariants.{Any, Only}
 use Rattle.game.specs.declared.Game.{Game}
 
 -- 256, which is no byte, for free choice
-abbrev pub next-board-word : NextBoard → ℕ
-next-board-word Any = 256
-next-board-word (Only b) = b
+abbrev pub next_board_word : NextBoard → ℕ
+next_board_word Any = 256
+next_board_word (Only b) = b
 
 abbrev pub row_words : List Row → List ℕ
 row_words [] = []
@@ -22,25 +22,25 @@ abbrev pub words_of : Game → List ℕ
 words_of g =
     row_words g.local_boards.rows ++
     (g.global_states.x ∷ g.global_states.o ∷
-    side-number g.next_player ∷ next-board-word g.next_board ∷ state-number g.game_state ∷ g.hash ∷ [])
+    side_number g.next_player ∷ next_board_word g.next_board ∷ state_number g.game_state ∷ g.hash ∷ [])
 
 -- ---- back
-abbrev pub next-board-from : ℕ → NextBoard
-next-board-from w = cond (eqb w 256) Any (Only w)
+abbrev pub next_board_from : ℕ → NextBoard
+next_board_from w = cond (eqb w 256) Any (Only w)
 
-abbrev pub state-from : ℕ → GameState
-state-from w = cond (eqb w 0) InPlay (cond (eqb w 1) Drawn (Won (side-from (w - 2))))
+abbrev pub state_from : ℕ → GameState
+state_from w = cond (eqb w 0) InPlay (cond (eqb w 1) Drawn (Won (side_from (w - 2))))
 
 abbrev pub row_from : List ℕ → ℕ → Row
 row_from ws k = record { x = get_or ws k 0; o = get_or ws (k + 1) 0 }
 
-unfoldable pub game-from : List ℕ → Game
-game-from ws = record {
-  next_player = side-from (get_or ws 8 0);
-  next_board = next-board-from (get_or ws 9 0);
+unfoldable pub game_from : List ℕ → Game
+game_from ws = record {
+  next_player = side_from (get_or ws 8 0);
+  next_board = next_board_from (get_or ws 9 0);
   local_boards = record { rows = row_from ws 0 ∷ row_from ws 2 ∷ row_from ws 4 ∷ [] };
   global_states = record { x = get_or ws 6 0; o = get_or ws 7 0 };
-  game_state = state-from (get_or ws 10 0);
+  game_state = state_from (get_or ws 10 0);
   hash = get_or ws 11 0;
 }
 
@@ -52,10 +52,10 @@ most =
     0xffff ∷ 0xffff ∷ 1 ∷ 256 ∷ 3 ∷ 0xffff_ffff_ffff_ffff ∷ []
 
 -- there is a word for each bound, and none is over it
-unfoldable pub all-within : List ℕ → List ℕ → Bool
-all-within [] ws = true
-all-within (b ∷ bs) [] = false
-all-within (b ∷ bs) (w ∷ ws) = leb w b && all-within bs ws
+unfoldable pub all_within : List ℕ → List ℕ → Bool
+all_within [] ws = true
+all_within (b ∷ bs) [] = false
+all_within (b ∷ bs) (w ∷ ws) = leb w b && all_within bs ws
 
-abbrev pub is-position : List ℕ → Bool
-is-position ws = all-within most ws
+abbrev pub is_position : List ℕ → Bool
+is_position ws = all_within most ws

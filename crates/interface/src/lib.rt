@@ -1,5 +1,7 @@
 // A C interface over the proved functions, on numbers and lent slices; for C a slice is a pointer and a length. Asked wrongly, a call but
 // `ultimattt_answer` returns 255 and changes nothing; a slice that is longer than needed keeps its other places.
+#![tactic(auto)]
+
 mod lent;
 mod position;
 mod report;

@@ -1,13 +1,13 @@
 // A position as twelve words, and moves tried from it.
 ghost use Rattle.std.specs.Prelude.{◌≡◌, [], ◌∷◌, ◌≤◌, T, length};
 ghost use Rattle.std.proofs.lemmas.List.Edits.{sets};
-ghost use Rattle.game.specs.After.{games-after, answers-each};
-ghost use Rattle.notation.specs.Parsed.{reading-of};
+ghost use Rattle.game.specs.After.{games_after, answers_each};
+ghost use Rattle.notation.specs.Parsed.{reading_of};
 ghost use Rattle.interface.specs.Lent.{Puts};
-ghost use Rattle.rules.specs.Board.{side-from};
-ghost use Rattle.interface.specs.Position.{next-board-word, words_of, next-board-from, state-from, game-from};
-ghost use Rattle.interface.specs.Position.{is-position};
-ghost use Rattle.interface.specs.Calls.{read-place};
+ghost use Rattle.rules.specs.Board.{side_from};
+ghost use Rattle.interface.specs.Position.{next_board_word, words_of, next_board_from, state_from, game_from};
+ghost use Rattle.interface.specs.Position.{is_position};
+ghost use Rattle.interface.specs.Calls.{read_place};
 
 use crate::lent;
 use boards::{GlobalStates, LocalBoards, Move, Row};
@@ -32,7 +32,7 @@ const MOST: [u64; 12] = [
 ];
 
 fn next_board_word(next: NextBoard) -> u64
-    ensures { result ≡ next-board-word next }
+    ensures { result ≡ next_board_word next }
 {
     match next {
         NextBoard::Any => 256,
@@ -80,7 +80,7 @@ pub(crate) fn put(out: &mut [u64], game: Game)
 }
 
 pub(crate) fn is_position(words: &[u64]) -> bool
-    ensures { result ≡ is-position words.now }
+    ensures { result ≡ is_position words.now }
 {
     if words.len() < 12 {
         return false;
@@ -94,14 +94,14 @@ pub(crate) fn is_position(words: &[u64]) -> bool
 }
 
 pub(crate) fn side_from(w: u64) -> Player
-    ensures { result ≡ side-from w }
+    ensures { result ≡ side_from w }
 {
     if w == 0 { Player::X } else { Player::O }
 }
 
 fn next_board_from(w: u64) -> NextBoard
     requires { w ≤ 256 }
-    ensures { result ≡ next-board-from w }
+    ensures { result ≡ next_board_from w }
 {
     if w == 256 {
         NextBoard::Any
@@ -111,7 +111,7 @@ fn next_board_from(w: u64) -> NextBoard
 }
 
 fn state_from(w: u64) -> GameState
-    ensures { result ≡ state-from w }
+    ensures { result ≡ state_from w }
 {
     if w == 0 {
         return GameState::InPlay;
@@ -133,8 +133,8 @@ fn row(x: u64, o: u64) -> Row
 }
 
 pub(crate) fn game_from(words: &[u64]) -> Game
-    requires { T (is-position words.now) }
-    ensures { result ≡ game-from words.now }
+    requires { T (is_position words.now) }
+    ensures { result ≡ game_from words.now }
 {
     Game {
         next_player: side_from(words[8]),
@@ -163,7 +163,7 @@ fn error_place(error: ParseError) -> [u64; 2]
 
 // Offset and length of the part that is refused.
 pub(crate) fn place(parsed: Parsed) -> [u64; 2]
-    ensures { result ≡ read-place (reading-of parsed.answer parsed.game) }
+    ensures { result ≡ read_place (reading_of parsed.answer parsed.game) }
 {
     let answer = parsed.answer;
     match answer {
@@ -175,8 +175,8 @@ pub(crate) fn place(parsed: Parsed) -> [u64; 2]
 // The game after moves, and what each is answered.
 pub(crate) fn play(game: Game, moves: &[u8], answers: &mut [u8]) -> Game
     requires { length moves.now ≤ length answers.old }
-    ensures { (result ≡ games-after game moves.now)
-        × (answers.new ≡ sets answers.old 0 (answers-each game moves.now)) }
+    ensures { (result ≡ games_after game moves.now)
+        × (answers.new ≡ sets answers.old 0 (answers_each game moves.now)) }
 {
     let mut game = game;
     for i in 0..moves.len() {

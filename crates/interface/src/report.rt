@@ -2,11 +2,11 @@
 ghost use Rattle.std.specs.Prelude.{◌≡◌, cond, [], map, ◌+◌, ◌≤◌, length, take, drop};
 ghost use Rattle.std.proofs.lemmas.List.Edits.{sets};
 ghost use Rattle.theory.specs.Limits.{console};
-ghost use Rattle.endgame.specs.Means.{analysis-number};
-ghost use Rattle.minimax.specs.Report.{stats-of, is-spent, ending-stopped, report-of, bytes_of, responses-of};
+ghost use Rattle.endgame.specs.Means.{analysis_number};
+ghost use Rattle.minimax.specs.Report.{stats_of, is_spent, ending_stopped, report_of, bytes_of, responses_of};
 ghost use Rattle.interface.specs.Lent.{Puts};
-ghost use Rattle.interface.specs.Calls.{responses-from, responses-bytes, stats-words, all-stats, head-words};
-ghost use Rattle.interface.specs.Calls.{report-words};
+ghost use Rattle.interface.specs.Calls.{responses_from, responses_bytes, stats_words, all_stats, head_words};
+ghost use Rattle.interface.specs.Calls.{report_words};
 
 use crate::lent;
 use boards::{Move, PLACES};
@@ -29,7 +29,7 @@ fn moves_from(bytes: &[u8], at: usize) -> [Move; 256]
 
 pub(crate) fn memory(responses: &[u8]) -> Minimax
     requires { 512 ≤ length responses.now }
-    ensures { responses-of result.responses ≡ responses-from responses.now }
+    ensures { responses_of result.responses ≡ responses_from responses.now }
 {
     let x = moves_from(responses, 0);
     let o = moves_from(responses, 256);
@@ -51,7 +51,7 @@ fn put_moves(out: &mut [u8], at: usize, moves: [Move; 256])
 
 pub(crate) fn put_memory(responses: &mut [u8], state: Minimax)
     requires { 512 ≤ length responses.old }
-    ensures { Puts responses.old (responses-bytes (responses-of state.responses)) 512 responses.new }
+    ensures { Puts responses.old (responses_bytes (responses_of state.responses)) 512 responses.new }
 {
     let tables = state.responses;
     let x = tables.x;
@@ -61,7 +61,7 @@ pub(crate) fn put_memory(responses: &mut [u8], state: Minimax)
 }
 
 fn spent(why: SearchError) -> u64
-    ensures { result ≡ cond (is-spent why) 1 0 }
+    ensures { result ≡ cond (is_spent why) 1 0 }
 {
     match why {
         SearchError::Depth => 0,
@@ -74,7 +74,7 @@ fn spent(why: SearchError) -> u64
 
 // 1 where the allowance stopped the search.
 fn stopped(ending: Ending) -> u64
-    ensures { result ≡ cond (ending-stopped ending) 1 0 }
+    ensures { result ≡ cond (ending_stopped ending) 1 0 }
 {
     match ending {
         Ending::Whole => 0,
@@ -85,7 +85,7 @@ fn stopped(ending: Ending) -> u64
 
 // The words before the moves.
 fn head(found: Report, analysis: Analysis) -> [u64; 7]
-    ensures { result ≡ head-words (report-of found []) (analysis-number analysis.answer) analysis.proven.bits }
+    ensures { result ≡ head_words (report_of found []) (analysis_number analysis.answer) analysis.proven.bits }
 {
     let ending = found.ending;
     let answer = analysis.answer;
@@ -119,7 +119,7 @@ fn put_line(out: &mut [u64], at: usize, line: [Move; PLACES])
 }
 
 fn stats_words(s: Stats) -> [u64; 7]
-    ensures { result ≡ stats-words (stats-of s) }
+    ensures { result ≡ stats_words (stats_of s) }
 {
     [
         s.depth,
@@ -135,7 +135,7 @@ fn stats_words(s: Stats) -> [u64; 7]
 // Seven words for each depth, from a place on.
 fn put_stats(out: &mut [u64], at: usize, stats: [Stats; PLACES])
     requires { at + 567 ≤ length out.old }
-    ensures { out.new ≡ sets out.old at (all-stats (map stats-of stats)) }
+    ensures { out.new ≡ sets out.old at (all_stats (map stats_of stats)) }
 {
     for i in 0..PLACES {
         let words = stats_words(stats[i]);
@@ -146,7 +146,7 @@ fn put_stats(out: &mut [u64], at: usize, stats: [Stats; PLACES])
 pub(crate) fn put(out: &mut [u64], found: Report, analysis: Analysis)
     requires { 655 ≤ length out.old }
     ensures { Puts out.old
-        (report-words (report-of found []) (analysis-number analysis.answer) analysis.proven.bits) 655 out.new }
+        (report_words (report_of found []) (analysis_number analysis.answer) analysis.proven.bits) 655 out.new }
 {
     let line = found.pv;
     let stats = found.stats;

@@ -1,13 +1,13 @@
 // Settings and weights from lent words.
 ghost use Rattle.std.specs.Prelude.{◌≡◌, ◌+◌, ◌≤◌, min, length, drop};
-ghost use Rattle.interface.specs.Settings.{draws-from, weights-from, held-weights, config-from};
+ghost use Rattle.interface.specs.Settings.{draws_from, weights_from, held_weights, config_from};
 
 use crate::position::side_from;
 use minimax::Config;
 use rules::{DrawWinner, Weights};
 
 pub(crate) fn draws_from(w: u64) -> DrawWinner
-    ensures { result ≡ draws-from w }
+    ensures { result ≡ draws_from w }
 {
     if w == 0 {
         return DrawWinner::Nobody;
@@ -28,7 +28,7 @@ fn weight_from(w: u64) -> u16
 // Three weights, from a place on.
 pub(crate) fn weights_from(words: &[u64], at: usize) -> Weights
     requires { at + 3 ≤ length words.now }
-    ensures { result ≡ held-weights (weights-from (drop at words.now)) }
+    ensures { result ≡ held_weights (weights_from (drop at words.now)) }
 {
     Weights {
         one: weight_from(words[at]),
@@ -39,7 +39,7 @@ pub(crate) fn weights_from(words: &[u64], at: usize) -> Weights
 
 pub(crate) fn config_from(words: &[u64]) -> Config
     requires { 6 ≤ length words.now }
-    ensures { result ≡ config-from words.now }
+    ensures { result ≡ config_from words.now }
 {
     Config {
         max_depth: words[0],

@@ -11,9 +11,9 @@ abbrev pub Rest : ℕ → ℕ → Type 0
 Rest zero i = Unit {0}
 Rest (suc n) i = Rest n i × (OneOf (n ∷ []) i → ⊥)
 
-pub rest-is-past : (n i : ℕ) → Rest n i → n ≤ i
-rest-is-past zero i r = omega arith
-rest-is-past (suc n) i r = let h = rest-is-past n i r.0 in let k : i ≡ n → ⊥ = r.1 in omega (arith, h, k)
+pub rest_is_past : (n i : ℕ) → Rest n i → n ≤ i
+rest_is_past zero i r = omega arith
+rest_is_past (suc n) i r = let h = rest_is_past n i r.0 in let k : i ≡ n → ⊥ = r.1 in omega (arith, h, k)
 
-pub rest-reads-none : (keys : List ℕ) (i : ℕ) → Rest (length keys) i → 0 ≡ get_or keys i 0
-rest-reads-none keys i r = sym (get_or-eq_default keys 0 (rest-is-past (length keys) i r))
+pub rest_reads_none : (keys : List ℕ) (i : ℕ) → Rest (length keys) i → 0 ≡ get_or keys i 0
+rest_reads_none keys i r = sym (get_or-eq_default keys 0 (rest_is_past (length keys) i r))

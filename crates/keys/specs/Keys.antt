@@ -2,7 +2,7 @@
 use Rattle.std.specs.Prelude.{◌&&◌, ℕ, ltb}
 use Rattle.rules.specs.declared.CellState.{CellState}
 use Rattle.base.specs.Branch.{if◌then◌else◌}
-use Rattle.rules.specs.Hash.{cell-key}
+use Rattle.rules.specs.Hash.{cell_key}
 
-unfoldable pub cell-key-in : ℕ → ℕ → CellState → ℕ
-cell-key-in b c s = if ltb b 9 && ltb c 9 then (λ _. cell-key b c s) else λ _. 0
+unfoldable pub cell_key_in : ℕ → ℕ → CellState → ℕ
+cell_key_in b c s = if ltb b 9 && ltb c 9 then (λ _. cell_key b c s) else λ _. 0

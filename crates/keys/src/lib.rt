@@ -1,16 +1,18 @@
 // The keys of Zobrist's hash. Each table is a `match`: a constant array that is indexed by a variable is written to the stack at each use.
 // Ported from src/lib/game.rs of nelhage/ultimattt at commit 87ef0d9c7c (Apache-2.0, see NOTICE), changed: flat tables, and no key past
 // their ends.
+#![tactic(auto)]
+
 ghost use Rattle.std.specs.Prelude.{◌≡◌, get_or};
-ghost use Rattle.rules.specs.Keys.{x-cell-keys, o-cell-keys, drawn-keys, x-board-keys, o-board-keys, next-board-keys};
-ghost use Rattle.rules.specs.Hash.{cell-keys, board-key, player-key};
-ghost use Rattle.keys.specs.Keys.{cell-key-in};
+ghost use Rattle.rules.specs.Keys.{x_cell_keys, o_cell_keys, drawn_keys, x_board_keys, o_board_keys, next_board_keys};
+ghost use Rattle.rules.specs.Hash.{cell_keys, board_key, player_key};
+ghost use Rattle.keys.specs.Keys.{cell_key_in};
 
 use rules::{CellState, GameState, Player};
 
 // X's key of a cell, nine to a board.
 fn square_x(i: usize) -> u64
-    ensures { result ≡ get_or x-cell-keys i 0 }
+    ensures { result ≡ get_or x_cell_keys i 0 }
 {
     match i {
         0 => 3903901466010275279,
@@ -100,7 +102,7 @@ fn square_x(i: usize) -> u64
 
 // O's key of a cell, nine to a board.
 fn square_o(i: usize) -> u64
-    ensures { result ≡ get_or o-cell-keys i 0 }
+    ensures { result ≡ get_or o_cell_keys i 0 }
 {
     match i {
         0 => 17629543429219029125,
@@ -190,7 +192,7 @@ fn square_o(i: usize) -> u64
 
 // The key of a drawn board.
 fn board_drawn(board: usize) -> u64
-    ensures { result ≡ get_or drawn-keys board 0 }
+    ensures { result ≡ get_or drawn_keys board 0 }
 {
     match board {
         0 => 10569293916965141230,
@@ -208,7 +210,7 @@ fn board_drawn(board: usize) -> u64
 
 // The key of a board that X has won.
 fn board_x(board: usize) -> u64
-    ensures { result ≡ get_or x-board-keys board 0 }
+    ensures { result ≡ get_or x_board_keys board 0 }
 {
     match board {
         0 => 11160423188805547020,
@@ -226,7 +228,7 @@ fn board_x(board: usize) -> u64
 
 // The key of a board that O has won.
 fn board_o(board: usize) -> u64
-    ensures { result ≡ get_or o-board-keys board 0 }
+    ensures { result ≡ get_or o_board_keys board 0 }
 {
     match board {
         0 => 4152050228531721776,
@@ -244,7 +246,7 @@ fn board_o(board: usize) -> u64
 
 // The key of the next board; none over 8.
 pub fn for_next(board: usize) -> u64
-    ensures { result ≡ get_or next-board-keys board 0 }
+    ensures { result ≡ get_or next_board_keys board 0 }
 {
     match board {
         0 => 16798470787979032810,
@@ -262,7 +264,7 @@ pub fn for_next(board: usize) -> u64
 
 // The key of a played cell, nine to a board; none over 80.
 pub fn for_square(i: usize, who: Player) -> u64
-    ensures { result ≡ get_or (cell-keys who) i 0 }
+    ensures { result ≡ get_or (cell_keys who) i 0 }
 {
     match who {
         Player::X => square_x(i),
@@ -272,7 +274,7 @@ pub fn for_square(i: usize, who: Player) -> u64
 
 // The key of a cell of a board; none over 8.
 pub fn for_cell(board: usize, square: usize, cell: CellState) -> u64
-    ensures { result ≡ cell-key-in board square cell }
+    ensures { result ≡ cell_key_in board square cell }
 {
     if board > 8 {
         return 0;
@@ -288,7 +290,7 @@ pub fn for_cell(board: usize, square: usize, cell: CellState) -> u64
 
 // The key of a board's state; none over 8.
 pub fn for_board(board: usize, state: GameState) -> u64
-    ensures { result ≡ board-key board state }
+    ensures { result ≡ board_key board state }
 {
     match state {
         GameState::InPlay => 0,
@@ -301,7 +303,7 @@ pub fn for_board(board: usize, state: GameState) -> u64
 }
 
 pub fn for_player(who: Player) -> u64
-    ensures { result ≡ player-key who }
+    ensures { result ≡ player_key who }
 {
     match who {
         Player::X => 5407203028010692663,

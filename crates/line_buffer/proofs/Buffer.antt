@@ -13,92 +13,92 @@ use lib.Seq.{take_all, take-append-le, drop-cons}
 use borrow.Author.Tests.{eqb-true}
 use Rattle.text.specs.Bytes.{space}
 use Rattle.text.specs.Reading.{read}
-use Rattle.text.specs.ProgramLine.{Parted, no-blank, around, parted, depth-of, asks-with, asked_by, asked}
-use Rattle.text.proofs.ProgramLine.{Parts, parted-parts, parted-blank, followed, parted-other}
+use Rattle.text.specs.ProgramLine.{Parted, no_blank, around, parted, depth_of, asks_with, asked_by, asked}
+use Rattle.text.proofs.ProgramLine.{Parts, parted_parts, parted_blank, followed, parted_other}
 use Rattle.line_buffer.specs.declared.AfterBlank.{AfterBlank}
 use Rattle.line_buffer.specs.declared.AfterBlank.TheVariants.{Nothing}
 use Rattle.line_buffer.specs.declared.LineBuffer.{LineBuffer}
 use Rattle.text.specs.Padded.{padded}
-use Rattle.line_buffer.specs.Buffer.{after-with, after-byte, depth-after, new-buffer, pushed, pushed-all, buffer-asks}
-use Rattle.line_buffer.specs.Buffer.{Same-question, tail_of, before-blank, behind-blank, buffer-of}
-use Rattle.text.proofs.Padded.{set-padded, take-padded}
-use Rattle.text.proofs.Reading.{too-long-is-1}
+use Rattle.line_buffer.specs.Buffer.{after_with, after_byte, depth_after, new_buffer, pushed, pushed_all, buffer_asks}
+use Rattle.line_buffer.specs.Buffer.{SameQuestion, tail_of, before_blank, behind_blank, buffer_of}
+use Rattle.text.proofs.Padded.{set_padded, take_padded}
+use Rattle.text.proofs.Reading.{too_long_is_1}
 
 -- ---- one byte more
-tail-longer : (rest : List ℕ) (b : ℕ) → after-with (tail_of rest) b ≡ tail_of (rest ++ (b ∷ []))
-tail-longer [] b = refl
-tail-longer (a ∷ []) b = refl
-tail-longer (a ∷ c ∷ []) b = refl
-tail-longer (a ∷ c ∷ d ∷ cs) b = refl
+tail_longer : (rest : List ℕ) (b : ℕ) → after_with (tail_of rest) b ≡ tail_of (rest ++ (b ∷ []))
+tail_longer [] b = refl
+tail_longer (a ∷ []) b = refl
+tail_longer (a ∷ c ∷ []) b = refl
+tail_longer (a ∷ c ∷ d ∷ cs) b = refl
 
-same-before : (p : Parted) (b : ℕ) → before-blank p ≡ before-blank (followed b p)
-same-before no-blank b = refl
-same-before (around text rest) b = refl
+same_before : (p : Parted) (b : ℕ) → before_blank p ≡ before_blank (followed b p)
+same_before no_blank b = refl
+same_before (around text rest) b = refl
 
-longer-behind : (p : Parted) (b : ℕ) → after-with (behind-blank p) b ≡ behind-blank (followed b p)
-longer-behind no-blank b = refl
-longer-behind (around text rest) b = tail-longer rest b
+longer_behind : (p : Parted) (b : ℕ) → after_with (behind_blank p) b ≡ behind_blank (followed b p)
+longer_behind no_blank b = refl
+longer_behind (around text rest) b = tail_longer rest b
 
-one-longer : (line : List ℕ) (b : ℕ) → min (min (length line) 257 + 1) 257 ≡ min (length (line ++ (b ∷ []))) 257
-one-longer line b = omega (arith, length-append line (b ∷ []))
+one_longer : (line : List ℕ) (b : ℕ) → min (min (length line) 257 + 1) 257 ≡ min (length (line ++ (b ∷ []))) 257
+one_longer line b = omega (arith, length-append line (b ∷ []))
 
-pub pushed-held : (line : List ℕ) (b : ℕ) → pushed (buffer-of line) b ≡ buffer-of (line ++ (b ∷ []))
+pub pushed_held : (line : List ℕ) (b : ℕ) → pushed (buffer_of line) b ≡ buffer_of (line ++ (b ∷ []))
 unfolding pushed
-pushed-held line b = go (eqb b space) refl
+pushed_held line b = go (eqb b space) refl
   where
     made : (t : Bool) (q : Parted) → parted (line ++ (b ∷ [])) ≡ q → eqb b space ≡ t →
-        cond t (min (length line) 257) (before-blank (parted line)) ≡ before-blank q →
-        cond t Nothing (after-with (behind-blank (parted line)) b) ≡ behind-blank q →
-        pushed (buffer-of line) b ≡ buffer-of (line ++ (b ∷ []))
+        cond t (min (length line) 257) (before_blank (parted line)) ≡ before_blank q →
+        cond t Nothing (after_with (behind_blank (parted line)) b) ≡ behind_blank q →
+        pushed (buffer_of line) b ≡ buffer_of (line ++ (b ∷ []))
     made t q e f x y = λ i. record {
-      bytes = set-padded 257 line b i;
-      len = one-longer line b i;
-      text = (ap (λ (t : Bool). cond t (min (length line) 257) (before-blank (parted line))) f ∙ x ∙ ap before-blank (sym e)) i;
-      after = (ap (λ (t : Bool). cond t Nothing (after-with (behind-blank (parted line)) b)) f ∙ y ∙ ap behind-blank (sym e)) i;
+      bytes = set_padded 257 line b i;
+      len = one_longer line b i;
+      text = (ap (λ (t : Bool). cond t (min (length line) 257) (before_blank (parted line))) f ∙ x ∙ ap before_blank (sym e)) i;
+      after = (ap (λ (t : Bool). cond t Nothing (after_with (behind_blank (parted line)) b)) f ∙ y ∙ ap behind_blank (sym e)) i;
     }
 
-    go : (t : Bool) → eqb b space ≡ t → pushed (buffer-of line) b ≡ buffer-of (line ++ (b ∷ []))
+    go : (t : Bool) → eqb b space ≡ t → pushed (buffer_of line) b ≡ buffer_of (line ++ (b ∷ []))
     go true e =
-        made true (around line []) (ap (λ (c : ℕ). parted (line ++ (c ∷ []))) (eqb-true b space e) ∙ parted-blank line) e refl refl
+        made true (around line []) (ap (λ (c : ℕ). parted (line ++ (c ∷ []))) (eqb-true b space e) ∙ parted_blank line) e refl refl
     go false e =
-        made false (followed b (parted line)) (parted-other line b e) e (same-before (parted line) b) (longer-behind (parted line) b)
+        made false (followed b (parted line)) (parted_other line b e) e (same_before (parted line) b) (longer_behind (parted line) b)
 
 -- part by part
-pub pushed-parts : (h : LineBuffer) (b : ℕ) (bytes : List ℕ) (len text : ℕ) (after : AfterBlank) →
+pub pushed_parts : (h : LineBuffer) (b : ℕ) (bytes : List ℕ) (len text : ℕ) (after : AfterBlank) →
     bytes ≡ set h.bytes h.len b →
-    len ≡ min (h.len + 1) 257 → text ≡ cond (eqb b space) h.len h.text → after ≡ after-byte h.after b →
+    len ≡ min (h.len + 1) 257 → text ≡ cond (eqb b space) h.len h.text → after ≡ after_byte h.after b →
     record { bytes = bytes; len = len; text = text; after = after } ≡ pushed h b
 unfolding pushed
-pushed-parts h b bytes len text after d e f g = rw (d, e, f, g)
+pushed_parts h b bytes len text after d e f g = rw (d, e, f, g)
 
 -- by the bytes still to be pushed
-pub pushed-next : (h : LineBuffer) (bs : List ℕ) (i d : ℕ) → i < length bs →
-    pushed-all (pushed h (get_or bs i d)) (drop (i + 1) bs) ≡ pushed-all h (drop i bs)
-pushed-next h bs i d q =
-    ap (λ (k : ℕ). pushed-all (pushed h (get_or bs i d)) (drop k bs)) (add-one i) ∙ sym (ap (pushed-all h) (drop-cons bs i d q))
+pub pushed_next : (h : LineBuffer) (bs : List ℕ) (i d : ℕ) → i < length bs →
+    pushed_all (pushed h (get_or bs i d)) (drop (i + 1) bs) ≡ pushed_all h (drop i bs)
+pushed_next h bs i d q =
+    ap (λ (k : ℕ). pushed_all (pushed h (get_or bs i d)) (drop k bs)) (add-one i) ∙ sym (ap (pushed_all h) (drop-cons bs i d q))
 
-pub pushed-end : (h : LineBuffer) (bs : List ℕ) (i : ℕ) → length bs ≤ i → pushed-all h (drop i bs) ≡ h
-pushed-end h bs i q = ap (pushed-all h) (drop_of_length-le bs q)
+pub pushed_end : (h : LineBuffer) (bs : List ℕ) (i : ℕ) → length bs ≤ i → pushed_all h (drop i bs) ≡ h
+pushed_end h bs i q = ap (pushed_all h) (drop_of_length-le bs q)
 
-pub pushed-all-held : (line bs : List ℕ) → pushed-all (buffer-of line) bs ≡ buffer-of (line ++ bs)
-pushed-all-held line [] = ap buffer-of (sym (append-nil line))
-pushed-all-held line (b ∷ bs) =
-    ap (λ (h : LineBuffer). pushed-all h bs) (pushed-held line b) ∙ pushed-all-held (line ++ (b ∷ [])) bs
-    ∙ ap buffer-of (append_assoc line (b ∷ []) bs)
+pub pushed_all_held : (line bs : List ℕ) → pushed_all (buffer_of line) bs ≡ buffer_of (line ++ bs)
+pushed_all_held line [] = ap buffer_of (sym (append-nil line))
+pushed_all_held line (b ∷ bs) =
+    ap (λ (h : LineBuffer). pushed_all h bs) (pushed_held line b) ∙ pushed_all_held (line ++ (b ∷ [])) bs
+    ∙ ap buffer_of (append_assoc line (b ∷ []) bs)
 
 -- pushed byte by byte from the empty line, a line is held whole: its first 257 bytes, and what its last blank parts
-pub line-held : (line : List ℕ) → pushed-all new-buffer line ≡ buffer-of line
+pub line_held : (line : List ℕ) → pushed_all new_buffer line ≡ buffer_of line
 unfolding parted
-line-held line = pushed-all-held [] line
+line_held line = pushed_all_held [] line
 
 -- ---- what it asks
 -- 257 bytes of a text are enough
-pub read-first-257 : (t : List ℕ) → read (take 257 t) ≡ read t
-read-first-257 t = go (dec_le (length t) 256)
+pub read_first_257 : (t : List ℕ) → read (take 257 t) ≡ read t
+read_first_257 t = go (dec_le (length t) 256)
   where
     go : Dec (length t ≤ 256) → read (take 257 t) ≡ read t
     go (yes h) = ap read (take_all 257 t (omega arith))
-    go (no h) = too-long-is-1 (take 257 t) (omega (arith, length-take 257 t)) ∙ sym (too-long-is-1 t (omega arith))
+    go (no h) = too_long_is_1 (take 257 t) (omega (arith, length-take 257 t)) ∙ sym (too_long_is_1 t (omega arith))
 
 -- the held bytes of a text
 held_first : (text rest : List ℕ) → take (min (min (length text) 257) 257) (padded 257 (text ++ rest)) ≡ take 257 text
@@ -107,37 +107,37 @@ held_first text rest = go (dec_le (length text) 257)
     go : Dec (length text ≤ 257) → take (min (min (length text) 257) 257) (padded 257 (text ++ rest)) ≡ take 257 text
     go (yes h) =
         let n : min (min (length text) 257) 257 ≡ length text = omega arith in
-        rw n (take-padded (length text) 257 (text ++ rest) h (omega (arith, length-append text rest))
+        rw n (take_padded (length text) 257 (text ++ rest) h (omega (arith, length-append text rest))
         ∙ take-append-le (length text) text rest (omega arith) ∙ take_all (length text) text (omega arith)
         ∙ sym (take_all 257 text h))
     go (no h) =
         let n : min (min (length text) 257) 257 ≡ 257 = omega arith in
-        rw n (take-padded 257 257 (text ++ rest) (omega arith) (omega (arith, length-append text rest))
+        rw n (take_padded 257 257 (text ++ rest) (omega arith) (omega (arith, length-append text rest))
         ∙ take-append-le 257 text rest (omega arith))
 
-depth-tail : (rest : List ℕ) → depth-after (tail_of rest) ≡ depth-of rest
-unfolding depth-of
-depth-tail [] = refl
-depth-tail (a ∷ []) = refl
-depth-tail (a ∷ b ∷ []) = refl
-depth-tail (a ∷ b ∷ c ∷ cs) = refl
+depth_tail : (rest : List ℕ) → depth_after (tail_of rest) ≡ depth_of rest
+unfolding depth_of
+depth_tail [] = refl
+depth_tail (a ∷ []) = refl
+depth_tail (a ∷ b ∷ []) = refl
+depth_tail (a ∷ b ∷ c ∷ cs) = refl
 
-same-asks : (t u : List ℕ) (d : Option ℕ) → read t ≡ read u → Same-question (asks-with t d) (asks-with u d)
-same-asks t u none e = tt
-same-asks t u (some n) e = (refl, e)
+same_asks : (t u : List ℕ) (d : Option ℕ) → read t ≡ read u → SameQuestion (asks_with t d) (asks_with u d)
+same_asks t u none e = tt
+same_asks t u (some n) e = (refl, e)
 
-asks-parted : (line : List ℕ) (p : Parted) → Parts line p → Same-question
-    (asks-with (take (min (before-blank p) 257) (padded 257 line)) (depth-after (behind-blank p))) (asked_by p)
-asks-parted line no-blank h = tt
-asks-parted line (around text rest) h =
-    subst (λ (l : List ℕ). Same-question (asks-with (take (min (min (length text) 257) 257) (padded 257 l)) (depth-after (tail_of rest)))
-    (asks-with text (depth-of rest))) (sym h.0)
-    (subst (λ (d : Option ℕ). Same-question (asks-with (take (min (min (length text) 257) 257) (padded 257 (text ++ (space ∷ rest))))
-    d) (asks-with text (depth-of rest))) (sym (depth-tail rest))
-    (same-asks _ text (depth-of rest) (ap read (held_first text (space ∷ rest)) ∙ read-first-257 text)))
+asks_parted : (line : List ℕ) (p : Parted) → Parts line p → SameQuestion
+    (asks_with (take (min (before_blank p) 257) (padded 257 line)) (depth_after (behind_blank p))) (asked_by p)
+asks_parted line no_blank h = tt
+asks_parted line (around text rest) h =
+    subst (λ (l : List ℕ). SameQuestion (asks_with (take (min (min (length text) 257) 257) (padded 257 l)) (depth_after (tail_of rest)))
+    (asks_with text (depth_of rest))) (sym h.0)
+    (subst (λ (d : Option ℕ). SameQuestion (asks_with (take (min (min (length text) 257) 257) (padded 257 (text ++ (space ∷ rest))))
+    d) (asks_with text (depth_of rest))) (sym (depth_tail rest))
+    (same_asks _ text (depth_of rest) (ap read (held_first text (space ∷ rest)) ∙ read_first_257 text)))
 
 -- for every list of bytes: 19 exactly where the line has no depth, else the same depth, and a text that is read alike
-pub held-asks-the-same : (line : List ℕ) → Same-question (buffer-asks (pushed-all new-buffer line)) (asked line)
-held-asks-the-same line =
-    subst (λ (h : LineBuffer). Same-question (buffer-asks h) (asked line)) (sym (line-held line))
-    (asks-parted line (parted line) (parted-parts line))
+pub held_asks_the_same : (line : List ℕ) → SameQuestion (buffer_asks (pushed_all new_buffer line)) (asked line)
+held_asks_the_same line =
+    subst (λ (h : LineBuffer). SameQuestion (buffer_asks h) (asked line)) (sym (line_held line))
+    (asks_parted line (parted line) (parted_parts line))

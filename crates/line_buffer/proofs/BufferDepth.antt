@@ -9,11 +9,11 @@ use mir.Syntax.{w8}
 use mir.Val.{Fits}
 use borrow.Author.Tests.{leb-true, not-true, not-false}
 use Rattle.base.specs.Branch.{if◌then◌else◌}
-use Rattle.text.specs.ProgramLine.{is_digit, depth-of}
+use Rattle.text.specs.ProgramLine.{is_digit, depth_of}
 use Rattle.line_buffer.specs.declared.AfterBlank.{AfterBlank}
 use Rattle.line_buffer.specs.declared.AfterBlank.TheVariants.{Nothing, One, Two, Other}
 use Rattle.line_buffer.specs.declared.Depth.TheVariants.{Of, Lacking}
-use Rattle.line_buffer.specs.Buffer.{depth-after, DepthIs}
+use Rattle.line_buffer.specs.Buffer.{depth_after, DepthIs}
 
 pub lacks : (d : Option ℕ) → d ≡ none → DepthIs d Lacking
 lacks d e = rw e (record { number = refl; says = refl })
@@ -22,44 +22,44 @@ pub tells : (d : Option ℕ) (n : ℕ) → d ≡ some n → DepthIs d (Of n)
 tells d n e = rw e (record { number = refl; says = refl })
 
 -- a test that was passed bounds its byte
-pub digit-bounds : (a : ℕ) (r : Bool) → r ≡ is_digit a → r ≡ true → (48 ≤ a) × (a ≤ 57)
-digit-bounds a r e t = let d = (and-eq-true_iff (leb 48 a) (leb a 57)).0 (sym e ∙ t) in (leb-true 48 a d.0, leb-true a 57 d.1)
+pub digit_bounds : (a : ℕ) (r : Bool) → r ≡ is_digit a → r ≡ true → (48 ≤ a) × (a ≤ 57)
+digit_bounds a r e t = let d = (and-eq-true_iff (leb 48 a) (leb a 57)).0 (sym e ∙ t) in (leb-true 48 a d.0, leb-true a 57 d.1)
 
 -- so two digits make a byte
-pub tens-fit : (a : ℕ) (r : Bool) → r ≡ is_digit a → not r ≡ false → Fits w8 (10 * (a - 48))
-tens-fit a r e t = let d = digit-bounds a r e (not-false r t) in record { fits = omega arith }
+pub tens_fit : (a : ℕ) (r : Bool) → r ≡ is_digit a → not r ≡ false → Fits w8 (10 * (a - 48))
+tens_fit a r e t = let d = digit_bounds a r e (not-false r t) in record { fits = omega arith }
 
 pub sum_fits : (a b : ℕ) (r q : Bool) → r ≡ is_digit a → not r ≡ false → q ≡ is_digit b → q ≡ true →
     Fits w8 (10 * (a - 48) + (b - 48))
-sum_fits a b r q e t f u = let d = digit-bounds a r e (not-false r t) in let g = digit-bounds b q f u in record { fits = omega arith }
+sum_fits a b r q e t f u = let d = digit_bounds a r e (not-false r t) in let g = digit_bounds b q f u in record { fits = omega arith }
 
 module _ (s : AfterBlank) where
-  pub after_nothing : s ≡ Nothing → DepthIs (depth-after s) Lacking
-  unfolding depth-of
+  pub after_nothing : s ≡ Nothing → DepthIs (depth_after s) Lacking
+  unfolding depth_of
   after_nothing e = rw e (lacks none refl)
 
-  pub after-other : s ≡ Other → DepthIs (depth-after s) Lacking
-  after-other e = rw e (lacks none refl)
+  pub after_other : s ≡ Other → DepthIs (depth_after s) Lacking
+  after_other e = rw e (lacks none refl)
 
   module _ (a : ℕ) (e : s ≡ One a) (r : Bool) (d : r ≡ is_digit a) where
-    pub one-digit : r ≡ true → DepthIs (depth-after s) (Of (a - 48))
-    unfolding depth-of if◌then◌else◌
-    one-digit t = rw e (tells _ _ (rw (sym d ∙ t)))
+    pub one_digit : r ≡ true → DepthIs (depth_after s) (Of (a - 48))
+    unfolding depth_of if◌then◌else◌
+    one_digit t = rw e (tells _ _ (rw (sym d ∙ t)))
 
-    pub one-other : r ≡ false → DepthIs (depth-after s) Lacking
-    unfolding depth-of if◌then◌else◌
-    one-other t = rw e (lacks _ (rw (sym d ∙ t)))
+    pub one_other : r ≡ false → DepthIs (depth_after s) Lacking
+    unfolding depth_of if◌then◌else◌
+    one_other t = rw e (lacks _ (rw (sym d ∙ t)))
 
   module _ (a b : ℕ) (e : s ≡ Two a b) (r : Bool) (d : r ≡ is_digit a) where
-    pub two-first-other : not r ≡ true → DepthIs (depth-after s) Lacking
-    unfolding depth-of if◌then◌else◌
-    two-first-other t = rw e (lacks _ (rw (sym d ∙ not-true r t)))
+    pub two_first_other : not r ≡ true → DepthIs (depth_after s) Lacking
+    unfolding depth_of if◌then◌else◌
+    two_first_other t = rw e (lacks _ (rw (sym d ∙ not-true r t)))
 
     pub two_digits : not r ≡ false → (q : Bool) → q ≡ is_digit b → q ≡ true →
-        DepthIs (depth-after s) (Of (10 * (a - 48) + (b - 48)))
-    unfolding depth-of if◌then◌else◌
+        DepthIs (depth_after s) (Of (10 * (a - 48) + (b - 48)))
+    unfolding depth_of if◌then◌else◌
     two_digits t q f u = rw e (tells _ _ (rw (sym d ∙ not-false r t, sym f ∙ u)))
 
-    pub two-second-other : not r ≡ false → (q : Bool) → q ≡ is_digit b → q ≡ false → DepthIs (depth-after s) Lacking
-    unfolding depth-of if◌then◌else◌
-    two-second-other t q f u = rw e (lacks _ (rw (sym d ∙ not-false r t, sym f ∙ u)))
+    pub two_second_other : not r ≡ false → (q : Bool) → q ≡ is_digit b → q ≡ false → DepthIs (depth_after s) Lacking
+    unfolding depth_of if◌then◌else◌
+    two_second_other t q f u = rw e (lacks _ (rw (sym d ∙ not-false r t, sym f ∙ u)))

@@ -7,40 +7,40 @@ use lib.Dec.{T, eqb}
 use lib.ListN.{length, get_or, drop}
 use borrow.Author.Tests.{eq-eqb}
 use Rattle.base.specs.Lists.{all}
-use Rattle.base.specs.LineFeed.{line-feed, UpToFeed}
+use Rattle.base.specs.LineFeed.{line_feed, UpToFeed}
 use Rattle.base.proofs.Bool.{and→}
-use Rattle.base.proofs.LineFeed.{byte-taken, feed-found, byte-taken-at}
+use Rattle.base.proofs.LineFeed.{byte_taken, feed_found, byte_taken_at}
 use Rattle.line_buffer.specs.declared.LineBuffer.{LineBuffer}
 use Rattle.line_buffer.specs.declared.TakenLine.{TakenLine}
-use Rattle.line_buffer.specs.Buffer.{pushed, pushed-all}
+use Rattle.line_buffer.specs.Buffer.{pushed, pushed_all}
 use Rattle.line_buffer.specs.Taking.{buffered, BuffersLine}
 
 -- what was taken, by parts
 pub takes : (h : LineBuffer) (bytes : List ℕ) (from : ℕ) (r : TakenLine) (t : UpToFeed LineBuffer) →
     buffered h (drop from bytes) ≡ t →
     r.line ≡ t.line → r.found ≡ t.found → r.at ≡ from + (length (drop from bytes) - length t.left) → BuffersLine h bytes from r
-takes h bytes from r t e line-is found-is at-is = record { line-is = rw e line-is; found-is = rw e found-is; at-is = rw e at-is }
+takes h bytes from r t e line_is found_is at_is = record { line_is = rw e line_is; found_is = rw e found_is; at_is = rw e at_is }
 
 -- one byte more
-pub byte-pushed : (t : UpToFeed LineBuffer) (h g : LineBuffer) (bytes : List ℕ) (i : ℕ) → i < length bytes →
-    (get_or bytes i 0 ≡ line-feed → ⊥) → t ≡ buffered h (drop i bytes) → g ≡ pushed h (get_or bytes i 0) →
+pub byte_pushed : (t : UpToFeed LineBuffer) (h g : LineBuffer) (bytes : List ℕ) (i : ℕ) → i < length bytes →
+    (get_or bytes i 0 ≡ line_feed → ⊥) → t ≡ buffered h (drop i bytes) → g ≡ pushed h (get_or bytes i 0) →
     t ≡ buffered g (drop (i + 1) bytes)
-byte-pushed t h g bytes i l n e f = rw f (e ∙ byte-taken-at pushed bytes h i l n)
+byte_pushed t h g bytes i l n e f = rw f (e ∙ byte_taken_at pushed bytes h i l n)
 
 -- ---- lines
 abbrev pub Plain : List ℕ → Type 0
-Plain line = T (all (λ b. not (eqb b line-feed)) line)
+Plain line = T (all (λ b. not (eqb b line_feed)) line)
 
 -- bytes with no line feed are pushed one by one, and what follows goes on with the line that they make: where a read ends makes no
 -- difference
-pub taken-append : (h : LineBuffer) (line bs : List ℕ) → Plain line → buffered h (line ++ bs) ≡ buffered (pushed-all h line) bs
+pub taken_append : (h : LineBuffer) (line bs : List ℕ) → Plain line → buffered h (line ++ bs) ≡ buffered (pushed_all h line) bs
 unfolding all
-taken-append h [] bs t = refl
-taken-append h (b ∷ line) bs t =
-    let u = and→ (not (eqb b line-feed)) _ t in
-    byte-taken pushed h b (line ++ bs) (λ e. rw (eq-eqb b line-feed e) at u.0) ∙ taken-append (pushed h b) line bs u.1
+taken_append h [] bs t = refl
+taken_append h (b ∷ line) bs t =
+    let u = and→ (not (eqb b line_feed)) _ t in
+    byte_taken pushed h b (line ++ bs) (λ e. rw (eq-eqb b line_feed e) at u.0) ∙ taken_append (pushed h b) line bs u.1
 
 -- a line feed ends it
-pub whole-line-taken : (h : LineBuffer) (line bs : List ℕ) → Plain line → buffered h (line ++ (line-feed ∷ bs))
-    ≡ record { line = pushed-all h line; left = bs; found = true }
-whole-line-taken h line bs t = taken-append h line (line-feed ∷ bs) t ∙ feed-found pushed (pushed-all h line) line-feed bs refl
+pub whole_line_taken : (h : LineBuffer) (line bs : List ℕ) → Plain line → buffered h (line ++ (line_feed ∷ bs))
+    ≡ record { line = pushed_all h line; left = bs; found = true }
+whole_line_taken h line bs t = taken_append h line (line_feed ∷ bs) t ∙ feed_found pushed (pushed_all h line) line_feed bs refl

@@ -1,15 +1,17 @@
 // A line of any length, held in bounded memory: its first 257 bytes, where its last blank stands, and what follows that blank.
+#![tactic(auto)]
+
 ghost use Rattle.std.specs.Prelude.{◌≡◌, cond, ◌+◌, min, eqb, set};
 ghost use Rattle.text.specs.Bytes.{space};
 ghost use Rattle.text.specs.ProgramLine.{is_digit};
-ghost use Rattle.line_buffer.specs.Buffer.{after-with, after-byte, depth-after, DepthIs, new-buffer, pushed, pushed-all};
+ghost use Rattle.line_buffer.specs.Buffer.{after_with, after_byte, depth_after, DepthIs, new_buffer, pushed, pushed_all};
 ghost use Rattle.line_buffer.specs.Taking.{BuffersLine};
 
 // One more than the longest text that is read: a longer one is refused by its first 257 bytes.
 pub const KEPT: usize = 257;
 
 // What follows the last blank. `Other`: more than two bytes, or there is no blank.
-#[derive(Drop)]
+#[derive(Clone, Copy)]
 pub enum AfterBlank {
     Nothing,
     One(u8),
@@ -18,7 +20,7 @@ pub enum AfterBlank {
 }
 
 // What a line's depth is, or that it has none: 19.
-#[derive(Drop)]
+#[derive(Clone, Copy)]
 pub enum Depth {
     Of(u8),
     Lacking,
@@ -55,7 +57,7 @@ fn before_blank(text: usize, at: usize, b: u8) -> usize
 impl AfterBlank {
     // With a byte that is no blank.
     fn longer(self, b: u8) -> AfterBlank
-        ensures { result ≡ after-with self b }
+        ensures { result ≡ after_with self b }
     {
         match self {
             AfterBlank::Nothing => AfterBlank::One(b),
@@ -67,7 +69,7 @@ impl AfterBlank {
 
     // With one byte more: a blank is the last one so far.
     fn push(self, b: u8) -> AfterBlank
-        ensures { result ≡ after-byte self b }
+        ensures { result ≡ after_byte self b }
     {
         if b == b' ' {
             AfterBlank::Nothing
@@ -77,7 +79,7 @@ impl AfterBlank {
     }
 
     pub fn depth(self) -> Depth
-        ensures { DepthIs (depth-after self) result }
+        ensures { DepthIs (depth_after self) result }
     {
         match self {
             AfterBlank::Nothing => Depth::Lacking,
@@ -104,7 +106,7 @@ impl AfterBlank {
 }
 
 // `len` bytes are kept; `text` of the line's bytes, up to 257, stand before the last blank.
-#[derive(Drop)]
+#[derive(Clone, Copy)]
 pub struct LineBuffer {
     pub bytes: [u8; 257],
     pub len: usize,
@@ -113,7 +115,7 @@ pub struct LineBuffer {
 }
 
 // A line as far as its bytes came, where the next bytes are, and whether its end was met.
-#[derive(Drop)]
+#[derive(Clone, Copy)]
 pub struct TakenLine {
     pub line: LineBuffer,
     pub at: usize,
@@ -123,7 +125,7 @@ pub struct TakenLine {
 impl LineBuffer {
     // The empty line.
     pub fn new() -> LineBuffer
-        ensures { result ≡ new-buffer }
+        ensures { result ≡ new_buffer }
     {
         LineBuffer {
             bytes: [0; 257],
@@ -152,7 +154,7 @@ impl LineBuffer {
 
     // Some bytes more, line feeds as any other.
     pub fn push_all(self, bytes: &[u8]) -> LineBuffer
-        ensures { result ≡ pushed-all self bytes.now }
+        ensures { result ≡ pushed_all self bytes.now }
     {
         let mut line = self;
         for i in 0..bytes.len() {
@@ -211,7 +213,7 @@ impl LineBuffer {
     }
 
     pub fn depth(self) -> Depth
-        ensures { DepthIs (depth-after self.after) result }
+        ensures { DepthIs (depth_after self.after) result }
     {
         let after = self.after;
         after.depth()

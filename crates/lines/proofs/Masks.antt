@@ -18,33 +18,33 @@ use Rattle.base.specs.Bits.{bit, digits}
 use Rattle.base.specs.Lists.{any, all, In}
 use Rattle.base.proofs.Bool.{and→}
 use Rattle.base.proofs.ListsAgree.{any_same}
-use Rattle.base.proofs.ListsEvery.{upTo-at, same-below}
-use Rattle.base.proofs.Lists.{all-each, from_in, default-unused}
-use Rattle.base.proofs.Bits.{bit_masked, bit-digits, digits_lt}
-use Rattle.rules.specs.Board.{nine, Line, lines, has-line, result}
-use Rattle.lines.specs.Masks.{line_at, masks, mask-of, indices, pattern-at}
+use Rattle.base.proofs.ListsEvery.{up_to_at, same_below}
+use Rattle.base.proofs.Lists.{all_each, from_in, default_unused}
+use Rattle.base.proofs.Bits.{bit_masked, bit_digits, digits_lt}
+use Rattle.rules.specs.Board.{nine, Line, lines, has_line, result_of}
+use Rattle.lines.specs.Masks.{line_at, masks, mask_of, indices, pattern_at}
 
 -- each mask has the three places of its line
-pub tables_agree : masks ≡ map mask-of lines
+pub tables_agree : masks ≡ map mask_of lines
 tables_agree = refl
 
 -- the table of places, entry by entry
-has-three : ℕ → Bool
-has-three i = eqb (length (get_or (map indices lines) i [])) 3
+has_three : ℕ → Bool
+has_three i = eqb (length (get_or (map indices lines) i [])) 3
 
-three-places : (i : ℕ) → i < 8 → length (get_or (map indices lines) i []) ≡ 3
-unfolding has-three
-three-places i h = eqb→eq (length (get_or (map indices lines) i [])) 3 (upTo-at has-three 8 tt i h)
+three_places : (i : ℕ) → i < 8 → length (get_or (map indices lines) i []) ≡ 3
+unfolding has_three
+three_places i h = eqb→eq (length (get_or (map indices lines) i [])) 3 (up_to_at has_three 8 tt i h)
 
 module _ (i j : ℕ) where
-  pub past-lines : 8 ≤ i → 9 ≡ pattern-at i j
-  past-lines h = rw (get_or-eq_default (map indices lines) [] h)
+  pub past_lines : 8 ≤ i → 9 ≡ pattern_at i j
+  past_lines h = rw (get_or-eq_default (map indices lines) [] h)
 
-  pub past-places : i < 8 → 3 ≤ j → 9 ≡ pattern-at i j
-  past-places h k = let e = three-places i h in sym (get_or-eq_default (get_or (map indices lines) i []) 9 (omega arith))
+  pub past_places : i < 8 → 3 ≤ j → 9 ≡ pattern_at i j
+  past_places h k = let e = three_places i h in sym (get_or-eq_default (get_or (map indices lines) i []) 9 (omega arith))
 
-  pub reads-place : i < 8 → j < 3 → get_or (get_or (map indices lines) i []) j 0 ≡ pattern-at i j
-  reads-place h k = let e = three-places i h in default-unused (get_or (map indices lines) i []) j 0 9 (omega arith)
+  pub reads_place : i < 8 → j < 3 → get_or (get_or (map indices lines) i []) j 0 ≡ pattern_at i j
+  reads_place h k = let e = three_places i h in default_unused (get_or (map indices lines) i []) j 0 9 (omega arith)
 
 -- ---- the two tables at line i
 abbrev pub mask_at : ℕ → ℕ
@@ -56,28 +56,28 @@ place_at i j = get_or (get_or (map indices lines) i []) j 0
 abbrev pub Low : Line → Type 0
 Low l = (l.i < 9) × (l.j < 9) × (l.k < 9)
 
-low-test : ℕ → Bool
-low-test i = ltb (line_at i).i 9 && (ltb (line_at i).j 9 && ltb (line_at i).k 9)
+low_test : ℕ → Bool
+low_test i = ltb (line_at i).i 9 && (ltb (line_at i).j 9 && ltb (line_at i).k 9)
 
 pub low : (i : ℕ) → i < 8 → Low (line_at i)
-unfolding low-test
+unfolding low_test
 low i h =
-    let t = and→ (ltb (line_at i).i 9) _ (upTo-at low-test 8 tt i h) in
+    let t = and→ (ltb (line_at i).i 9) _ (up_to_at low_test 8 tt i h) in
     let u = and→ (ltb (line_at i).j 9) _ t.1 in
     (ltb→lt _ 9 t.0, ltb→lt _ 9 u.0, ltb→lt _ 9 u.1)
 
-place-test : ℕ → Bool
-place-test i = eqb (place_at i 0) (line_at i).i && (eqb (place_at i 1) (line_at i).j && eqb (place_at i 2) (line_at i).k)
+place_test : ℕ → Bool
+place_test i = eqb (place_at i 0) (line_at i).i && (eqb (place_at i 1) (line_at i).j && eqb (place_at i 2) (line_at i).k)
 
 pub places : (i : ℕ) → i < 8 → (place_at i 0 ≡ (line_at i).i) × (place_at i 1 ≡ (line_at i).j) × (place_at i 2 ≡ (line_at i).k)
-unfolding place-test
+unfolding place_test
 places i h =
-    let t = and→ (eqb (place_at i 0) (line_at i).i) _ (upTo-at place-test 8 tt i h) in
+    let t = and→ (eqb (place_at i 0) (line_at i).i) _ (up_to_at place_test 8 tt i h) in
     let u = and→ (eqb (place_at i 1) (line_at i).j) _ t.1 in
     (eqb→eq _ _ t.0, eqb→eq _ _ u.0, eqb→eq _ _ u.1)
 
-pub place-low : (i : ℕ) → i < 8 → (place_at i 0 < 9) × (place_at i 1 < 9) × (place_at i 2 < 9)
-place-low i h = let e = places i h in let l = low i h in (omega arith, omega arith, omega arith)
+pub place_low : (i : ℕ) → i < 8 → (place_at i 0 < 9) × (place_at i 1 < 9) × (place_at i 2 < 9)
+place_low i h = let e = places i h in let l = low i h in (omega arith, omega arith, omega arith)
 
 -- ---- the masks
 -- the mask lies in the bits
@@ -85,17 +85,17 @@ abbrev pub covers : ℕ → ℕ → Bool
 covers n m = eqb (bit_and n m) m
 
 -- a test at each board of nine digits
-small_line : (n : ℕ) → n < 512 → any (covers n) masks ≡ has-line (bit n)
-unfolding has-line any bit
-small_line = same-below (λ n. any (covers n) masks) (λ n. has-line (bit n)) 512 tt
+small_line : (n : ℕ) → n < 512 → any (covers n) masks ≡ has_line (bit n)
+unfolding has_line any bit
+small_line = same_below (λ n. any (covers n) masks) (λ n. has_line (bit n)) 512 tt
 
-small-full : (n : ℕ) → n < 512 → eqb n 511 ≡ not (any (λ k. not (bit n k)) nine)
+small_full : (n : ℕ) → n < 512 → eqb n 511 ≡ not (any (λ k. not (bit n k)) nine)
 unfolding any bit
-small-full = same-below (λ n. eqb n 511) (λ n. not (any (λ k. not (bit n k)) nine)) 512 tt
+small_full = same_below (λ n. eqb n 511) (λ n. not (any (λ k. not (bit n k)) nine)) 512 tt
 
 -- only the nine low digits count
-pub line_same : (f g : ℕ → Bool) → ((k : ℕ) → k < 9 → f k ≡ g k) → has-line f ≡ has-line g
-unfolding has-line any
+pub line_same : (f g : ℕ → Bool) → ((k : ℕ) → k < 9 → f k ≡ g k) → has_line f ≡ has_line g
+unfolding has_line any
 line_same f g e =
     rw (
       e 0 (lit< tt),
@@ -109,12 +109,12 @@ line_same f g e =
       e 8 (lit< tt),
     )
 
-masks-small : (m : ℕ) → In m masks → m < 512
+masks_small : (m : ℕ) → In m masks → m < 512
 unfolding all
-masks-small m i = ltb→lt m 512 (all-each (λ k. ltb k 512) m masks tt i)
+masks_small m i = ltb→lt m 512 (all_each (λ k. ltb k 512) m masks tt i)
 
-low-covers : (n m : ℕ) → m < 512 → covers n m ≡ covers (n % 512) m
-low-covers n m h = ap (λ (k : ℕ). eqb k m) same
+low_covers : (n m : ℕ) → m < 512 → covers n m ≡ covers (n % 512) m
+low_covers n m h = ap (λ (k : ℕ). eqb k m) same
   where
     same : bit_and n m ≡ bit_and (n % 512) m
     same =
@@ -124,9 +124,9 @@ low-covers n m h = ap (λ (k : ℕ). eqb k m) same
 low_bit : (n k : ℕ) → k < 9 → bit (n % 512) k ≡ bit n k
 low_bit n k h = rw (← and_mask n 9) (bit_masked 9 n k h)
 
-pub mask-line : (n : ℕ) → any (covers n) masks ≡ has-line (bit n)
-mask-line n =
-    any_same (covers n) (covers (n % 512)) masks (λ m i. low-covers n m (masks-small m i))
+pub mask_line : (n : ℕ) → any (covers n) masks ≡ has_line (bit n)
+mask_line n =
+    any_same (covers n) (covers (n % 512)) masks (λ m i. low_covers n m (masks_small m i))
     ∙ small_line (n % 512) (mod-lt n (lit< tt))
     ∙ line_same (bit (n % 512)) (bit n) (low_bit n)
 
@@ -136,33 +136,33 @@ module _ (n i : ℕ) (b : Bool) (h : i < 8) (e : any (covers n) (drop i masks) �
   unfolding any
   step = rw add-one (sym (ap (any (covers n)) (drop-cons masks i 0 h)) ∙ e)
 
-  pub mask-found : bit_and n (get_or masks i 0) ≡ get_or masks i 0 → true ≡ b
-  mask-found f = rw (eq-eqb (bit_and n (get_or masks i 0)) (get_or masks i 0) f) at step
+  pub mask_found : bit_and n (get_or masks i 0) ≡ get_or masks i 0 → true ≡ b
+  mask_found f = rw (eq-eqb (bit_and n (get_or masks i 0)) (get_or masks i 0) f) at step
 
-  pub mask-missed : (bit_and n (get_or masks i 0) ≡ get_or masks i 0 → ⊥) → any (covers n) (drop (i + 1) masks) ≡ b
-  mask-missed f = rw (ne_eqb (bit_and n (get_or masks i 0)) (get_or masks i 0) f) at step
+  pub mask_missed : (bit_and n (get_or masks i 0) ≡ get_or masks i 0 → ⊥) → any (covers n) (drop (i + 1) masks) ≡ b
+  mask_missed f = rw (ne_eqb (bit_and n (get_or masks i 0)) (get_or masks i 0) f) at step
 
 -- ---- what nine digits say of the state of a board, or of the game
-pub line_known : (own : ℕ → Bool) (n : ℕ) (r b : Bool) → n ≡ digits own 9 → r ≡ has-line (bit n) → r ≡ b →
-    has-line own ≡ b
+pub line_known : (own : ℕ → Bool) (n : ℕ) (r b : Bool) → n ≡ digits own 9 → r ≡ has_line (bit n) → r ≡ b →
+    has_line own ≡ b
 line_known own n r b e f g =
-    sym (line_same (bit (digits own 9)) own (bit-digits own 9)) ∙ ap (λ (m : ℕ). has-line (bit m)) (sym e) ∙ sym f ∙ g
+    sym (line_same (bit (digits own 9)) own (bit_digits own 9)) ∙ ap (λ (m : ℕ). has_line (bit m)) (sym e) ∙ sym f ∙ g
 
-full-of-digits : (left : ℕ → Bool) → eqb (digits (λ k. not (left k)) 9) 511 ≡ not (any left nine)
-full-of-digits left =
-    small-full (digits (λ k. not (left k)) 9) (digits_lt (λ k. not (left k)) 9)
+full_of_digits : (left : ℕ → Bool) → eqb (digits (λ k. not (left k)) 9) 511 ≡ not (any left nine)
+full_of_digits left =
+    small_full (digits (λ k. not (left k)) 9) (digits_lt (λ k. not (left k)) 9)
     ∙ ap not (any_same (λ k. not (bit (digits (λ k. not (left k)) 9) k)) left nine
-    (λ k i. ap not (bit-digits (λ k. not (left k)) 9 k (from_in 0 9 k i).1) ∙ not-not (left k)))
+    (λ k i. ap not (bit_digits (λ k. not (left k)) 9 k (from_in 0 9 k i).1) ∙ not-not (left k)))
 
 module _ (w : Player) (own left : ℕ → Bool) where
-  pub is-won : has-line own ≡ true → Won w ≡ result w own left
-  unfolding result if◌then◌else◌
-  is-won e = rw e
+  pub is_won : has_line own ≡ true → Won w ≡ result_of w own left
+  unfolding result_of if◌then◌else◌
+  is_won e = rw e
 
-  pub is-drawn : has-line own ≡ false → digits (λ k. not (left k)) 9 ≡ 511 → Drawn ≡ result w own left
-  unfolding result if◌then◌else◌
-  is-drawn e f = rw (e, not-true (any left nine) (sym (full-of-digits left) ∙ eq-eqb _ _ f))
+  pub is_drawn : has_line own ≡ false → digits (λ k. not (left k)) 9 ≡ 511 → Drawn ≡ result_of w own left
+  unfolding result_of if◌then◌else◌
+  is_drawn e f = rw (e, not-true (any left nine) (sym (full_of_digits left) ∙ eq-eqb _ _ f))
 
-  pub is_open : has-line own ≡ false → (digits (λ k. not (left k)) 9 ≡ 511 → ⊥) → InPlay ≡ result w own left
-  unfolding result if◌then◌else◌
-  is_open e f = rw (e, not-false (any left nine) (sym (full-of-digits left) ∙ ne_eqb _ _ f))
+  pub is_open : has_line own ≡ false → (digits (λ k. not (left k)) 9 ≡ 511 → ⊥) → InPlay ≡ result_of w own left
+  unfolding result_of if◌then◌else◌
+  is_open e f = rw (e, not-false (any left nine) (sym (full_of_digits left) ∙ ne_eqb _ _ f))

@@ -10,13 +10,13 @@ abbrev pub masks : List ℕ
 masks = 0x7 ∷ 0x38 ∷ 0x1c0 ∷ 0x49 ∷ 0x92 ∷ 0x124 ∷ 0x111 ∷ 0x54 ∷ []
 
 -- a line's three places, as bits
-abbrev pub mask-of : Line → ℕ
-mask-of l = 2 ^ l.i + 2 ^ l.j + 2 ^ l.k
+abbrev pub mask_of : Line → ℕ
+mask_of l = 2 ^ l.i + 2 ^ l.j + 2 ^ l.k
 
 -- a line's three places, as a list
 abbrev pub indices : Line → List ℕ
 indices l = l.i ∷ l.j ∷ l.k ∷ []
 
 -- place j of line i, 9 where there is none
-abbrev pub pattern-at : ℕ → ℕ → ℕ
-pattern-at i j = get_or (get_or (map indices lines) i []) j 9
+abbrev pub pattern_at : ℕ → ℕ → ℕ
+pattern_at i j = get_or (get_or (map indices lines) i []) j 9

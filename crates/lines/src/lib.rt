@@ -1,10 +1,12 @@
 // The eight lines of a square of nine, twice: as three indices and as a mask.
 // Ported from src/lib/game.rs of nelhage/ultimattt at commit 87ef0d9c7c (Apache-2.0, see NOTICE), changed: eight masks in turn for the
 // lanes of a vector.
+#![tactic(auto)]
+
 ghost use Rattle.std.specs.Prelude.{◌≡◌, get_or};
 ghost use Rattle.base.specs.Bits.{bit};
-ghost use Rattle.rules.specs.Board.{has-line};
-ghost use Rattle.lines.specs.Masks.{masks, pattern-at};
+ghost use Rattle.rules.specs.Board.{has_line};
+ghost use Rattle.lines.specs.Masks.{masks, pattern_at};
 
 pub const WIN_PATTERNS: [[usize; 3]; 8] = [
     // rows
@@ -22,7 +24,7 @@ pub const WIN_PATTERNS: [[usize; 3]; 8] = [
 
 // Place j of line i, 9 where there is none.
 pub fn win_pattern(i: usize, j: usize) -> usize
-    ensures { result ≡ pattern-at i j }
+    ensures { result ≡ pattern_at i j }
 {
     if i > 7 {
         return 9;
@@ -49,7 +51,7 @@ pub fn win_mask(i: usize) -> u32
 
 // Whether one of the eight lines lies in the bits.
 pub fn has_line(bits: u32) -> bool
-    ensures { result ≡ has-line (bit bits) }
+    ensures { result ≡ has_line (bit bits) }
 {
     for i in 0..8 {
         let m = WIN_MASKS[i];

@@ -11,67 +11,67 @@ use Rattle.boards.specs.declared.moves.Move.{Move}
 use Rattle.minimax.specs.Report.{byte_of, bytes_of}
 
 -- ---- the first place
-pub first-place : (l : List Move) (x : Move) → 0 < length l → (d : ℕ) → 0 < d →
+pub first_place : (l : List Move) (x : Move) → 0 < length l → (d : ℕ) → 0 < d →
     byte_of (get_or l 0 x) ≡ get_or (take d (bytes_of l)) 0 no_move
-first-place [] x h d k = absurd (omega arith)
-first-place (y ∷ l) x h zero k = absurd (omega arith)
-first-place (y ∷ l) x h (suc d) k = refl
+first_place [] x h d k = absurd (omega arith)
+first_place (y ∷ l) x h zero k = absurd (omega arith)
+first_place (y ∷ l) x h (suc d) k = refl
 
-pub set-first-place : (l : List Move) (m : Move) (d : ℕ) → take d (bytes_of (set l 0 m)) ≡ set_first m.bits (take d (bytes_of l))
+pub set_first_place : (l : List Move) (m : Move) (d : ℕ) → take d (bytes_of (set l 0 m)) ≡ set_first m.bits (take d (bytes_of l))
 unfolding set_first
-set-first-place [] m zero = refl
-set-first-place [] m (suc d) = refl
-set-first-place (y ∷ l) m zero = refl
-set-first-place (y ∷ l) m (suc d) = refl
+set_first_place [] m zero = refl
+set_first_place [] m (suc d) = refl
+set_first_place (y ∷ l) m zero = refl
+set_first_place (y ∷ l) m (suc d) = refl
 
-pub set-first-drop : (l : List Move) (m : Move) (d : ℕ) → 0 < d → drop d (set l 0 m) ≡ drop d l
-set-first-drop l m zero h = absurd (omega arith)
-set-first-drop [] m (suc d) h = refl
-set-first-drop (y ∷ l) m (suc d) h = refl
+pub set_first_drop : (l : List Move) (m : Move) (d : ℕ) → 0 < d → drop d (set l 0 m) ≡ drop d l
+set_first_drop l m zero h = absurd (omega arith)
+set_first_drop [] m (suc d) h = refl
+set_first_drop (y ∷ l) m (suc d) h = refl
 
 -- ---- a variation's first place, i places of the variation below, and the rest
 abbrev pub placed : List Move → List Move → ℕ → List Move
 placed [] below i = []
 placed (x ∷ pv) below i = x ∷ (take i below ++ drop i pv)
 
-place-next : (i : ℕ) (pv below : List Move) (d : Move) → i < length pv → i < length below →
+place_next : (i : ℕ) (pv below : List Move) (d : Move) → i < length pv → i < length below →
     set (take i below ++ drop i pv) i (get_or below i d) ≡ take (suc i) below ++ drop (suc i) pv
-place-next i [] below d h k = absurd (omega arith)
-place-next i (x ∷ pv) [] d h k = absurd (omega arith)
-place-next zero (x ∷ pv) (y ∷ below) d h k = refl
-place-next (suc i) (x ∷ pv) (y ∷ below) d h k = ap (◌∷◌ y) (place-next i pv below d (omega arith) (omega arith))
+place_next i [] below d h k = absurd (omega arith)
+place_next i (x ∷ pv) [] d h k = absurd (omega arith)
+place_next zero (x ∷ pv) (y ∷ below) d h k = refl
+place_next (suc i) (x ∷ pv) (y ∷ below) d h k = ap (◌∷◌ y) (place_next i pv below d (omega arith) (omega arith))
 
-pub placed-none : (pv below : List Move) → pv ≡ placed pv below 0
-placed-none [] below = refl
-placed-none (x ∷ pv) below = refl
+pub placed_none : (pv below : List Move) → pv ≡ placed pv below 0
+placed_none [] below = refl
+placed_none (x ∷ pv) below = refl
 
 -- one place more
-pub placed-more : (old below now : List Move) (m : Move) (i : ℕ) (d : Move) → now ≡ placed (set old 0 m) below i →
+pub placed_more : (old below now : List Move) (m : Move) (i : ℕ) (d : Move) → now ≡ placed (set old 0 m) below i →
     suc i < length old → i < length below → set now (i + 1) (get_or below i d) ≡ placed (set old 0 m) below (i + 1)
-placed-more [] below now m i d e h k = absurd (omega arith)
-placed-more (x ∷ old) below now m i d e h k = rw e (simp unary_clauses (ap (◌∷◌ m) (place-next i old below d (omega arith) k)))
+placed_more [] below now m i d e h k = absurd (omega arith)
+placed_more (x ∷ old) below now m i d e h k = rw e (simp unary_clauses (ap (◌∷◌ m) (place_next i old below d (omega arith) k)))
 
 -- the first n places are those of the variation below, the others as they were
-take-placed : (n : ℕ) (low rest : List Move) → n ≤ length low → take n (bytes_of (take n low ++ rest)) ≡ take n (bytes_of low)
-take-placed zero low rest h = refl
-take-placed (suc n) [] rest h = absurd (omega arith)
-take-placed (suc n) (x ∷ low) rest h = ap (◌∷◌ x.bits) (take-placed n low rest (omega arith))
+take_placed : (n : ℕ) (low rest : List Move) → n ≤ length low → take n (bytes_of (take n low ++ rest)) ≡ take n (bytes_of low)
+take_placed zero low rest h = refl
+take_placed (suc n) [] rest h = absurd (omega arith)
+take_placed (suc n) (x ∷ low) rest h = ap (◌∷◌ x.bits) (take_placed n low rest (omega arith))
 
-drop-placed : (n : ℕ) (low rest : List Move) → n ≤ length low → drop n (take n low ++ rest) ≡ rest
-drop-placed zero low rest h = refl
-drop-placed (suc n) [] rest h = absurd (omega arith)
-drop-placed (suc n) (x ∷ low) rest h = drop-placed n low rest (omega arith)
+drop_placed : (n : ℕ) (low rest : List Move) → n ≤ length low → drop n (take n low ++ rest) ≡ rest
+drop_placed zero low rest h = refl
+drop_placed (suc n) [] rest h = absurd (omega arith)
+drop_placed (suc n) (x ∷ low) rest h = drop_placed n low rest (omega arith)
 
-pub placed-all : (old below now : List Move) (m : Move) (d n : ℕ) → d ≡ suc n → 0 < length old → n ≤ length below →
+pub placed_all : (old below now : List Move) (m : Move) (d n : ℕ) → d ≡ suc n → 0 < length old → n ≤ length below →
     now ≡ placed (set old 0 m) below n
     → (take d (bytes_of now) ≡ m.bits ∷ take (d - 1) (bytes_of below)) × (drop d now ≡ drop d old)
-placed-all [] below now m d n e h k p = absurd (omega arith)
-placed-all (x ∷ old) below now m d n e h k p =
+placed_all [] below now m d n e h k p = absurd (omega arith)
+placed_all (x ∷ old) below now m d n e h k p =
     let q : d - 1 ≡ n = omega arith in
-    rw (p, q, e) (ap (◌∷◌ m.bits) (take-placed n below (drop n old) k), drop-placed n below (drop n old) k)
+    rw (p, q, e) (ap (◌∷◌ m.bits) (take_placed n below (drop n old) k), drop_placed n below (drop n old) k)
 
 -- ---- the empty variation
-pub empty-places : (n k : ℕ) → n ≤ k → replicate n no_move ≡ take n (bytes_of (replicate k (record { bits = no_move })))
-empty-places zero k h = refl
-empty-places (suc n) zero h = absurd (omega arith)
-empty-places (suc n) (suc k) h = ap (◌∷◌ no_move) (empty-places n k (omega arith))
+pub empty_places : (n k : ℕ) → n ≤ k → replicate n no_move ≡ take n (bytes_of (replicate k (record { bits = no_move })))
+empty_places zero k h = refl
+empty_places (suc n) zero h = absurd (omega arith)
+empty_places (suc n) (suc k) h = ap (◌∷◌ no_move) (empty_places n k (omega arith))

@@ -12,16 +12,16 @@ use Rattle.rules.specs.declared.Player.{Player}
 use Rattle.rules.specs.declared.Player.TheVariants.{X, O}
 use Rattle.rules.specs.Board.{other}
 use Rattle.rules.specs.Play.{no_move}
-use Rattle.theory.specs.Memory.{Responses, Memory, begin, enter, leaf, hit, answered, responses-to, cut}
+use Rattle.theory.specs.Memory.{Responses, Memory, begin, enter, leaf, hit, answered, responses_to, cut}
 use Rattle.boards.specs.declared.moves.Move.{Move}
 use Rattle.minimax.specs.declared.ResponseTables.{ResponseTables}
 use Rattle.minimax.specs.declared.search.SearchState.{SearchState}
-use Rattle.minimax.specs.Report.{byte_of, bytes_of, responses-of}
-use Rattle.minimax.specs.State.{memory-of}
+use Rattle.minimax.specs.Report.{byte_of, bytes_of, responses_of}
+use Rattle.minimax.specs.State.{memory_of}
 
 -- the state with other counts
-abbrev with-counts : SearchState → ℕ → ℕ → ℕ → ℕ → ℕ → ℕ → SearchState
-with-counts s count visited terminal cuts hits suffice = record {
+abbrev with_counts : SearchState → ℕ → ℕ → ℕ → ℕ → ℕ → ℕ → SearchState
+with_counts s count visited terminal cuts hits suffice = record {
   responses_x = s.responses_x;
   responses_o = s.responses_o;
   count = count;
@@ -33,51 +33,51 @@ with-counts s count visited terminal cuts hits suffice = record {
 }
 
 module _ (s : SearchState) (words : List ℕ) where
-  pub begun : memory-of (with-counts s s.count 0 0 0 0 0) words ≡ begin (memory-of s words)
+  pub begun : memory_of (with_counts s s.count 0 0 0 0 0) words ≡ begin (memory_of s words)
   unfolding begin
   begun = refl
 
-  pub entered : memory-of (with-counts s (s.count + 1) (s.visited + 1) s.terminal s.cuts s.tt_hit s.tt_suffice) words
-      ≡ enter (memory-of s words)
+  pub entered : memory_of (with_counts s (s.count + 1) (s.visited + 1) s.terminal s.cuts s.tt_hit s.tt_suffice) words
+      ≡ enter (memory_of s words)
   unfolding enter
   entered = simp unary_clauses refl
 
-  pub leaf-reached : memory-of (with-counts s s.count s.visited (s.terminal + 1) s.cuts s.tt_hit s.tt_suffice) words
-      ≡ leaf (memory-of s words)
+  pub leaf_reached : memory_of (with_counts s s.count s.visited (s.terminal + 1) s.cuts s.tt_hit s.tt_suffice) words
+      ≡ leaf (memory_of s words)
   unfolding leaf
-  leaf-reached = simp unary_clauses refl
+  leaf_reached = simp unary_clauses refl
 
-  pub was-hit : memory-of (with-counts s s.count s.visited s.terminal s.cuts (s.tt_hit + 1) s.tt_suffice) words
-      ≡ hit (memory-of s words)
+  pub was_hit : memory_of (with_counts s s.count s.visited s.terminal s.cuts (s.tt_hit + 1) s.tt_suffice) words
+      ≡ hit (memory_of s words)
   unfolding hit
-  was-hit = simp unary_clauses refl
+  was_hit = simp unary_clauses refl
 
-  pub sufficed : memory-of (with-counts s s.count s.visited s.terminal s.cuts s.tt_hit (s.tt_suffice + 1)) words
-      ≡ answered (memory-of s words)
+  pub sufficed : memory_of (with_counts s s.count s.visited s.terminal s.cuts s.tt_hit (s.tt_suffice + 1)) words
+      ≡ answered (memory_of s words)
   unfolding answered
   sufficed = simp unary_clauses refl
 
 -- ---- moves as bytes
-pub getD-bytes : (l : List Move) (i : ℕ) (d : Move) (n : ℕ) → i < length l → byte_of (get_or l i d) ≡ get_or (bytes_of l) i n
-getD-bytes [] i d n h = absurd (omega arith)
-getD-bytes (x ∷ l) zero d n h = refl
-getD-bytes (x ∷ l) (suc i) d n h = getD-bytes l i d n (omega arith)
+pub get_or_bytes : (l : List Move) (i : ℕ) (d : Move) (n : ℕ) → i < length l → byte_of (get_or l i d) ≡ get_or (bytes_of l) i n
+get_or_bytes [] i d n h = absurd (omega arith)
+get_or_bytes (x ∷ l) zero d n h = refl
+get_or_bytes (x ∷ l) (suc i) d n h = get_or_bytes l i d n (omega arith)
 
-set-bytes : (l : List Move) (i : ℕ) (m : Move) → bytes_of (set l i m) ≡ set (bytes_of l) i m.bits
-set-bytes [] i m = refl
-set-bytes (x ∷ l) zero m = refl
-set-bytes (x ∷ l) (suc i) m = ap (◌∷◌ x.bits) (set-bytes l i m)
+set_bytes : (l : List Move) (i : ℕ) (m : Move) → bytes_of (set l i m) ≡ set (bytes_of l) i m.bits
+set_bytes [] i m = refl
+set_bytes (x ∷ l) zero m = refl
+set_bytes (x ∷ l) (suc i) m = ap (◌∷◌ x.bits) (set_bytes l i m)
 
 -- ---- response tables
 module _ (s : SearchState) (words : List ℕ) (prev : Move) where
-  pub response-by : (l : List Move) (w : Player) → responses-to (memory-of s words) (other w) ≡ bytes_of l → prev.bits < length l →
-      (d : Move) → byte_of (get_or l prev.bits d) ≡ get_or (responses-to (memory-of s words) (other w)) prev.bits no_move
-  response-by l w e h d = getD-bytes l prev.bits d no_move h ∙ ap (λ (bs : List ℕ). get_or bs prev.bits no_move) (sym e)
+  pub response_by : (l : List Move) (w : Player) → responses_to (memory_of s words) (other w) ≡ bytes_of l → prev.bits < length l →
+      (d : Move) → byte_of (get_or l prev.bits d) ≡ get_or (responses_to (memory_of s words) (other w)) prev.bits no_move
+  response_by l w e h d = get_or_bytes l prev.bits d no_move h ∙ ap (λ (bs : List ℕ). get_or bs prev.bits no_move) (sym e)
 
 module _ (s : SearchState) (words : List ℕ) (prev m : Move) where
   -- one more cut, and other tables
-  abbrev after-cut : ResponseTables → SearchState
-  after-cut tables = record {
+  abbrev after_cut : ResponseTables → SearchState
+  after_cut tables = record {
     responses_x = tables.x;
     responses_o = tables.o;
     count = s.count;
@@ -88,59 +88,59 @@ module _ (s : SearchState) (words : List ℕ) (prev m : Move) where
     tt_suffice = s.tt_suffice;
   }
 
-  abbrev cut-means : Responses → Memory
-  cut-means rs = record {
+  abbrev cut_means : Responses → Memory
+  cut_means rs = record {
     count = s.count;
     tally =
         record {
           visited = s.visited;
           terminal = s.terminal;
           cuts = suc s.cuts;
-          tt-hit = s.tt_hit;
-          tt-suffice = s.tt_suffice;
+          tt_hit = s.tt_hit;
+          tt_suffice = s.tt_suffice;
         };
     responses = rs;
     table = words;
   }
 
-  cut-with : (tables : ResponseTables) (rs : Responses) → responses-of tables ≡ rs →
-      memory-of (after-cut tables) words ≡ cut-means rs
-  cut-with tables rs e = λ i. record {
+  cut_with : (tables : ResponseTables) (rs : Responses) → responses_of tables ≡ rs →
+      memory_of (after_cut tables) words ≡ cut_means rs
+  cut_with tables rs e = λ i. record {
     count = s.count;
     tally =
         record {
           visited = s.visited;
           terminal = s.terminal;
           cuts = add-one s.cuts i;
-          tt-hit = s.tt_hit;
-          tt-suffice = s.tt_suffice;
+          tt_hit = s.tt_hit;
+          tt_suffice = s.tt_suffice;
         };
     responses = e i;
     table = words;
   }
 
-  pub cut-x : (w : Player) → w ≡ X
-      → memory-of (after-cut (record { x = s.responses_x; o = set s.responses_o prev.bits m })) words
-      ≡ cut w (memory-of s words) prev.bits m.bits
+  pub cut_x : (w : Player) → w ≡ X
+      → memory_of (after_cut (record { x = s.responses_x; o = set s.responses_o prev.bits m })) words
+      ≡ cut w (memory_of s words) prev.bits m.bits
   unfolding cut
-  cut-x w e = cut-with (record { x = s.responses_x; o = set s.responses_o prev.bits m }) _
-      (λ i. record { to-x = bytes_of s.responses_x; to-o = set-bytes s.responses_o prev.bits m i })
-      ∙ ap (λ (v : Player). cut v (memory-of s words) prev.bits m.bits) (sym e)
+  cut_x w e = cut_with (record { x = s.responses_x; o = set s.responses_o prev.bits m }) _
+      (λ i. record { to_x = bytes_of s.responses_x; to_o = set_bytes s.responses_o prev.bits m i })
+      ∙ ap (λ (v : Player). cut v (memory_of s words) prev.bits m.bits) (sym e)
 
-  pub cut-o : (w : Player) → w ≡ O
-      → memory-of (after-cut (record { x = set s.responses_x prev.bits m; o = s.responses_o })) words
-      ≡ cut w (memory-of s words) prev.bits m.bits
+  pub cut_o : (w : Player) → w ≡ O
+      → memory_of (after_cut (record { x = set s.responses_x prev.bits m; o = s.responses_o })) words
+      ≡ cut w (memory_of s words) prev.bits m.bits
   unfolding cut
-  cut-o w e = cut-with (record { x = set s.responses_x prev.bits m; o = s.responses_o }) _
-      (λ i. record { to-x = set-bytes s.responses_x prev.bits m i; to-o = bytes_of s.responses_o })
-      ∙ ap (λ (v : Player). cut v (memory-of s words) prev.bits m.bits) (sym e)
+  cut_o w e = cut_with (record { x = set s.responses_x prev.bits m; o = s.responses_o }) _
+      (λ i. record { to_x = set_bytes s.responses_x prev.bits m i; to_o = bytes_of s.responses_o })
+      ∙ ap (λ (v : Player). cut v (memory_of s words) prev.bits m.bits) (sym e)
 
 -- ---- the response, or lacking one the variation's move
 module _ (answer pv : Move) where
-  pub hint-line : eqb answer.bits no_move ≡ true → pv ≡ (if eqb answer.bits no_move then (λ _. pv) else λ _. answer)
+  pub hint_line : eqb answer.bits no_move ≡ true → pv ≡ (if eqb answer.bits no_move then (λ _. pv) else λ _. answer)
   unfolding if◌then◌else◌
-  hint-line e = rw e
+  hint_line e = rw e
 
-  pub hint-answer : eqb answer.bits no_move ≡ false → answer ≡ (if eqb answer.bits no_move then (λ _. pv) else λ _. answer)
+  pub hint_answer : eqb answer.bits no_move ≡ false → answer ≡ (if eqb answer.bits no_move then (λ _. pv) else λ _. answer)
   unfolding if◌then◌else◌
-  hint-answer e = rw e
+  hint_answer e = rw e

@@ -4,43 +4,43 @@ use Rattle.rules.specs.Play.{no_move}
 use Rattle.theory.specs.Limits.{console}
 use Rattle.theory.specs.Memory.{Responses}
 use Rattle.theory.specs.Deepening.{Completed}
-use Rattle.theory.specs.Reported.{Reported, no-stats}
+use Rattle.theory.specs.Reported.{Reported, no_stats}
 use Rattle.minimax.specs.declared.SearchError.{SearchError}
 use Rattle.minimax.specs.declared.EntryAnswer.{EntryAnswer}
 use Rattle.minimax.specs.declared.EntryAnswer.TheVariants.{Allowed, Refused}
 use Rattle.minimax.specs.declared.CompletedDepths.{CompletedDepths}
-use Rattle.minimax.specs.Report.{search-error-number, is-spent, stats-of}
-use Rattle.minimax.specs.State.{pv-of}
+use Rattle.minimax.specs.Report.{search_error_number, is_spent, stats_of}
+use Rattle.minimax.specs.State.{pv_of}
 
 -- refused at the entry
-abbrev pub refused-with : SearchError → Responses → List ℕ → Reported
-refused-with e rs words = record {
-  number = search-error-number e;
-  is-stopped = is-spent e;
+abbrev pub refused_with : SearchError → Responses → List ℕ → Reported
+refused_with e rs words = record {
+  number = search_error_number e;
+  is_stopped = is_spent e;
   depth = 0;
   score = pos 0;
   pv = replicate console.deepest no_move;
-  stats = replicate console.deepest no-stats;
+  stats = replicate console.deepest no_stats;
   count = 0;
   responses = rs;
   table = words;
 }
 
-abbrev pub entry-number : EntryAnswer → ℕ
-entry-number Allowed = 0
-entry-number (Refused e) = search-error-number e
+abbrev pub entry_number : EntryAnswer → ℕ
+entry_number Allowed = 0
+entry_number (Refused e) = search_error_number e
 
 -- ---- the completed depths
-abbrev pub completed-of : CompletedDepths → Completed
-completed-of d = record {
+abbrev pub completed_of : CompletedDepths → Completed
+completed_of d = record {
   depth = d.depth;
   score = d.score;
-  pv = pv-of d.pv d.depth;
-  stats = take d.depth (map stats-of d.stats);
+  pv = pv_of d.pv d.depth;
+  stats = take d.depth (map stats_of d.stats);
 }
 
 -- the places after the last completed depth are empty
-pub record Empty-on (d : CompletedDepths) : Type 0 where
+pub record EmptyOn (d : CompletedDepths) : Type 0 where
   pub most : d.depth ≤ console.deepest
-  pub line-empty : drop d.depth d.pv.moves ≡ replicate (console.deepest - d.depth) (record { bits = no_move })
-  pub stats-empty : drop d.depth (map stats-of d.stats) ≡ replicate (console.deepest - d.depth) no-stats
+  pub line_empty : drop d.depth d.pv.moves ≡ replicate (console.deepest - d.depth) (record { bits = no_move })
+  pub stats_empty : drop d.depth (map stats_of d.stats) ≡ replicate (console.deepest - d.depth) no_stats

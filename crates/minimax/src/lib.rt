@@ -1,22 +1,24 @@
 // The search: depth after depth, each the ordered search of the one position.
 // Ported from src/lib/minimax.rs of nelhage/ultimattt at commit 87ef0d9c7c (Apache-2.0, see NOTICE), changed: an allowance of positions for
 // the clock, settings and table words as arguments, refusals numbered, and no debug output.
+#![tactic(auto)]
+
 mod search;
 
 ghost use Rattle.std.specs.Prelude.{◌≡◌, ◌&&◌, List, ℕ, ◌+◌, ◌≤◌, ◌<◌, T, eqb, drop};
 ghost use Rattle.base.specs.Branch.{if◌then◌else◌};
 ghost use Rattle.rules.specs.Play.{no_move};
-ghost use Rattle.rules.specs.Evaluation.{accepted-weights, Scoring};
+ghost use Rattle.rules.specs.Evaluation.{accepted_weights, Scoring};
 ghost use Rattle.theory.specs.Limits.{console};
 ghost use Rattle.theory.specs.PlainMinimax.{lowest, highest};
-ghost use Rattle.theory.specs.Memory.{fresh-memory};
+ghost use Rattle.theory.specs.Memory.{fresh_memory};
 ghost use Rattle.theory.specs.Deepening.{nothing_yet, one_deeper, decided};
-ghost use Rattle.theory.specs.Reported.{entry-refusal, report};
-ghost use Rattle.minimax.specs.State.{memory-of, pv-of, tally-of};
-ghost use Rattle.minimax.specs.Completed.{entry-number, completed-of, Empty-on, refused-with};
-ghost use Rattle.minimax.specs.Report.{search-error-number, ending-number, ending-stopped, stats-of, settings-of, responses-of};
-ghost use Rattle.minimax.specs.Report.{scoring-of, empty-responses, report-of, answer-of};
-ghost use Rattle.minimax.specs.Report.{reported-of};
+ghost use Rattle.theory.specs.Reported.{entry_refusal, report};
+ghost use Rattle.minimax.specs.State.{memory_of, pv_of, tally_of};
+ghost use Rattle.minimax.specs.Completed.{entry_number, completed_of, EmptyOn, refused_with};
+ghost use Rattle.minimax.specs.Report.{search_error_number, ending_number, ending_stopped, stats_of, settings_of, responses_of};
+ghost use Rattle.minimax.specs.Report.{scoring_of, empty_responses, report_of, answer_of};
+ghost use Rattle.minimax.specs.Report.{reported_of};
 ghost use Rattle.minimax.specs.Structs.{structs};
 
 use boards::{Move, PLACES};
@@ -31,7 +33,7 @@ pub const MOST_POSITIONS: u64 = 1000000000;
 pub const MOST_WORDS: usize = 196608;
 
 // Of one completed depth.
-#[derive(Drop)]
+#[derive(Clone, Copy)]
 pub struct Stats {
     pub depth: u64,
     pub score: i64,
@@ -42,7 +44,7 @@ pub struct Stats {
     pub tt_suffice: u64,
 }
 
-#[derive(Drop)]
+#[derive(Clone, Copy)]
 pub struct Config {
     pub max_depth: u64,
     pub allowance: u64,
@@ -51,19 +53,19 @@ pub struct Config {
 }
 
 // The responses to X's moves and to O's, by the move's byte.
-#[derive(Drop)]
+#[derive(Clone, Copy)]
 pub struct ResponseTables {
     pub x: [Move; 256],
     pub o: [Move; 256],
 }
 
 // What a search leaves for the next one.
-#[derive(Drop)]
+#[derive(Clone, Copy)]
 pub struct Minimax {
     pub responses: ResponseTables,
 }
 
-#[derive(Drop)]
+#[derive(Clone, Copy)]
 pub enum SearchError {
     Depth,
     Allowance,
@@ -74,7 +76,7 @@ pub enum SearchError {
 
 impl SearchError {
     pub fn number(self) -> u64
-        ensures { result ≡ search-error-number self }
+        ensures { result ≡ search_error_number self }
     {
         match self {
             SearchError::Depth => 15,
@@ -86,7 +88,7 @@ impl SearchError {
     }
 }
 
-#[derive(Drop)]
+#[derive(Clone, Copy)]
 pub enum Ending {
     Whole,
     Stopped,
@@ -96,7 +98,7 @@ pub enum Ending {
 impl Ending {
     // 0 where the search was not refused.
     pub fn number(self) -> u64
-        ensures { result ≡ ending-number self }
+        ensures { result ≡ ending_number self }
     {
         match self {
             Ending::Whole => 0,
@@ -107,7 +109,7 @@ impl Ending {
 }
 
 // The last completed depth with its score and variation, the positions entered, and the stats of each completed depth.
-#[derive(Drop)]
+#[derive(Clone, Copy)]
 pub struct Report {
     pub state: Minimax,
     pub ending: Ending,
@@ -119,14 +121,14 @@ pub struct Report {
 }
 
 // Whether a search may begin.
-#[derive(Drop)]
+#[derive(Clone, Copy)]
 enum EntryAnswer {
     Allowed,
     Refused(SearchError),
 }
 
 // What the completed depths have come to: the last one, its score and variation, and the stats of each.
-#[derive(Drop)]
+#[derive(Clone, Copy)]
 struct CompletedDepths {
     pub pv: Pv,
     pub stats: [Stats; PLACES],
@@ -146,7 +148,7 @@ impl Stats {
     };
 
     fn of(depth: u8, r: NodeResult) -> Stats
-        ensures { stats-of result ≡ record { depth = depth; score = r.score; tally = tally-of r.state } }
+        ensures { stats_of result ≡ record { depth = depth; score = r.score; tally = tally_of r.state } }
     {
         let state = r.state;
         Stats {
@@ -164,7 +166,7 @@ impl Stats {
 impl Config {
     // Refusals 15 to 17, and 20.
     fn check(self, words: usize) -> EntryAnswer
-        ensures { entry-number result ≡ entry-refusal (settings-of self) words }
+        ensures { entry_number result ≡ entry_refusal (settings_of self) words }
     {
         if self.max_depth == 0 {
             return EntryAnswer::Refused(SearchError::Depth);
@@ -221,7 +223,7 @@ impl Config {
 
 impl CompletedDepths {
     fn none() -> CompletedDepths
-        ensures { (completed-of result ≡ nothing_yet) × Empty-on result }
+        ensures { (completed_of result ≡ nothing_yet) × EmptyOn result }
     {
         CompletedDepths {
             pv: Pv::empty(),
@@ -233,11 +235,11 @@ impl CompletedDepths {
 
     // One depth more.
     fn deeper(self, r: NodeResult) -> CompletedDepths
-        requires { (self.depth < console.deepest) × Empty-on self
+        requires { (self.depth < console.deepest) × EmptyOn self
             × (drop (self.depth + 1) r.pv.moves ≡ drop (self.depth + 1) self.pv.moves) }
-        ensures { (completed-of result ≡ one_deeper (completed-of self) r.score (pv-of r.pv (self.depth + 1))
-            (tally-of r.state))
-            × Empty-on result × (result.pv ≡ r.pv) }
+        ensures { (completed_of result ≡ one_deeper (completed_of self) r.score (pv_of r.pv (self.depth + 1))
+            (tally_of r.state))
+            × EmptyOn result × (result.pv ≡ r.pv) }
     {
         let mut stats = self.stats;
         let at = self.depth as usize;
@@ -263,8 +265,8 @@ impl CompletedDepths {
     }
 
     fn ending(self, stopped: bool) -> Ending
-        ensures { (ending-number result ≡ (if stopped && eqb self.depth 0 then (λ _. 18) else λ _. 0))
-            × (ending-stopped result ≡ stopped) }
+        ensures { (ending_number result ≡ (if stopped && eqb self.depth 0 then (λ _. 18) else λ _. 0))
+            × (ending_stopped result ≡ stopped) }
     {
         if !stopped {
             return Ending::Whole;
@@ -276,9 +278,9 @@ impl CompletedDepths {
     }
 
     fn report(self, state: SearchState, stopped: bool) -> Report
-        requires { Empty-on self }
-        ensures { (sc : Scoring) (game : Game) (words : List ℕ) → report-of result words
-            ≡ report (structs sc) game (record { is-stopped = stopped; completed = completed-of self; memory = memory-of state words }) }
+        requires { EmptyOn self }
+        ensures { (sc : Scoring) (game : Game) (words : List ℕ) → report_of result words
+            ≡ report (structs sc) game (record { is_stopped = stopped; completed = completed_of self; memory = memory_of state words }) }
     {
         let x = state.responses_x;
         let o = state.responses_o;
@@ -302,7 +304,7 @@ impl CompletedDepths {
 
 impl Minimax {
     pub fn new() -> Minimax
-        ensures { result ≡ empty-responses }
+        ensures { result ≡ empty_responses }
     {
         Minimax {
             responses: ResponseTables {
@@ -313,7 +315,7 @@ impl Minimax {
     }
 
     fn refused(self, why: SearchError) -> Report
-        ensures { (words : List ℕ) → report-of result words ≡ refused-with why (responses-of self.responses) words }
+        ensures { (words : List ℕ) → report_of result words ≡ refused_with why (responses_of self.responses) words }
     {
         Report {
             state: self,
@@ -328,7 +330,7 @@ impl Minimax {
 
     // The search's state before its first depth.
     fn begin(self) -> SearchState
-        ensures { (words : List ℕ) → memory-of result words ≡ fresh-memory (responses-of self.responses) words }
+        ensures { (words : List ℕ) → memory_of result words ≡ fresh_memory (responses_of self.responses) words }
     {
         let responses = self.responses;
         let x = responses.x;
@@ -347,9 +349,9 @@ impl Minimax {
 
     fn deepen(self, game: Game, config: Config, words: &mut [u64]) -> Report
         requires { (config.max_depth ≤ console.deepest) × (config.allowance ≤ console.positions)
-            × T (accepted-weights config.weights) }
-        ensures { report-of result words.new
-            ≡ report (structs (scoring-of config)) game (answer-of self game config words.old) }
+            × T (accepted_weights config.weights) }
+        ensures { report_of result words.new
+            ≡ report (structs (scoring_of config)) game (answer_of self game config words.old) }
     {
         let weights = config.weights;
         let values = Values::new(game, weights);
@@ -376,7 +378,7 @@ impl Minimax {
 
     // Depth 1, 2, .. to the limit, ending sooner at a won or lost score, or when the allowance is spent.
     pub fn analyze(self, game: Game, config: Config, words: &mut [u64]) -> Report
-        ensures { report-of result words.new ≡ reported-of self game config words.old }
+        ensures { report_of result words.new ≡ reported_of self game config words.old }
     {
         match config.check(words.len()) {
             EntryAnswer::Refused(why) => self.refused(why),

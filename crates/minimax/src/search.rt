@@ -10,14 +10,14 @@ ghost use Rattle.rules.specs.Position.{unfinished};
 ghost use Rattle.rules.specs.Play.{no_move};
 ghost use Rattle.rules.specs.Evaluation.{evaluate};
 ghost use Rattle.theory.specs.Limits.{console};
-ghost use Rattle.theory.specs.Memory.{some-move, begin, enter, leaf, hit, answered, responses-to, cut};
+ghost use Rattle.theory.specs.Memory.{some_move, begin, enter, leaf, hit, answered, responses_to, cut};
 ghost use Rattle.theory.specs.Table.{suffices, bound_of};
 ghost use Rattle.theory.specs.OrderedSearch.{candidates};
-ghost use Rattle.table.specs.Entries.{bound-number, entry-means};
-ghost use Rattle.game.specs.Meaning.{position-of};
-ghost use Rattle.order.specs.Order.{order-left};
-ghost use Rattle.minimax.specs.State.{memory-of, pv-of, empty-pv, node-scoring, node-game, outcome-of, node-outcome, over-all};
-ghost use Rattle.minimax.specs.State.{then-stored, values-below, Valued, Within, NodeFits, Counted, Ready, NodeGives};
+ghost use Rattle.table.specs.Entries.{bound_number, entry_means};
+ghost use Rattle.game.specs.Meaning.{position_of};
+ghost use Rattle.order.specs.Order.{order_left};
+ghost use Rattle.minimax.specs.State.{memory_of, pv_of, empty_pv, node_scoring, node_game, outcome_of, node_outcome, over_all};
+ghost use Rattle.minimax.specs.State.{then_stored, values_below, Valued, Within, NodeFits, Counted, Ready, NodeGives};
 
 use boards::{Move, PLACES};
 use evaluation::Values;
@@ -27,7 +27,7 @@ use rules::{DrawWinner, Player};
 use table::{Bound, Entry, LookupResult};
 
 // The search's state: the two response tables, the positions entered over all depths, and the counts of `Stats`.
-#[derive(Drop)]
+#[derive(Clone, Copy)]
 pub(crate) struct SearchState {
     pub responses_x: [Move; 256],
     pub responses_o: [Move; 256],
@@ -39,13 +39,13 @@ pub(crate) struct SearchState {
     pub tt_suffice: u64,
 }
 
-#[derive(Drop)]
+#[derive(Clone, Copy)]
 pub(crate) struct Pv {
     pub moves: [Move; PLACES],
 }
 
 // A position to be searched, and how; the values are those of its nine boards.
-#[derive(Drop)]
+#[derive(Clone, Copy)]
 pub(crate) struct Node {
     pub game: Game,
     pub depth: u8,
@@ -59,7 +59,7 @@ pub(crate) struct Node {
 
 // What a search found. Of a stopped one only state and `stopped` are promised: no caller reads its variation or its score, and the
 // state is what `deepen` reports of it.
-#[derive(Drop)]
+#[derive(Clone, Copy)]
 pub(crate) struct NodeResult {
     pub state: SearchState,
     pub pv: Pv,
@@ -68,7 +68,7 @@ pub(crate) struct NodeResult {
 }
 
 // Where the search over a position's moves stands: the lower edge by now, and its variation.
-#[derive(Drop)]
+#[derive(Clone, Copy)]
 pub(crate) struct Best {
     pub pv: Pv,
     pub score: i64,
@@ -76,7 +76,7 @@ pub(crate) struct Best {
 
 impl Pv {
     pub(crate) fn empty() -> Pv
-        ensures { result ≡ empty-pv }
+        ensures { result ≡ empty_pv }
     {
         Pv {
             moves: [Move::NONE; PLACES],
@@ -84,7 +84,7 @@ impl Pv {
     }
 
     fn first(self) -> Move
-        ensures { (d : ℕ) → 0 < d → result.bits ≡ get_or (pv-of self d) 0 no_move }
+        ensures { (d : ℕ) → 0 < d → result.bits ≡ get_or (pv_of self d) 0 no_move }
     {
         self.moves[0]
     }
@@ -101,7 +101,7 @@ impl Pv {
     // A move and the variation below it, in so many places; the others stay.
     fn with_pv(self, m: Move, below: Pv, depth: u8) -> Pv
         requires { (0 < depth) × (depth ≤ console.deepest) }
-        ensures { (pv-of result depth ≡ m.bits ∷ pv-of below (depth - 1)) ×
+        ensures { (pv_of result depth ≡ m.bits ∷ pv_of below (depth - 1)) ×
             (drop depth result.moves ≡ drop depth self.moves) }
     {
         let mut pv = self;
@@ -117,7 +117,7 @@ impl Pv {
 impl SearchState {
     // A depth begins.
     pub(crate) fn begin(self) -> SearchState
-        ensures { (words : List ℕ) → memory-of result words ≡ begin (memory-of self words) }
+        ensures { (words : List ℕ) → memory_of result words ≡ begin (memory_of self words) }
     {
         let mut s = self;
         s.visited = 0;
@@ -131,7 +131,7 @@ impl SearchState {
     // A position is entered.
     fn enter(self) -> SearchState
         requires { (self.count < console.positions) × (self.visited < console.positions) }
-        ensures { (words : List ℕ) → memory-of result words ≡ enter (memory-of self words) }
+        ensures { (words : List ℕ) → memory_of result words ≡ enter (memory_of self words) }
     {
         let mut s = self;
         s.count += 1;
@@ -142,7 +142,7 @@ impl SearchState {
     // It is not searched further.
     fn leaf(self) -> SearchState
         requires { self.terminal < console.positions }
-        ensures { (words : List ℕ) → memory-of result words ≡ leaf (memory-of self words) }
+        ensures { (words : List ℕ) → memory_of result words ≡ leaf (memory_of self words) }
     {
         let mut s = self;
         s.terminal += 1;
@@ -152,7 +152,7 @@ impl SearchState {
     // The table has an entry for it.
     fn hit(self) -> SearchState
         requires { self.tt_hit < console.positions }
-        ensures { (words : List ℕ) → memory-of result words ≡ hit (memory-of self words) }
+        ensures { (words : List ℕ) → memory_of result words ≡ hit (memory_of self words) }
     {
         let mut s = self;
         s.tt_hit += 1;
@@ -162,7 +162,7 @@ impl SearchState {
     // Which suffices.
     fn suffice(self) -> SearchState
         requires { self.tt_suffice < console.positions }
-        ensures { (words : List ℕ) → memory-of result words ≡ answered (memory-of self words) }
+        ensures { (words : List ℕ) → memory_of result words ≡ answered (memory_of self words) }
     {
         let mut s = self;
         s.tt_suffice += 1;
@@ -171,7 +171,7 @@ impl SearchState {
 
     // The response to the previous move, which the side not to move made.
     fn response_to(self, turn: Player, prev: Move) -> Move
-        ensures { (words : List ℕ) → result.bits ≡ get_or (responses-to (memory-of self words) (other turn)) prev.bits
+        ensures { (words : List ℕ) → result.bits ≡ get_or (responses_to (memory_of self words) (other turn)) prev.bits
             no_move }
     {
         let at = prev.bits as usize;
@@ -184,7 +184,7 @@ impl SearchState {
     // A cut by a move, which becomes the response to the previous one.
     fn cut(self, turn: Player, prev: Move, m: Move) -> SearchState
         requires { self.cuts < console.positions }
-        ensures { (words : List ℕ) → memory-of result words ≡ cut turn (memory-of self words) prev.bits m.bits }
+        ensures { (words : List ℕ) → memory_of result words ≡ cut turn (memory_of self words) prev.bits m.bits }
     {
         let at = prev.bits as usize;
         let mut s = self;
@@ -264,7 +264,7 @@ impl Best {
     // It becomes that edge, and the variation is its move and the variation below.
     fn raise(self, m: Move, score: i64, below: Pv, depth: u8) -> Best
         requires { Within score × (0 < depth) × (depth ≤ console.deepest) }
-        ensures { (result.score ≡ neg_ℤ score) × (pv-of result.pv depth ≡ m.bits ∷ pv-of below (depth - 1))
+        ensures { (result.score ≡ neg_ℤ score) × (pv_of result.pv depth ≡ m.bits ∷ pv_of below (depth - 1))
             × (drop depth result.pv.moves ≡ drop depth self.pv.moves) }
     {
         let old = self.pv;
@@ -276,7 +276,7 @@ impl Best {
 // ---- the steps of a search, none of which calls another search
 impl Node {
     fn is_leaf(self) -> bool
-        ensures { result ≡ (eqb self.depth 0 || not (unfinished (position-of self.game))) }
+        ensures { result ≡ (eqb self.depth 0 || not (unfinished (position_of self.game))) }
     {
         if self.depth == 0 {
             return true;
@@ -288,7 +288,7 @@ impl Node {
     // The evaluation, at a position that is not searched further.
     fn evaluate(self) -> i64
         requires { Valued self }
-        ensures { result ≡ evaluate (node-scoring self) (position-of self.game) }
+        ensures { result ≡ evaluate (node_scoring self) (position_of self.game) }
     {
         let game = self.game;
         let values = self.values;
@@ -301,7 +301,7 @@ impl Node {
         ensures { result ≡ record {
           state = state;
           pv = pv;
-          score = evaluate (node-scoring self) (position-of self.game);
+          score = evaluate (node_scoring self) (position_of self.game);
           stopped = false;
         } }
     {
@@ -315,7 +315,7 @@ impl Node {
 
     // Whether an entry answers.
     fn suffices(self, e: Entry) -> bool
-        ensures { result ≡ suffices (entry-means e) self.depth self.alpha self.beta }
+        ensures { result ≡ suffices (entry_means e) self.depth self.alpha self.beta }
     {
         if e.depth < self.depth {
             return false;
@@ -330,7 +330,7 @@ impl Node {
 
     // What a score is for the window.
     fn bound_of(self, r: NodeResult) -> Bound
-        ensures { bound-number result ≡ bound_of self.alpha self.beta r.score }
+        ensures { bound_number result ≡ bound_of self.alpha self.beta r.score }
     {
         if r.score <= self.alpha {
             return Bound::AtMost;
@@ -344,8 +344,8 @@ impl Node {
     // Stores what the search over the moves found, unless it was stopped.
     fn store(self, found: NodeResult, words: &mut [u64])
         requires { (0 < self.depth) × (self.depth ≤ console.deepest) }
-        ensures { outcome-of self found words.new
-            ≡ then-stored self (outcome-of self found words.old) }
+        ensures { outcome_of self found words.new
+            ≡ then_stored self (outcome_of self found words.old) }
     {
         if found.stopped {
             return;
@@ -366,9 +366,9 @@ impl Node {
     // The cursor over the moves: the table's move; the response, or lacking one the variation's move; then the list.
     fn order(self, first: Move, state: SearchState, pv: Pv) -> MoveOrder
         requires { (0 < self.depth) × (self.depth ≤ console.deepest) }
-        ensures { (words : List ℕ) → order-left self.game result
-            ≡ candidates (node-game self) (some-move first.bits) (memory-of state words) self.game self.prev.bits
-            (pv-of pv self.depth) }
+        ensures { (words : List ℕ) → order_left self.game result
+            ≡ candidates (node_game self) (some_move first.bits) (memory_of state words) self.game self.prev.bits
+            (pv_of pv self.depth) }
     {
         let game = self.game;
         let turn = game.next_player;
@@ -397,7 +397,7 @@ impl Node {
           prev = child.m;
           draw_winner = self.draw_winner;
           allowance = self.allowance;
-          values = values-below self child;
+          values = values_below self child;
         } }
     {
         let game = child.game;
@@ -426,8 +426,8 @@ impl Node {
 
     fn cut(self, state: SearchState, m: Move) -> SearchState
         requires { state.cuts < console.positions }
-        ensures { (words : List ℕ) → memory-of result words
-            ≡ cut self.game.next_player (memory-of state words) self.prev.bits m.bits }
+        ensures { (words : List ℕ) → memory_of result words
+            ≡ cut self.game.next_player (memory_of state words) self.prev.bits m.bits }
     {
         let game = self.game;
         let turn = game.next_player;
@@ -440,7 +440,7 @@ impl Node {
 #[cycle(minimax_moves)]
 pub(crate) fn minimax(a: Node, state: SearchState, pv: Pv, words: &mut [u64]) -> NodeResult
     requires { NodeFits a × Counted a state }
-    ensures { NodeGives a pv result words.new (node-outcome a state pv words.old) }
+    ensures { NodeGives a pv result words.new (node_outcome a state pv words.old) }
 {
     if state.count >= a.allowance {
         return NodeResult::stop(state, pv);
@@ -470,7 +470,7 @@ pub(crate) fn minimax(a: Node, state: SearchState, pv: Pv, words: &mut [u64]) ->
 #[cycle(minimax_moves)]
 fn moves(a: Node, first: Move, state: SearchState, pv: Pv, words: &mut [u64]) -> NodeResult
     requires { NodeFits a × Ready a state }
-    ensures { NodeGives a pv result words.new (over-all a first state pv words.old) }
+    ensures { NodeGives a pv result words.new (over_all a first state pv words.old) }
 {
     let game = a.game;
     let mut order = a.order(first, state, pv);

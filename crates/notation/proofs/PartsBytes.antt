@@ -12,10 +12,10 @@ use Rattle.base.specs.Branch.{if◌then◌else◌}
 use Rattle.rules.specs.declared.CellState.{CellState}
 use Rattle.rules.specs.declared.GameState.{GameState}
 use Rattle.rules.specs.declared.NextBoard.TheVariants.{Only}
-use Rattle.rules.specs.Position.{Position, same-next-board}
+use Rattle.rules.specs.Position.{Position, same_next_board}
 use Rattle.text.specs.Bytes.{semicolon, slash, at_mark, letter}
-use Rattle.text.specs.Writing.{state-byte, cell-byte, overall-byte, text_of, cells-byte, byte_at}
-use Rattle.text.proofs.Writing.{slash-every-tenth, cell-elsewhere, text_at, text-has-101-bytes}
+use Rattle.text.specs.Writing.{state_byte, cell_byte, overall_byte, text_of, cells_byte, byte_at}
+use Rattle.text.proofs.Writing.{slash_every_tenth, cell_elsewhere, text_at, text_has_101_bytes}
 
 module _ (p : Position) (i : ℕ) where
   -- the side
@@ -33,32 +33,32 @@ module _ (p : Position) (i : ℕ) where
   at_second e = rw e
 
   module _ (n0 : i ≡ 0 → ⊥) (n1 : i ≡ 1 → ⊥) where
-    by-mark : i < 11 → byte_at p i ≡ overall-byte p (i - 2)
+    by_mark : i < 11 → byte_at p i ≡ overall_byte p (i - 2)
     unfolding byte_at if◌then◌else◌
-    by-mark h = rw (ne_eqb i 0 n0, ne_eqb i 1 n1, ne_eqb i 11 (λ e. omega arith), lt-ltb i 11 h)
+    by_mark h = rw (ne_eqb i 0 n0, ne_eqb i 1 n1, ne_eqb i 11 (λ e. omega arith), lt-ltb i 11 h)
 
     -- the board that is due, and another
-    pub at-due : (r : Bool) → i < 11 → r ≡ same-next-board p.next-board (Only (i - 2)) → r ≡ true → at_mark ≡ byte_at p i
-    unfolding overall-byte if◌then◌else◌
-    at-due r h e t = sym (by-mark h ∙ rw (sym e ∙ t))
+    pub at_due : (r : Bool) → i < 11 → r ≡ same_next_board p.next_board (Only (i - 2)) → r ≡ true → at_mark ≡ byte_at p i
+    unfolding overall_byte if◌then◌else◌
+    at_due r h e t = sym (by_mark h ∙ rw (sym e ∙ t))
 
-    pub at-state : (r : Bool) (s : GameState) → i < 11 → r ≡ same-next-board p.next-board (Only (i - 2)) → r ≡ false
-        → s ≡ p.states (i - 2) → state-byte s ≡ byte_at p i
-    unfolding overall-byte if◌then◌else◌
-    at-state r s h e t f = rw f (sym (by-mark h ∙ rw (sym e ∙ t)))
+    pub at_state : (r : Bool) (s : GameState) → i < 11 → r ≡ same_next_board p.next_board (Only (i - 2)) → r ≡ false
+        → s ≡ p.states (i - 2) → state_byte s ≡ byte_at p i
+    unfolding overall_byte if◌then◌else◌
+    at_state r s h e t f = rw f (sym (by_mark h ∙ rw (sym e ∙ t)))
 
     module _ (h : 11 ≤ i) (n11 : i ≡ 11 → ⊥) where
-      by-cell : byte_at p i ≡ cells-byte p (i - 12)
+      by_cell : byte_at p i ≡ cells_byte p (i - 12)
       unfolding byte_at if◌then◌else◌
-      by-cell = rw (ne_eqb i 0 n0, ne_eqb i 1 n1, ne_eqb i 11 n11, le-ltb i 11 h)
+      by_cell = rw (ne_eqb i 0 n0, ne_eqb i 1 n1, ne_eqb i 11 n11, le-ltb i 11 h)
 
       -- a `/`, and a cell
-      pub at-slash : (i - 12) % 10 ≡ 9 → slash ≡ byte_at p i
-      at-slash e = sym (by-cell ∙ slash-every-tenth p (i - 12) e)
+      pub at_slash : (i - 12) % 10 ≡ 9 → slash ≡ byte_at p i
+      at_slash e = sym (by_cell ∙ slash_every_tenth p (i - 12) e)
 
-      pub at-cell : (s : CellState) → ((i - 12) % 10 ≡ 9 → ⊥) → s ≡ p.cells ((i - 12) / 10) ((i - 12) % 10) →
-          cell-byte s ≡ byte_at p i
-      at-cell s n e = rw e (sym (by-cell ∙ cell-elsewhere p (i - 12) n))
+      pub at_cell : (s : CellState) → ((i - 12) % 10 ≡ 9 → ⊥) → s ≡ p.cells ((i - 12) / 10) ((i - 12) % 10) →
+          cell_byte s ≡ byte_at p i
+      at_cell s n e = rw e (sym (by_cell ∙ cell_elsewhere p (i - 12) n))
 
 -- ---- an array, written from the front
 -- the first i bytes are those of the text
@@ -66,12 +66,12 @@ pub record Rendered (p : Position) (out : List ℕ) (i : ℕ) : Type 0 where
   pub size : length out ≡ 101
   pub done : (k : ℕ) → k < i → get_or out k 0 ≡ byte_at p k
 
-pub none-rendered : (p : Position) (out : List ℕ) → length out ≡ 101 → Rendered p out 0
-none-rendered p out n = record { size = n; done = λ k h. absurd (omega arith) }
+pub none_rendered : (p : Position) (out : List ℕ) → length out ≡ 101 → Rendered p out 0
+none_rendered p out n = record { size = n; done = λ k h. absurd (omega arith) }
 
-pub one-rendered : (p : Position) (out : List ℕ) (i c : ℕ) → i < 101 → Rendered p out i → c ≡ byte_at p i →
+pub one_rendered : (p : Position) (out : List ℕ) (i c : ℕ) → i < 101 → Rendered p out i → c ≡ byte_at p i →
     Rendered p (set out i c) (i + 1)
-one-rendered p out i c h r e = record {
+one_rendered p out i c h r e = record {
   size = length-set out i c ∙ r.size;
   done = λ k l. elim (ℕ_discrete k i) [
     | yes q ↦ rw q (get_or-set_same out i c 0 (omega (arith, r.size)) ∙ e)
@@ -79,7 +79,7 @@ one-rendered p out i c h r e = record {
   ];
 }
 
-pub all-rendered : (p : Position) (out : List ℕ) → Rendered p out 101 → out ≡ text_of p
-all-rendered p out r =
-    ext_get_or 0 out (text_of p) (r.size ∙ sym (text-has-101-bytes p)) (λ k h. let l : k < 101 = omega (arith, r.size) in
+pub all_rendered : (p : Position) (out : List ℕ) → Rendered p out 101 → out ≡ text_of p
+all_rendered p out r =
+    ext_get_or 0 out (text_of p) (r.size ∙ sym (text_has_101_bytes p)) (λ k h. let l : k < 101 = omega (arith, r.size) in
     r.done k l ∙ sym (text_at p k l))

@@ -9,98 +9,98 @@ use lib.Dec.{T}
 use lib.ListN.{length, get_or}
 use Rattle.base.specs.Update.{update}
 use Rattle.base.specs.Lists.{all, from}
-use Rattle.base.proofs.Update.{update-at, update-off}
+use Rattle.base.proofs.Update.{update_at, update_off}
 use Rattle.rules.specs.declared.Player.TheVariants.{X}
 use Rattle.rules.specs.declared.CellState.{CellState}
 use Rattle.rules.specs.declared.CellState.TheVariants.{Empty, Played}
 use Rattle.rules.specs.Board.{blank, nine}
 use Rattle.rules.specs.Position.{Position}
-use Rattle.text.specs.Reading.{cell-mark, or_else, fault-at, first-fault, cell_in, said}
-use Rattle.text.proofs.ReadingScan.{first-fault-is, no-fault, faultless-is-there}
-use Rattle.text.proofs.Reading.{cell-in-at, said-fills}
+use Rattle.text.specs.Reading.{cell_mark, or_else, fault_at, first_fault, cell_in, said}
+use Rattle.text.proofs.ReadingScan.{first_fault_is, no_fault, faultless_is_there}
+use Rattle.text.proofs.Reading.{cell_in_at, said_fills}
 use Rattle.boards.specs.declared.local.LocalBoards.{LocalBoards}
 use Rattle.boards.specs.Packed.{cell_at}
-use Rattle.boards.proofs.Packed.{cell-past-board, cell-past-cell}
-use Rattle.boards.proofs.With.{with-past-cell, cell-after}
-use Rattle.game.specs.Built.{no-boards}
-use Rattle.game.specs.Neat.{neat-row}
-use Rattle.game.proofs.Meaning.{new-game-means}
-use Rattle.game.proofs.Neat.{with-cell-neat}
-use Rattle.notation.specs.Parts.{with-cell-mark, Cells-say}
+use Rattle.boards.proofs.Packed.{cell_past_board, cell_past_cell}
+use Rattle.boards.proofs.With.{with_past_cell, cell_after}
+use Rattle.game.specs.Built.{no_boards}
+use Rattle.game.specs.Neat.{neat_row}
+use Rattle.game.proofs.Meaning.{new_game_means}
+use Rattle.game.proofs.Neat.{with_cell_neat}
+use Rattle.notation.specs.Parts.{with_cell_mark, CellsSay}
 
 -- ---- a cell, marked
 module _ (l : LocalBoards) (b c : ℕ) where
   -- beyond the ninth nothing changes
-  unmarked : (m : Option CellState) → 9 ≤ c → with-cell-mark l b c m ≡ l
+  unmarked : (m : Option CellState) → 9 ≤ c → with_cell_mark l b c m ≡ l
   unmarked none h = refl
   unmarked (some Empty) h = refl
-  unmarked (some (Played w)) h = sym (with-past-cell l b c w h)
+  unmarked (some (Played w)) h = sym (with_past_cell l b c w h)
 
   module _ (n : length l.rows ≡ 3) (hb : b < 9) (hc : c < 9) (e : cell_at l b c ≡ Empty) where
     free : T (blank (cell_at l b c))
     free = rw e tt
 
-    marked-here : (m : Option CellState) → cell_at (with-cell-mark l b c m) b c ≡ or_else m Empty
-    marked-here none = e
-    marked-here (some Empty) = e
-    marked-here (some (Played w)) = ap (λ (f : ℕ → ℕ → CellState). f b c) (cell-after l b c w n hb hc free)
-        ∙ update-at (λ (r : ℕ → CellState). r c ≡ Played w) (cell_at l) b (update (cell_at l b) c (Played w))
-        (update-at (λ (s : CellState). s ≡ Played w) (cell_at l b) c (Played w) refl)
+    marked_here : (m : Option CellState) → cell_at (with_cell_mark l b c m) b c ≡ or_else m Empty
+    marked_here none = e
+    marked_here (some Empty) = e
+    marked_here (some (Played w)) = ap (λ (f : ℕ → ℕ → CellState). f b c) (cell_after l b c w n hb hc free)
+        ∙ update_at (λ (r : ℕ → CellState). r c ≡ Played w) (cell_at l) b (update (cell_at l b) c (Played w))
+        (update_at (λ (s : CellState). s ≡ Played w) (cell_at l b) c (Played w) refl)
 
-    marked-there : (m : Option CellState) (i j : ℕ) → (i ≡ b → j ≡ c → ⊥) →
-        cell_at (with-cell-mark l b c m) i j ≡ cell_at l i j
-    marked-there none i j h = refl
-    marked-there (some Empty) i j h = refl
-    marked-there (some (Played w)) i j h =
-        ap (λ (f : ℕ → ℕ → CellState). f i j) (cell-after l b c w n hb hc free) ∙ elim (ℕ_discrete i b) [
-          | yes q ↦ rw q (update-at (λ (r : ℕ → CellState). r j ≡ cell_at l b j) (cell_at l) b (update (cell_at l b) c (Played w))
-              (update-off (λ (s : CellState). s ≡ cell_at l b j) (cell_at l b) c (Played w) j (λ p. h q (sym p)) refl))
-          | no q ↦ update-off (λ (r : ℕ → CellState). r j ≡ cell_at l i j) (cell_at l) b (update (cell_at l b) c (Played w)) i
+    marked_there : (m : Option CellState) (i j : ℕ) → (i ≡ b → j ≡ c → ⊥) →
+        cell_at (with_cell_mark l b c m) i j ≡ cell_at l i j
+    marked_there none i j h = refl
+    marked_there (some Empty) i j h = refl
+    marked_there (some (Played w)) i j h =
+        ap (λ (f : ℕ → ℕ → CellState). f i j) (cell_after l b c w n hb hc free) ∙ elim (ℕ_discrete i b) [
+          | yes q ↦ rw q (update_at (λ (r : ℕ → CellState). r j ≡ cell_at l b j) (cell_at l) b (update (cell_at l b) c (Played w))
+              (update_off (λ (s : CellState). s ≡ cell_at l b j) (cell_at l b) c (Played w) j (λ p. h q (sym p)) refl))
+          | no q ↦ update_off (λ (r : ℕ → CellState). r j ≡ cell_at l i j) (cell_at l) b (update (cell_at l b) c (Played w)) i
               (λ p. q (sym p)) refl
         ]
 
-    marked-neat : (m : Option CellState) → T (all neat-row l.rows) → (length (with-cell-mark l b c m).rows ≡ 3) ×
-        T (all neat-row (with-cell-mark l b c m).rows)
-    marked-neat none a = (n, a)
-    marked-neat (some Empty) a = (n, a)
-    marked-neat (some (Played w)) a = with-cell-neat l b c w hb hc free n a
+    marked_neat : (m : Option CellState) → T (all neat_row l.rows) → (length (with_cell_mark l b c m).rows ≡ 3) ×
+        T (all neat_row (with_cell_mark l b c m).rows)
+    marked_neat none a = (n, a)
+    marked_neat (some Empty) a = (n, a)
+    marked_neat (some (Played w)) a = with_cell_neat l b c w hb hc free n a
 
 -- ---- byte i is cell i % 10 of board i / 10, or a `/`
 pub record CellsUpTo (cs : List ℕ) (l : LocalBoards) (i : ℕ) : Type 0 where
-  pub faultless : (j : ℕ) → j < i → fault-at cs j ≡ 0
+  pub faultless : (j : ℕ) → j < i → fault_at cs j ≡ 0
   pub three : length l.rows ≡ 3
-  pub each : T (all neat-row l.rows)
+  pub each : T (all neat_row l.rows)
   pub read : (b c : ℕ) → b < 9 → c < 9 → 10 * b + c < i → cell_at l b c ≡ cell_in cs b c
   pub unread : (b c : ℕ) → b < 9 → c < 9 → i ≤ 10 * b + c → cell_at l b c ≡ Empty
 
-pub none_filled : (cs : List ℕ) → CellsUpTo cs no-boards 0
+pub none_filled : (cs : List ℕ) → CellsUpTo cs no_boards 0
 unfolding all
 none_filled cs = record {
   faultless = λ j h. absurd (omega arith);
   three = refl;
   each = tt;
   read = λ b c _ _ h. absurd (omega arith);
-  unread = λ b c _ _ _. ap (λ (p : Position). p.cells b c) new-game-means;
+  unread = λ b c _ _ _. ap (λ (p : Position). p.cells b c) new_game_means;
 }
 
 module _ (cs : List ℕ) (l : LocalBoards) (i : ℕ) (h : i < 89) (m : CellsUpTo cs l i) where
   -- a fault is the first
-  pub fault-found : (f : ℕ) → f ≡ fault-at cs i → (f ≡ 0 → ⊥) → f ≡ first-fault cs (from 0 89)
-  fault-found f e n =
+  pub fault_found : (f : ℕ) → f ≡ fault_at cs i → (f ≡ 0 → ⊥) → f ≡ first_fault cs (from 0 89)
+  fault_found f e n =
       let z : 0 + i ≡ i = omega arith in
-      e ∙ sym (rw z at (first-fault-is cs 0 89 i h (λ j _ k. m.faultless j (omega arith)) (rw z (λ q. n (e ∙ q)))))
+      e ∙ sym (rw z at (first_fault_is cs 0 89 i h (λ j _ k. m.faultless j (omega arith)) (rw z (λ q. n (e ∙ q)))))
 
   -- one byte more
-  module _ (z : fault-at cs i ≡ 0) where
+  module _ (z : fault_at cs i ≡ 0) where
     abbrev l' : LocalBoards
-    l' = with-cell-mark l (i / 10) (i % 10) (cell-mark (get_or cs i 0))
+    l' = with_cell_mark l (i / 10) (i % 10) (cell_mark (get_or cs i 0))
 
-    right : (j : ℕ) → j < i + 1 → fault-at cs j ≡ 0
+    right : (j : ℕ) → j < i + 1 → fault_at cs j ≡ 0
     right j k = elim (ℕ_discrete j i) [ yes q ↦ rw q z | no q ↦ m.faultless j (omega arith) ]
 
     -- a `/`
-    slash-filled : i % 10 ≡ 9 → CellsUpTo cs l (i + 1)
-    slash-filled q = record {
+    slash_filled : i % 10 ≡ 9 → CellsUpTo cs l (i + 1)
+    slash_filled q = record {
       faultless = right;
       three = m.three;
       each = m.each;
@@ -116,17 +116,17 @@ module _ (cs : List ℕ) (l : LocalBoards) (i : ℕ) (h : i < 89) (m : CellsUpTo
       here : cell_at l' (i / 10) (i % 10) ≡ cell_in cs (i / 10) (i % 10)
       here =
           let e : 10 * (i / 10) + i % 10 ≡ i = omega arith in
-          marked-here l (i / 10) (i % 10) m.three (omega arith) q empty (cell-mark (get_or cs i 0))
-          ∙ sym (cell-in-at cs (i / 10) (i % 10) (omega arith) q (rw e (faultless-is-there cs i z)) ∙ rw e)
+          marked_here l (i / 10) (i % 10) m.three (omega arith) q empty (cell_mark (get_or cs i 0))
+          ∙ sym (cell_in_at cs (i / 10) (i % 10) (omega arith) q (rw e (faultless_is_there cs i z)) ∙ rw e)
 
       there : (b c : ℕ) → (b ≡ i / 10 → c ≡ i % 10 → ⊥) → cell_at l' b c ≡ cell_at l b c
-      there b c n = marked-there l (i / 10) (i % 10) m.three (omega arith) q empty (cell-mark (get_or cs i 0)) b c n
+      there b c n = marked_there l (i / 10) (i % 10) m.three (omega arith) q empty (cell_mark (get_or cs i 0)) b c n
 
-      neat : (length l'.rows ≡ 3) × T (all neat-row l'.rows)
-      neat = marked-neat l (i / 10) (i % 10) m.three (omega arith) q empty (cell-mark (get_or cs i 0)) m.each
+      neat : (length l'.rows ≡ 3) × T (all neat_row l'.rows)
+      neat = marked_neat l (i / 10) (i % 10) m.three (omega arith) q empty (cell_mark (get_or cs i 0)) m.each
 
-      cell-filled : CellsUpTo cs l' (i + 1)
-      cell-filled = record {
+      cell_filled : CellsUpTo cs l' (i + 1)
+      cell_filled = record {
         faultless = right;
         three = neat.0;
         each = neat.1;
@@ -137,23 +137,23 @@ module _ (cs : List ℕ) (l : LocalBoards) (i : ℕ) (h : i < 89) (m : CellsUpTo
         unread = λ b c p r k. there b c (λ x y. omega arith) ∙ m.unread b c p r (omega arith);
       }
 
-    pub one-filled : CellsUpTo cs l' (i + 1)
-    one-filled = elim (ℕ_discrete (i % 10) 9) [
-      | yes q ↦ rw (unmarked l (i / 10) (i % 10) (cell-mark (get_or cs i 0)) (omega arith)) (slash-filled q)
-      | no q ↦ cell-filled (omega arith)
+    pub one_filled : CellsUpTo cs l' (i + 1)
+    one_filled = elim (ℕ_discrete (i % 10) 9) [
+      | yes q ↦ rw (unmarked l (i / 10) (i % 10) (cell_mark (get_or cs i 0)) (omega arith)) (slash_filled q)
+      | no q ↦ cell_filled (omega arith)
     ]
 
 -- all 89
-pub all-filled : (cs : List ℕ) (l : LocalBoards) → CellsUpTo cs l 89 → Cells-say cs l
+pub all_filled : (cs : List ℕ) (l : LocalBoards) → CellsUpTo cs l 89 → CellsSay cs l
 unfolding said
-all-filled cs l m = record {
-  faultless = no-fault cs 0 89 (λ j _ h. m.faultless j (omega arith));
+all_filled cs l m = record {
+  faultless = no_fault cs 0 89 (λ j _ h. m.faultless j (omega arith));
   cells_are = fun_ext (λ b. fun_ext (λ c. go b c (dec_lt b 9) (dec_lt c 9)));
   three = m.three;
   each = m.each;
 }
   where
     go : (b c : ℕ) → Dec (b < 9) → Dec (c < 9) → cell_at l b c ≡ cell_in cs b c
-    go b c (no p) q = cell-past-board l b c (omega (arith, p)) ∙ sym ((said-fills X nine cs refl).board-over b c (omega (arith, p)))
-    go b c (yes p) (no q) = cell-past-cell l b c (omega (arith, q)) ∙ sym ((said-fills X nine cs refl).cell-over b c (omega (arith, q)))
+    go b c (no p) q = cell_past_board l b c (omega (arith, p)) ∙ sym ((said_fills X nine cs refl).board_over b c (omega (arith, p)))
+    go b c (yes p) (no q) = cell_past_cell l b c (omega (arith, q)) ∙ sym ((said_fills X nine cs refl).cell_over b c (omega (arith, q)))
     go b c (yes p) (yes q) = m.read b c p q (omega arith)

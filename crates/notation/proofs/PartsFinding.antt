@@ -12,10 +12,10 @@ use Rattle.bytes.specs.Bytes.{slice, index_after, index_of}
 use Rattle.notation.specs.Parts.{Finds}
 
 -- no byte before it
-before-index : (c : ℕ) (xs : List ℕ) (k : ℕ) → k < index_of c xs → get_or xs k 0 ≡ c → ⊥
+before_index : (c : ℕ) (xs : List ℕ) (k : ℕ) → k < index_of c xs → get_or xs k 0 ≡ c → ⊥
 unfolding index_of index_after
-before-index c [] k h = absurd (omega arith)
-before-index c (x ∷ xs) k h = go (eqb x c) refl k h (before-index c xs)
+before_index c [] k h = absurd (omega arith)
+before_index c (x ∷ xs) k h = go (eqb x c) refl k h (before_index c xs)
   where
     go : (b : Bool) → eqb x c ≡ b → (k : ℕ) → k < index_after b (index_of c xs) →
         ((j : ℕ) → j < index_of c xs → get_or xs j 0 ≡ c → ⊥) → get_or (x ∷ xs) k 0 ≡ c → ⊥
@@ -24,10 +24,10 @@ before-index c (x ∷ xs) k h = go (eqb x c) refl k h (before-index c xs)
     go false e (suc k) h r = r k (omega arith)
 
 -- and the byte at it
-at-index : (c : ℕ) (xs : List ℕ) → index_of c xs < length xs → get_or xs (index_of c xs) 0 ≡ c
+at_index : (c : ℕ) (xs : List ℕ) → index_of c xs < length xs → get_or xs (index_of c xs) 0 ≡ c
 unfolding index_of index_after
-at-index c [] h = absurd (omega arith)
-at-index c (x ∷ xs) h = go (eqb x c) refl h (at-index c xs)
+at_index c [] h = absurd (omega arith)
+at_index c (x ∷ xs) h = go (eqb x c) refl h (at_index c xs)
   where
     go : (b : Bool) → eqb x c ≡ b → index_after b (index_of c xs) < suc (length xs) →
         (index_of c xs < length xs → get_or xs (index_of c xs) 0 ≡ c)
@@ -49,9 +49,9 @@ module _ (t : List ℕ) (from c r : ℕ) (h : from ≤ length t) (e : r ≡ from
     finds = record {
       low = omega (arith, whole);
       high = l;
-      before = λ k a b q. before-index c (drop from t) (k - from) (omega (arith, whole))
+      before = λ k a b q. before_index c (drop from t) (k - from) (omega (arith, whole))
           (get_or-drop from t (k - from) 0 ∙ ap (λ (j : ℕ). get_or t j 0) (omega arith) ∙ q);
       found =
           λ i. ap (λ (j : ℕ). get_or t j 0) whole ∙ sym (get_or-drop from t n 0)
-          ∙ at-index c (drop from t) (omega (arith, whole, length-drop from t));
+          ∙ at_index c (drop from t) (omega (arith, whole, length-drop from t));
     }

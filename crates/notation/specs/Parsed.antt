@@ -3,11 +3,11 @@ use Rattle.std.specs.Prelude.{◌≡◌, List, ℕ}
 use Rattle.rules.specs.Play.{no_move}
 use Rattle.rules.specs.Hash.{hash}
 use Rattle.text.specs.Reading.{Reading, reads, refuses, read}
-use Rattle.text.specs.MoveText.{MoveReading, reads-move, bad-length, bad-character, move-refusal, read-move}
+use Rattle.text.specs.MoveText.{MoveReading, reads_move, bad_length, bad_character, move_refusal, read_move}
 use Rattle.game.specs.declared.Game.{Game}
-use Rattle.game.specs.Meaning.{position-of}
-use Rattle.game.specs.Built.{new-game}
-use Rattle.game.specs.Neat.{game-of}
+use Rattle.game.specs.Meaning.{position_of}
+use Rattle.game.specs.Built.{new_game}
+use Rattle.game.specs.Neat.{game_of}
 use Rattle.notation.specs.declared.ErrorKind.{ErrorKind}
 use Rattle.notation.specs.declared.ErrorKind.TheVariants.{TooLong, MissingSection, BadPlayer, TooFewSquares, BadBoard, TooShort}
 use Rattle.notation.specs.declared.ParseAnswer.{ParseAnswer}
@@ -17,51 +17,51 @@ use Rattle.notation.specs.declared.MoveTextAnswer.{MoveTextAnswer}
 use Rattle.notation.specs.declared.MoveTextAnswer.TheVariants.{Read, BadLength, BadCharacter}
 use Rattle.notation.specs.declared.ParsedMove.{ParsedMove}
 
-abbrev pub kind-number : ErrorKind → ℕ
-kind-number TooLong = 1
-kind-number MissingSection = 2
-kind-number BadPlayer = 3
-kind-number TooFewSquares = 4
-kind-number BadBoard = 5
-kind-number TooShort = 6
+abbrev pub kind_number : ErrorKind → ℕ
+kind_number TooLong = 1
+kind_number MissingSection = 2
+kind_number BadPlayer = 3
+kind_number TooFewSquares = 4
+kind_number BadBoard = 5
+kind_number TooShort = 6
 
 -- 0 where nothing is refused
-abbrev pub parse-number : ParseAnswer → ℕ
-parse-number Accepted = 0
-parse-number (Refused e) = kind-number e.why
+abbrev pub parse_number : ParseAnswer → ℕ
+parse_number Accepted = 0
+parse_number (Refused e) = kind_number e.why
 
 -- the answer, as the definition of reading says it
-abbrev pub reading-of : ParseAnswer → Game → Reading
-reading-of Accepted g = reads (position-of g)
-reading-of (Refused e) g = refuses (kind-number e.why) e.offset e.length
+abbrev pub reading_of : ParseAnswer → Game → Reading
+reading_of Accepted g = reads (position_of g)
+reading_of (Refused e) g = refuses (kind_number e.why) e.offset e.length
 
 -- the neat game of the position that was read, with its fresh hash; refused, the empty game
-abbrev pub game-for : Reading → Game
-game-for (reads p) = game-of p (hash p)
-game-for (refuses n o l) = new-game
+abbrev pub game_for : Reading → Game
+game_for (reads p) = game_of p (hash p)
+game_for (refuses n o l) = new_game
 
 pub record Parses (text : List ℕ) (r : Parsed) : Type 0 where
-  pub says : reading-of r.answer r.game ≡ read text
-  pub game-is : r.game ≡ game-for (read text)
+  pub says : reading_of r.answer r.game ≡ read text
+  pub game_is : r.game ≡ game_for (read text)
 
 -- ---- moves: 7 and 8 return the empty move
-abbrev pub move-reading-of : MoveTextAnswer → ℕ → MoveReading
-move-reading-of Read m = reads-move m
-move-reading-of BadLength m = bad-length
-move-reading-of (BadCharacter c) m = bad-character c
+abbrev pub move_reading_of : MoveTextAnswer → ℕ → MoveReading
+move_reading_of Read m = reads_move m
+move_reading_of BadLength m = bad_length
+move_reading_of (BadCharacter c) m = bad_character c
 
-abbrev pub move-for : MoveReading → ℕ
-move-for (reads-move m) = m
-move-for bad-length = no_move
-move-for (bad-character c) = no_move
+abbrev pub move_for : MoveReading → ℕ
+move_for (reads_move m) = m
+move_for bad_length = no_move
+move_for (bad_character c) = no_move
 
 -- document 01's numbers, 0 where nothing is refused
-abbrev pub move-number : MoveTextAnswer → ℕ
-move-number Read = 0
-move-number BadLength = 7
-move-number (BadCharacter c) = 8
+abbrev pub move_number : MoveTextAnswer → ℕ
+move_number Read = 0
+move_number BadLength = 7
+move_number (BadCharacter c) = 8
 
-pub record Parses-move (text : List ℕ) (r : ParsedMove) : Type 0 where
-  pub number : move-number r.answer ≡ move-refusal (read-move text)
-  pub says : move-reading-of r.answer r.m.bits ≡ read-move text
-  pub move-is : r.m.bits ≡ move-for (read-move text)
+pub record ParsesMove (text : List ℕ) (r : ParsedMove) : Type 0 where
+  pub number : move_number r.answer ≡ move_refusal (read_move text)
+  pub says : move_reading_of r.answer r.m.bits ≡ read_move text
+  pub move_is : r.m.bits ≡ move_for (read_move text)

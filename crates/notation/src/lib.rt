@@ -1,16 +1,18 @@
 // Positions and moves as text.
 // Ported from src/lib/game/notation.rs of nelhage/ultimattt at commit 87ef0d9c7c (Apache-2.0, see NOTICE), changed: bytes for characters,
 // at most 256 of them, refusals with offset and length, and the rows set directly.
+#![tactic(auto)]
+
 ghost use Rattle.std.specs.Prelude.{◌≡◌, ◌≤◌, ◌<◌, length};
-ghost use Rattle.rules.specs.Position.{same-next-board};
+ghost use Rattle.rules.specs.Position.{same_next_board};
 ghost use Rattle.text.specs.Bytes.{letter};
-ghost use Rattle.text.specs.Reading.{side-of, overall-mark, cell-mark, fault-at, lone-side, read-side};
-ghost use Rattle.text.specs.Writing.{state-byte, cell-byte, text_of, byte_at};
-ghost use Rattle.text.specs.MoveText.{coordinate, move-text};
-ghost use Rattle.game.specs.Meaning.{position-of};
-ghost use Rattle.notation.specs.Parsed.{kind-number, parse-number, move-number, Parses, Parses-move};
-ghost use Rattle.notation.specs.Parts.{refused, AnswersReading, Finds, side-said, mark-said, next-board-by, next-board-or};
-ghost use Rattle.notation.specs.Parts.{Reads-overall, cell-said, with-cell-mark, fault-number, Reads-cells};
+ghost use Rattle.text.specs.Reading.{side_of, overall_mark, cell_mark, fault_at, lone_side, read_side};
+ghost use Rattle.text.specs.Writing.{state_byte, cell_byte, text_of, byte_at};
+ghost use Rattle.text.specs.MoveText.{coordinate, move_text};
+ghost use Rattle.game.specs.Meaning.{position_of};
+ghost use Rattle.notation.specs.Parsed.{kind_number, parse_number, move_number, Parses, ParsesMove};
+ghost use Rattle.notation.specs.Parts.{refused, AnswersReading, Finds, side_said, mark_said, next_board_by, next_board_or};
+ghost use Rattle.notation.specs.Parts.{ReadsOverall, cell_said, with_cell_mark, fault_number, ReadsCells};
 
 use boards::{GlobalStates, LocalBoards, Move};
 use game::Game;
@@ -19,7 +21,7 @@ use rules::{CellState, GameState, NextBoard, Player};
 // The longest text that is read.
 pub const LONGEST: usize = 256;
 
-#[derive(Drop)]
+#[derive(Clone, Copy)]
 pub enum ErrorKind {
     TooLong,
     MissingSection,
@@ -31,7 +33,7 @@ pub enum ErrorKind {
 
 impl ErrorKind {
     pub fn number(self) -> u64
-        ensures { result ≡ kind-number self }
+        ensures { result ≡ kind_number self }
     {
         match self {
             ErrorKind::TooLong => 1,
@@ -45,14 +47,14 @@ impl ErrorKind {
 }
 
 // Why a text is refused, and the part of it that is at fault.
-#[derive(Drop)]
+#[derive(Clone, Copy)]
 pub struct ParseError {
     pub why: ErrorKind,
     pub offset: usize,
     pub length: usize,
 }
 
-#[derive(Drop)]
+#[derive(Clone, Copy)]
 pub enum ParseAnswer {
     Accepted,
     Refused(ParseError),
@@ -61,7 +63,7 @@ pub enum ParseAnswer {
 impl ParseAnswer {
     // 0 where nothing is refused.
     pub fn number(self) -> u64
-        ensures { result ≡ parse-number self }
+        ensures { result ≡ parse_number self }
     {
         match self {
             ParseAnswer::Accepted => 0,
@@ -74,7 +76,7 @@ impl ParseAnswer {
 }
 
 // What reading a text gives: refused, the empty game.
-#[derive(Drop)]
+#[derive(Clone, Copy)]
 pub struct Parsed {
     pub game: Game,
     pub answer: ParseAnswer,
@@ -128,7 +130,7 @@ pub fn parse(text: &[u8]) -> Parsed
 
 // With one byte for the side and nine overall marks, the sections start at 0, 2 and 12.
 fn parse_sections(side: &[u8], overall: &[u8], cells: &[u8]) -> Parsed
-    ensures { AnswersReading (read-side (lone-side side.now) side.now overall.now
+    ensures { AnswersReading (read_side (lone_side side.now) side.now overall.now
         cells.now) result }
 {
     let Side::Of(who) = parse_player(side) else {
@@ -154,14 +156,14 @@ fn parse_sections(side: &[u8], overall: &[u8], cells: &[u8]) -> Parsed
     }
 }
 
-#[derive(Drop)]
+#[derive(Clone, Copy)]
 pub enum Side {
     Of(Player),
     Bad,
 }
 
 fn side_of(byte: u8) -> Side
-    ensures { side-said result ≡ side-of byte }
+    ensures { side_said result ≡ side_of byte }
 {
     match byte {
         b'X' => Side::Of(Player::X),
@@ -171,7 +173,7 @@ fn side_of(byte: u8) -> Side
 }
 
 fn parse_player(side: &[u8]) -> Side
-    ensures { side-said result ≡ lone-side side.now }
+    ensures { side_said result ≡ lone_side side.now }
 {
     if side.len() != 1 {
         return Side::Bad;
@@ -179,14 +181,14 @@ fn parse_player(side: &[u8]) -> Side
     side_of(side[0])
 }
 
-#[derive(Drop)]
+#[derive(Clone, Copy)]
 pub enum Mark {
     State(GameState),
     Bad,
 }
 
 fn mark_of(byte: u8) -> Mark
-    ensures { mark-said result ≡ overall-mark byte }
+    ensures { mark_said result ≡ overall_mark byte }
 {
     match byte {
         b'X' => Mark::State(GameState::Won(Player::X)),
@@ -200,7 +202,7 @@ fn mark_of(byte: u8) -> Mark
 // What a board's mark makes due.
 fn next_of(byte: u8, board: usize) -> NextBoard
     requires { board < 9 }
-    ensures { result ≡ next-board-by byte board }
+    ensures { result ≡ next_board_by byte board }
 {
     if byte == b'@' {
         NextBoard::Only(board as u8)
@@ -211,7 +213,7 @@ fn next_of(byte: u8, board: usize) -> NextBoard
 
 // The first of two that is a board.
 fn either(next: NextBoard, other: NextBoard) -> NextBoard
-    ensures { result ≡ next-board-or next other }
+    ensures { result ≡ next_board_or next other }
 {
     match next {
         NextBoard::Any => other,
@@ -220,7 +222,7 @@ fn either(next: NextBoard, other: NextBoard) -> NextBoard
 }
 
 // What the overall marks say, or the place of the first bad one.
-#[derive(Drop)]
+#[derive(Clone, Copy)]
 pub enum OverallRead {
     Marks(GlobalStates, NextBoard),
     Bad(usize),
@@ -229,7 +231,7 @@ pub enum OverallRead {
 // The next board is where the last `@` stands.
 fn parse_overall(overall: &[u8]) -> OverallRead
     requires { length overall.now ≡ 9 }
-    ensures { Reads-overall overall.now result }
+    ensures { ReadsOverall overall.now result }
 {
     let mut states = GlobalStates::EMPTY;
     let mut next = NextBoard::Any;
@@ -244,14 +246,14 @@ fn parse_overall(overall: &[u8]) -> OverallRead
     OverallRead::Marks(states, next)
 }
 
-#[derive(Drop)]
+#[derive(Clone, Copy)]
 pub enum CellMark {
     Cell(CellState),
     Bad,
 }
 
 fn cell_mark_of(byte: u8) -> CellMark
-    ensures { cell-said result ≡ cell-mark byte }
+    ensures { cell_said result ≡ cell_mark byte }
 {
     match byte {
         b'.' => CellMark::Cell(CellState::Empty),
@@ -263,7 +265,7 @@ fn cell_mark_of(byte: u8) -> CellMark
 
 // The boards with what a byte says of a cell.
 fn with_mark(boards: LocalBoards, board: usize, cell: usize, byte: u8) -> LocalBoards
-    ensures { result ≡ with-cell-mark boards board cell (cell-mark byte) }
+    ensures { result ≡ with_cell_mark boards board cell (cell_mark byte) }
 {
     let CellMark::Cell(state) = cell_mark_of(byte) else {
         return boards;
@@ -275,14 +277,14 @@ fn with_mark(boards: LocalBoards, board: usize, cell: usize, byte: u8) -> LocalB
 }
 
 // Whether a byte of the cells' section is as it has to be.
-#[derive(Drop)]
+#[derive(Clone, Copy)]
 pub enum CellsAnswer {
     Right,
     Wrong(ErrorKind),
 }
 
 fn check_cell(cells: &[u8], i: usize) -> CellsAnswer
-    ensures { fault-number result ≡ fault-at cells.now i }
+    ensures { fault_number result ≡ fault_at cells.now i }
 {
     if i % 10 == 9 {
         if cells.len() <= i {
@@ -303,7 +305,7 @@ fn check_cell(cells: &[u8], i: usize) -> CellsAnswer
 }
 
 // What the cells' section says, unless it has a fault: then the first one, and empty boards.
-#[derive(Drop)]
+#[derive(Clone, Copy)]
 pub struct CellsRead {
     pub boards: LocalBoards,
     pub answer: CellsAnswer,
@@ -311,7 +313,7 @@ pub struct CellsRead {
 
 // The nine boards, each of nine cells, with a `/` after each but the last.
 fn parse_cells(cells: &[u8]) -> CellsRead
-    ensures { Reads-cells cells.now result }
+    ensures { ReadsCells cells.now result }
 {
     let mut boards = LocalBoards::EMPTY;
     for i in 0..89 {
@@ -340,7 +342,7 @@ pub fn letter(who: Player) -> u8
 }
 
 fn state_byte(state: GameState) -> u8
-    ensures { result ≡ state-byte state }
+    ensures { result ≡ state_byte state }
 {
     match state {
         GameState::InPlay => b'.',
@@ -350,7 +352,7 @@ fn state_byte(state: GameState) -> u8
 }
 
 fn cell_byte(cell: CellState) -> u8
-    ensures { result ≡ cell-byte cell }
+    ensures { result ≡ cell_byte cell }
 {
     match cell {
         CellState::Empty => b'.',
@@ -359,7 +361,7 @@ fn cell_byte(cell: CellState) -> u8
 }
 
 fn is_next(next: NextBoard, board: usize) -> bool
-    ensures { result ≡ same-next-board next (NextBoard.Only board) }
+    ensures { result ≡ same_next_board next (NextBoard.Only board) }
 {
     match next {
         NextBoard::Any => false,
@@ -370,7 +372,7 @@ fn is_next(next: NextBoard, board: usize) -> bool
 // The byte of the text at a place.
 fn render_at(g: Game, i: usize) -> u8
     requires { i < 101 }
-    ensures { result ≡ byte_at (position-of g) i }
+    ensures { result ≡ byte_at (position_of g) i }
 {
     let who = g.next_player;
     let next = g.next_board;
@@ -398,7 +400,7 @@ fn render_at(g: Game, i: usize) -> u8
 }
 
 pub fn render(g: Game) -> [u8; 101]
-    ensures { result ≡ text_of (position-of g) }
+    ensures { result ≡ text_of (position_of g) }
 {
     let mut out = [0u8; 101];
     for i in 0..101 {
@@ -409,14 +411,14 @@ pub fn render(g: Game) -> [u8; 101]
 
 // Of any byte: `a` and its high half, `a` and its low half.
 pub fn render_move(m: Move) -> [u8; 2]
-    ensures { result ≡ move-text m.bits }
+    ensures { result ≡ move_text m.bits }
 {
     let board = b'a' + m.bits / 16;
     let cell = b'a' + m.bits % 16;
     [board, cell]
 }
 
-#[derive(Drop)]
+#[derive(Clone, Copy)]
 pub enum MoveTextAnswer {
     Read,
     BadLength,
@@ -426,7 +428,7 @@ pub enum MoveTextAnswer {
 impl MoveTextAnswer {
     // 0 where nothing is refused.
     pub fn number(self) -> u64
-        ensures { result ≡ move-number self }
+        ensures { result ≡ move_number self }
     {
         match self {
             MoveTextAnswer::Read => 0,
@@ -437,7 +439,7 @@ impl MoveTextAnswer {
 }
 
 // What reading a move gives: refused, the empty move.
-#[derive(Drop)]
+#[derive(Clone, Copy)]
 pub struct ParsedMove {
     pub answer: MoveTextAnswer,
     pub m: Move,
@@ -450,7 +452,7 @@ fn parse_coord(byte: u8) -> bool
 }
 
 pub fn parse_move(text: &[u8]) -> ParsedMove
-    ensures { Parses-move text.now result }
+    ensures { ParsesMove text.now result }
 {
     if text.len() != 2 {
         return ParsedMove {

@@ -10,87 +10,87 @@ use Rattle.base.specs.Checks.{all_pass}
 use lib.Ieee.Bits.{is_true}
 use Rattle.base.specs.Branch.{if◌then◌else◌}
 use Rattle.base.specs.Lists.{all, elem}
-use Rattle.base.proofs.ListsAgree.{false-by}
-use Rattle.base.proofs.Branch.{if-ind, if-both}
+use Rattle.base.proofs.ListsAgree.{false_by}
+use Rattle.base.proofs.Branch.{if_ind, if_both}
 use Rattle.rules.specs.Position.{Position}
 use Rattle.rules.specs.Play.{accepts, no_move}
 use Rattle.rules.specs.Moves.{moves}
-use Rattle.theory.specs.Memory.{some-move}
+use Rattle.theory.specs.Memory.{some_move}
 use Rattle.theory.specs.OrderedSearch.{fresh}
 use Rattle.boards.specs.declared.moves.Move.{Move}
 use Rattle.boards.specs.declared.moves.MoveError.{MoveError}
 use Rattle.boards.specs.declared.moves.MoveError.TheVariants.{WrongBoard, WonBoard, OutOfBounds, NotEmpty, GameOver}
 use Rattle.boards.specs.declared.moves.Answer.TheVariants.{Accepted, Refused}
-use Rattle.boards.specs.Answers.{answer-number, move-error-number}
+use Rattle.boards.specs.Answers.{answer_number, move_error_number}
 use Rattle.game.specs.declared.Game.{Game}
 use Rattle.game.specs.declared.MoveResult.{MoveResult}
-use Rattle.game.specs.Meaning.{position-of}
-use Rattle.game.specs.After.{Plays, game-after}
-use Rattle.game.proofs.AfterRefusals.{nought-accepts, refused-not-accepts}
-use Rattle.game.proofs.MeaningMoves.{all-moves-listed}
-use Rattle.game.proofs.Meaning.{game-refused}
+use Rattle.game.specs.Meaning.{position_of}
+use Rattle.game.specs.After.{Plays, game_after}
+use Rattle.game.proofs.AfterRefusals.{nought_accepts, refused_not_accepts}
+use Rattle.game.proofs.MeaningMoves.{all_moves_listed}
+use Rattle.game.proofs.Meaning.{game_refused}
 use Rattle.order.specs.declared.Seen.{Seen}
 use Rattle.order.specs.declared.Candidates.{Candidates}
 use Rattle.order.specs.declared.MoveOrder.{MoveOrder}
 use Rattle.order.specs.declared.NextMove.{NextMove}
 use Rattle.order.specs.Order.{
   marked,
-  candidates-left,
-  new-order,
-  without-next,
-  set-mark,
-  candidates-after,
-  set-marks,
-  order-after,
+  candidates_left,
+  new_order,
+  without_next,
+  set_mark,
+  candidates_after,
+  set_marks,
+  order_after,
   Step,
-  with-mark,
+  with_mark,
   step,
   step_of,
-  number-met,
+  number_met,
   NextOf,
   unmarked,
-  order-left,
+  order_left,
 }
-use Rattle.order.proofs.OrderMarks.{none-marked, seen-length, seen-again, one_more}
+use Rattle.order.proofs.OrderMarks.{none_marked, seen_length, seen_again, one_more}
 
 -- ---- a new order
-pub new-order-means : (g : Game) (first second : Move) → (candidates-left (new-order g first second).left
-    ≡ some-move first.bits ++ (some-move second.bits ++ moves (position-of g)))
-    × ((k : ℕ) → marked (new-order g first second).seen k ≡ false)
-unfolding candidates-left
-new-order-means g first second = (rw (all-moves-listed g), none-marked)
+pub new_order_means : (g : Game) (first second : Move) → (candidates_left (new_order g first second).left
+    ≡ some_move first.bits ++ (some_move second.bits ++ moves (position_of g)))
+    × ((k : ℕ) → marked (new_order g first second).seen k ≡ false)
+unfolding candidates_left
+new_order_means g first second = (rw (all_moves_listed g), none_marked)
 
 -- ---- one move met
 module _ (ok : ℕ → Bool) (seen : ℕ → Bool) (m : ℕ) (ms : List ℕ) where
-  step-repeat : seen m ≡ true → step ok seen (m ∷ ms) ≡ step ok seen ms
+  step_repeat : seen m ≡ true → step ok seen (m ∷ ms) ≡ step ok seen ms
   unfolding step if◌then◌else◌
-  step-repeat e = rw e
+  step_repeat e = rw e
 
-  step-refused : seen m ≡ false → ok m ≡ false → step ok seen (m ∷ ms) ≡ step ok (with-mark seen m) ms
+  step_refused : seen m ≡ false → ok m ≡ false → step ok seen (m ∷ ms) ≡ step ok (with_mark seen m) ms
   unfolding step if◌then◌else◌
-  step-refused e a = rw (e, a)
+  step_refused e a = rw (e, a)
 
-  step-accepted : seen m ≡ false → ok m ≡ true → step ok seen (m ∷ ms) ≡ record
-      { found = m; marks = with-mark seen m; left = ms }
+  step_accepted : seen m ≡ false → ok m ≡ true → step ok seen (m ∷ ms) ≡ record
+      { found = m; marks = with_mark seen m; left = ms }
   unfolding step if◌then◌else◌
-  step-accepted e a = rw (e, a)
+  step_accepted e a = rw (e, a)
 
 -- no more are left than there were
 step_left : (ok : ℕ → Bool) (seen : ℕ → Bool) (ms : List ℕ) → length (step ok seen ms).left ≤ length ms
 unfolding step
 step_left ok seen [] = omega arith
 step_left ok seen (m ∷ ms) =
-    if-ind (λ (s : Step). length s.left ≤ suc (length ms)) (seen m) _ _ (λ _. omega (arith, step_left ok seen ms))
-    (λ _. if-ind (λ (s : Step). length s.left ≤ suc (length ms)) (ok m) _ _ (λ _. omega arith)
-    (λ _. omega (arith, step_left ok (with-mark seen m) ms)))
+    if_ind (λ (s : Step). length s.left ≤ suc (length ms)) (seen m) _ _ (λ _. omega (arith, step_left ok seen ms))
+    (λ _. if_ind (λ (s : Step). length s.left ≤ suc (length ms)) (ok m) _ _ (λ _. omega arith)
+    (λ _. omega (arith, step_left ok (with_mark seen m) ms)))
 
 abbrev ok : Game → ℕ → Bool
-ok g = accepts (position-of g)
+ok g = accepts (position_of g)
 
 pub shorter : (ms : List ℕ) (m : ℕ) (rest : List ℕ) → ms ≡ m ∷ rest → length rest < length ms
 shorter ms m rest e = rw e (omega arith)
 
-numbered : (r : MoveError) → move-error-number r ≡ 0 → ⊥
+numbered : (r : MoveError) → move_error_number r ≡ 0 → ⊥
 numbered WrongBoard e = omega arith
 numbered WonBoard e = omega arith
 numbered OutOfBounds e = omega arith
@@ -98,149 +98,149 @@ numbered NotEmpty e = omega arith
 numbered GameOver e = omega arith
 
 -- no game accepts the empty move
-pub none-refused : (p : Position) → T (not (accepts p no_move))
+pub none_refused : (p : Position) → T (not (accepts p no_move))
 unfolding accepts all_pass all
-none-refused p = tt
+none_refused p = tt
 
 -- ---- two orders with the same step, which leaves the same
-abbrev pub order-of : Candidates → Seen → MoveOrder
-order-of left seen = record { left = left; seen = seen }
+abbrev pub order_of : Candidates → Seen → MoveOrder
+order_of left seen = record { left = left; seen = seen }
 
 pub record SameStep (g : Game) (w v : MoveOrder) : Type 0 where
   pub step_is : step_of g w ≡ step_of g v
-  pub order_is : order-after (number-met g w) w ≡ order-after (number-met g v) v
+  pub order_is : order_after (number_met g w) w ≡ order_after (number_met g v) v
 
 -- what comes back, by what the step is
-next-by : (g : Game) (w : MoveOrder) (r : NextMove) (s : Step) → step_of g w ≡ s → r.m.bits ≡ s.found →
-    r.game ≡ game-after g s.found → r.order ≡ order-after (number-met g w) w
-    → ((k : ℕ) → marked r.order.seen k ≡ s.marks k) → candidates-left r.order.left ≡ s.left → NextOf g w r
-next-by g w r s e m a o k l = record {
-  move-is = m ∙ sym (ap (λ (x : Step). x.found) e);
-  game-is = a ∙ sym (ap (λ (x : Step). game-after g x.found) e);
+next_by : (g : Game) (w : MoveOrder) (r : NextMove) (s : Step) → step_of g w ≡ s → r.m.bits ≡ s.found →
+    r.game ≡ game_after g s.found → r.order ≡ order_after (number_met g w) w
+    → ((k : ℕ) → marked r.order.seen k ≡ s.marks k) → candidates_left r.order.left ≡ s.left → NextOf g w r
+next_by g w r s e m a o k l = record {
+  move_is = m ∙ sym (ap (λ (x : Step). x.found) e);
+  game_is = a ∙ sym (ap (λ (x : Step). game_after g x.found) e);
   order_is = o;
-  marks-are = λ n. k n ∙ sym (ap (λ (x : Step). x.marks n) e);
-  left-are = l ∙ sym (ap (λ (x : Step). x.left) e);
+  marks_are = λ n. k n ∙ sym (ap (λ (x : Step). x.marks n) e);
+  left_are = l ∙ sym (ap (λ (x : Step). x.left) e);
 }
 
 -- the next move is met
 module _ (g : Game) (left : Candidates) (seen : Seen) (m : Move) (rest : Candidates)
-    (e : (candidates-left left ≡ m.bits ∷ candidates-left rest) × (rest ≡ without-next left)) where
+    (e : (candidates_left left ≡ m.bits ∷ candidates_left rest) × (rest ≡ without_next left)) where
   -- it is gone and marked, and the others are met from there
-  after-one-met : (new : Seen) → new ≡ set-mark seen m.bits → (n : ℕ) → order-after n (order-of rest new)
-      ≡ order-after (suc n) (order-of left seen)
-  unfolding candidates-after set-marks
-  after-one-met new f n =
-      (λ i. record { left = candidates-after n (e.1 i); seen = set-marks (f i) (take n (candidates-left rest)) })
-      ∙ sym (λ i. record { left = candidates-after n (without-next left); seen = set-marks seen (take (suc n) (e.0 i)) })
+  after_one_met : (new : Seen) → new ≡ set_mark seen m.bits → (n : ℕ) → order_after n (order_of rest new)
+      ≡ order_after (suc n) (order_of left seen)
+  unfolding candidates_after set_marks
+  after_one_met new f n =
+      (λ i. record { left = candidates_after n (e.1 i); seen = set_marks (f i) (take n (candidates_left rest)) })
+      ∙ sym (λ i. record { left = candidates_after n (without_next left); seen = set_marks seen (take (suc n) (e.0 i)) })
 
-  module _ (w : MoveOrder) (s : SameStep g (order-of left seen) w) (b : Bool) (f : b ≡ marked seen m.bits) where
-    goes_on : (new : Seen) → new ≡ set-mark seen m.bits → step_of g (order-of rest new) ≡ step_of g (order-of left seen)
-        → SameStep g (order-of rest new) w
+  module _ (w : MoveOrder) (s : SameStep g (order_of left seen) w) (b : Bool) (f : b ≡ marked seen m.bits) where
+    goes_on : (new : Seen) → new ≡ set_mark seen m.bits → step_of g (order_of rest new) ≡ step_of g (order_of left seen)
+        → SameStep g (order_of rest new) w
     goes_on new n t =
-        let l = step_left (ok g) (marked new) (candidates-left rest) in
-        let k : suc (number-met g (order-of rest new)) ≡ number-met g (order-of left seen) = omega (
+        let l = step_left (ok g) (marked new) (candidates_left rest) in
+        let k : suc (number_met g (order_of rest new)) ≡ number_met g (order_of left seen) = omega (
           arith,
           ap length e.0,
           ap (λ (x : Step). length x.left) t,
         ) in
         record {
           step_is = t ∙ s.step_is;
-          order_is = after-one-met new n _ ∙ ap (λ (j : ℕ). order-after j (order-of left seen)) k ∙ s.order_is;
+          order_is = after_one_met new n _ ∙ ap (λ (j : ℕ). order_after j (order_of left seen)) k ∙ s.order_is;
         }
 
-    pub repeated : b ≡ true → SameStep g (order-of rest seen) w
+    pub repeated : b ≡ true → SameStep g (order_of rest seen) w
     repeated h =
-        goes_on seen (sym (seen-again seen m.bits (sym f ∙ h)))
-        (sym (ap (step (ok g) (marked seen)) e.0 ∙ step-repeat (ok g) (marked seen) m.bits (candidates-left rest) (sym f ∙ h)))
+        goes_on seen (sym (seen_again seen m.bits (sym f ∙ h)))
+        (sym (ap (step (ok g) (marked seen)) e.0 ∙ step_repeat (ok g) (marked seen) m.bits (candidates_left rest) (sym f ∙ h)))
 
-    module _ (h : b ≡ false) (new : Seen) (n : new ≡ set-mark seen m.bits) (fits : m.bits / 64 < length new.marks)
+    module _ (h : b ≡ false) (new : Seen) (n : new ≡ set_mark seen m.bits) (fits : m.bits / 64 < length new.marks)
         (made : MoveResult) (p : Plays g m made) where
-      more : (k : ℕ) → marked new k ≡ with-mark (marked seen) m.bits k
+      more : (k : ℕ) → marked new k ≡ with_mark (marked seen) m.bits k
       more k =
-          let l = ap (λ (x : Seen). length x.marks) n ∙ seen-length seen m.bits in
+          let l = ap (λ (x : Seen). length x.marks) n ∙ seen_length seen m.bits in
           ap (λ (x : Seen). marked x k) n ∙ one_more seen m.bits (omega arith) k
 
-      pub refused : (r : MoveError) → made.answer ≡ Refused r → SameStep g (order-of rest new) w
+      pub refused : (r : MoveError) → made.answer ≡ Refused r → SameStep g (order_of rest new) w
       refused r q =
-          let a : ok g m.bits ≡ false = false-by (ok g m.bits) (T_not (ok g m.bits)
-          (refused-not-accepts (position-of g) m.bits (λ z. numbered r (sym (ap answer-number q) ∙ p.number ∙ z)))) in
-          goes_on new n ((λ i. step (ok g) (λ k. more k i) (candidates-left rest))
+          let a : ok g m.bits ≡ false = false_by (ok g m.bits) (T_not (ok g m.bits)
+          (refused_not_accepts (position_of g) m.bits (λ z. numbered r (sym (ap answer_number q) ∙ p.number ∙ z)))) in
+          goes_on new n ((λ i. step (ok g) (λ k. more k i) (candidates_left rest))
           ∙ sym (ap (step (ok g) (marked seen)) e.0
-          ∙ step-refused (ok g) (marked seen) m.bits (candidates-left rest) (sym f ∙ h) a))
+          ∙ step_refused (ok g) (marked seen) m.bits (candidates_left rest) (sym f ∙ h) a))
 
-      pub accepted : made.answer ≡ Accepted → NextOf g w (record { m = m; game = made.game; order = order-of rest new })
-      unfolding candidates-after set-marks
+      pub accepted : made.answer ≡ Accepted → NextOf g w (record { m = m; game = made.game; order = order_of rest new })
+      unfolding candidates_after set_marks
       accepted q =
           let a : ok g m.bits
-          ≡ true = is_true (ok g m.bits) (nought-accepts (position-of g) m.bits (sym p.number ∙ ap answer-number q)) in
+          ≡ true = is_true (ok g m.bits) (nought_accepts (position_of g) m.bits (sym p.number ∙ ap answer_number q)) in
           let t = ap (step (ok g) (marked seen)) e.0
-          ∙ step-accepted (ok g) (marked seen) m.bits (candidates-left rest) (sym f ∙ h) a in
-          let one : 1 ≡ number-met g (order-of left seen) = omega (arith, ap length e.0, ap (λ (x : Step). length x.left) t) in
-          next-by g w _ _ (sym s.step_is ∙ t) refl p.exact
-          (after-one-met new n 0 ∙ ap (λ (k : ℕ). order-after k (order-of left seen)) one ∙ s.order_is) more refl
+          ∙ step_accepted (ok g) (marked seen) m.bits (candidates_left rest) (sym f ∙ h) a in
+          let one : 1 ≡ number_met g (order_of left seen) = omega (arith, ap length e.0, ap (λ (x : Step). length x.left) t) in
+          next_by g w _ _ (sym s.step_is ∙ t) refl p.exact
+          (after_one_met new n 0 ∙ ap (λ (k : ℕ). order_after k (order_of left seen)) one ∙ s.order_is) more refl
 
-pub ended : (g : Game) (left : Candidates) (seen : Seen) (w : MoveOrder) → candidates-left left ≡ [] →
-    SameStep g (order-of left seen) w → (m : Move) → m.bits ≡ no_move
-    → NextOf g w (record { m = m; game = g; order = order-of left seen })
-unfolding step candidates-after set-marks
+pub ended : (g : Game) (left : Candidates) (seen : Seen) (w : MoveOrder) → candidates_left left ≡ [] →
+    SameStep g (order_of left seen) w → (m : Move) → m.bits ≡ no_move
+    → NextOf g w (record { m = m; game = g; order = order_of left seen })
+unfolding step candidates_after set_marks
 ended g left seen w e s m z =
-    let none : 0 ≡ number-met g (order-of left seen) = omega (arith, ap length e) in
-    next-by g w _ _ (sym s.step_is ∙ ap (step (ok g) (marked seen)) e) z
-    (sym (game-refused g no_move (none-refused (position-of g))))
-    (ap (λ (k : ℕ). order-after k (order-of left seen)) none ∙ s.order_is) (λ k. refl) e
+    let none : 0 ≡ number_met g (order_of left seen) = omega (arith, ap length e) in
+    next_by g w _ _ (sym s.step_is ∙ ap (step (ok g) (marked seen)) e) z
+    (sym (game_refused g no_move (none_refused (position_of g))))
+    (ap (λ (k : ℕ). order_after k (order_of left seen)) none ∙ s.order_is) (λ k. refl) e
 
 -- ---- what a move order has left
 module _ (ok : ℕ → Bool) where
-  unmarked-listed : (seen ms : List ℕ) → unmarked ok (λ k. elem k seen) ms ≡ fresh ok seen ms
+  unmarked_listed : (seen ms : List ℕ) → unmarked ok (λ k. elem k seen) ms ≡ fresh ok seen ms
   unfolding unmarked fresh elem
-  unmarked-listed seen [] = refl
-  unmarked-listed seen (m ∷ ms) = λ i.
-      if elem m seen then (λ _. unmarked-listed seen ms i) else
-      λ _. if ok m then (λ _. m ∷ unmarked-listed (m ∷ seen) ms i) else λ _. unmarked-listed (m ∷ seen) ms i
+  unmarked_listed seen [] = refl
+  unmarked_listed seen (m ∷ ms) = λ i.
+      if elem m seen then (λ _. unmarked_listed seen ms i) else
+      λ _. if ok m then (λ _. m ∷ unmarked_listed (m ∷ seen) ms i) else λ _. unmarked_listed (m ∷ seen) ms i
 
-  pub left-accepted : (seen : ℕ → Bool) (ms : List ℕ) (m : ℕ) (rest : List ℕ) → unmarked ok seen ms ≡ m ∷ rest → T (ok m)
+  pub left_accepted : (seen : ℕ → Bool) (ms : List ℕ) (m : ℕ) (rest : List ℕ) → unmarked ok seen ms ≡ m ∷ rest → T (ok m)
   unfolding unmarked
-  left-accepted seen [] m rest = λ e. absurd (let z : ◌≡◌ {A = ℕ} 0 1 = cc in omega arith)
-  left-accepted seen (x ∷ ms) m rest = if-ind (λ l. l ≡ m ∷ rest → T (ok m)) (seen x) _ _ (λ _ e. left-accepted _ ms m rest e)
-      (λ _. if-ind (λ l. l ≡ m ∷ rest → T (ok m)) (ok x) _ _ (λ t e. let q : x ≡ m = cc in subst (λ (z : ℕ). T (ok z)) q t)
-      (λ _ e. left-accepted _ ms m rest e))
+  left_accepted seen [] m rest = λ e. absurd (let z : ◌≡◌ {A = ℕ} 0 1 = cc in omega arith)
+  left_accepted seen (x ∷ ms) m rest = if_ind (λ l. l ≡ m ∷ rest → T (ok m)) (seen x) _ _ (λ _ e. left_accepted _ ms m rest e)
+      (λ _. if_ind (λ l. l ≡ m ∷ rest → T (ok m)) (ok x) _ _ (λ t e. let q : x ≡ m = cc in subst (λ (z : ℕ). T (ok z)) q t)
+      (λ _ e. left_accepted _ ms m rest e))
 
   -- a step gives the first of those left, and leaves the others
   abbrev FirstOf : List ℕ → Step → Type 0
   FirstOf [] s = (s.found ≡ no_move) × (s.left ≡ [])
   FirstOf (m ∷ ms) s = (s.found ≡ m) × (unmarked ok s.marks s.left ≡ ms)
 
-  step-first : (seen : ℕ → Bool) (ms : List ℕ) → FirstOf (unmarked ok seen ms) (step ok seen ms)
+  step_first : (seen : ℕ → Bool) (ms : List ℕ) → FirstOf (unmarked ok seen ms) (step ok seen ms)
   unfolding unmarked step
-  step-first seen [] = (refl, refl)
-  step-first seen (m ∷ ms) = if-both FirstOf (seen m) _ _ _ _ (λ _. step-first seen ms)
-      (λ _. if-both FirstOf (ok m) _ _ _ _ (λ _. (refl, refl)) (λ _. step-first (with-mark seen m) ms))
+  step_first seen [] = (refl, refl)
+  step_first seen (m ∷ ms) = if_both FirstOf (seen m) _ _ _ _ (λ _. step_first seen ms)
+      (λ _. if_both FirstOf (ok m) _ _ _ _ (λ _. (refl, refl)) (λ _. step_first (with_mark seen m) ms))
 
 -- with no mark, the order's moves with no repeat
-pub order-new : (g : Game) (w : MoveOrder) (ms : List ℕ) → (candidates-left w.left ≡ ms) ×
+pub order_new : (g : Game) (w : MoveOrder) (ms : List ℕ) → (candidates_left w.left ≡ ms) ×
     ((k : ℕ) → marked w.seen k ≡ false)
-    → order-left g w ≡ fresh (accepts (position-of g)) [] ms
+    → order_left g w ≡ fresh (accepts (position_of g)) [] ms
 unfolding elem
-order-new g w ms e = (λ i. unmarked (ok g) (λ k. e.1 k i) (e.0 i)) ∙ unmarked-listed (ok g) [] ms
+order_new g w ms e = (λ i. unmarked (ok g) (λ k. e.1 k i) (e.0 i)) ∙ unmarked_listed (ok g) [] ms
 
 -- the next of those left and the game after it, with the rest; where there is none the empty move and the game itself, with nothing left
 abbrev pub NextIs : Game → List ℕ → NextMove → Type 0
-NextIs g [] r = (r.m.bits ≡ no_move) × (r.game ≡ g) × (order-left g r.order ≡ [])
-NextIs g (m ∷ ms) r = (r.m.bits ≡ m) × (r.game ≡ game-after g m) × (order-left g r.order ≡ ms)
+NextIs g [] r = (r.m.bits ≡ no_move) × (r.game ≡ g) × (order_left g r.order ≡ [])
+NextIs g (m ∷ ms) r = (r.m.bits ≡ m) × (r.game ≡ game_after g m) × (order_left g r.order ≡ ms)
 
 module _ (g : Game) (w : MoveOrder) (r : NextMove) (n : NextOf g w r) where
   by_first : (ms : List ℕ) → FirstOf (ok g) ms (step_of g w) → NextIs g ms r
   unfolding unmarked
   by_first [] f = (
-    n.move-is ∙ f.0,
-    n.game-is ∙ ap (game-after g) f.0 ∙ game-refused g no_move (none-refused (position-of g)),
-    ap (unmarked (ok g) (marked r.order.seen)) (n.left-are ∙ f.1),
+    n.move_is ∙ f.0,
+    n.game_is ∙ ap (game_after g) f.0 ∙ game_refused g no_move (none_refused (position_of g)),
+    ap (unmarked (ok g) (marked r.order.seen)) (n.left_are ∙ f.1),
   )
   by_first (m ∷ ms) f = (
-    n.move-is ∙ f.0,
-    n.game-is ∙ ap (game-after g) f.0,
-    (λ i. unmarked (ok g) (λ k. n.marks-are k i) (n.left-are i)) ∙ f.1,
+    n.move_is ∙ f.0,
+    n.game_is ∙ ap (game_after g) f.0,
+    (λ i. unmarked (ok g) (λ k. n.marks_are k i) (n.left_are i)) ∙ f.1,
   )
 
-  pub next-left : NextIs g (order-left g w) r
-  next-left = by_first (order-left g w) (step-first (ok g) (marked w.seen) (candidates-left w.left))
+  pub next_left : NextIs g (order_left g w) r
+  next_left = by_first (order_left g w) (step_first (ok g) (marked w.seen) (candidates_left w.left))

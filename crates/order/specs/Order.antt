@@ -5,12 +5,12 @@ use Rattle.base.specs.Branch.{if◌then◌else◌}
 use Rattle.base.specs.Bits.{bit}
 use Rattle.rules.specs.Play.{accepts, no_move}
 use Rattle.rules.specs.Moves.{moves}
-use Rattle.theory.specs.Memory.{some-move}
+use Rattle.theory.specs.Memory.{some_move}
 use Rattle.boards.specs.declared.moves.Move.{Move}
-use Rattle.boards.specs.Cursor.{moves-left, cursor-over}
+use Rattle.boards.specs.Cursor.{moves_left, cursor_over}
 use Rattle.game.specs.declared.Game.{Game}
-use Rattle.game.specs.Meaning.{position-of}
-use Rattle.game.specs.After.{game-after}
+use Rattle.game.specs.Meaning.{position_of}
+use Rattle.game.specs.After.{game_after}
 use Rattle.order.specs.declared.Seen.{Seen}
 use Rattle.order.specs.declared.Candidates.{Candidates}
 use Rattle.order.specs.declared.NextCandidate.{NextCandidate}
@@ -22,49 +22,49 @@ use Rattle.order.specs.declared.NextMove.{NextMove}
 unfoldable pub marked : Seen → ℕ → Bool
 marked s m = bit (get_or s.marks (m / 64) 0) (m % 64)
 
-unfoldable pub candidates-left : Candidates → List ℕ
-candidates-left o = some-move o.first.bits ++ (some-move o.second.bits ++ moves-left o.list)
+unfoldable pub candidates_left : Candidates → List ℕ
+candidates_left o = some_move o.first.bits ++ (some_move o.second.bits ++ moves_left o.list)
 
 -- ---- before the first move is met
-abbrev pub no-marks : Seen
-no-marks = record { marks = replicate 4 0 }
+abbrev pub no_marks : Seen
+no_marks = record { marks = replicate 4 0 }
 
-abbrev pub new-order : Game → Move → Move → MoveOrder
-new-order g first second =
-    record { left = record { first = first; second = second; list = cursor-over (moves (position-of g)) }; seen = no-marks }
+abbrev pub new_order : Game → Move → Move → MoveOrder
+new_order g first second =
+    record { left = record { first = first; second = second; list = cursor_over (moves (position_of g)) }; seen = no_marks }
 
 -- ---- one move met
-abbrev pub empty-move : Move
-empty-move = record { bits = no_move }
+abbrev pub empty_move : Move
+empty_move = record { bits = no_move }
 
 -- the candidates without the first of those left: `first` or `second` is emptied, or the list goes on
-unfoldable pub without-next : Candidates → Candidates
-without-next o =
-    if not (eqb o.first.bits no_move) then (λ _. record { first = empty-move; second = o.second; list = o.list }) else
-    λ _. if not (eqb o.second.bits no_move) then (λ _. record { first = o.first; second = empty-move; list = o.list }) else
-    λ _. record { first = o.first; second = o.second; list = cursor-over (drop 1 (moves-left o.list)) }
+unfoldable pub without_next : Candidates → Candidates
+without_next o =
+    if not (eqb o.first.bits no_move) then (λ _. record { first = empty_move; second = o.second; list = o.list }) else
+    λ _. if not (eqb o.second.bits no_move) then (λ _. record { first = o.first; second = empty_move; list = o.list }) else
+    λ _. record { first = o.first; second = o.second; list = cursor_over (drop 1 (moves_left o.list)) }
 
 -- the next of the moves left, and the candidates without it
-abbrev pub next-candidate : Candidates → List ℕ → NextCandidate
-next-candidate o [] = End
-next-candidate o (m ∷ ms) = Next (record { bits = m }) (without-next o)
+abbrev pub next_candidate : Candidates → List ℕ → NextCandidate
+next_candidate o [] = End
+next_candidate o (m ∷ ms) = Next (record { bits = m }) (without_next o)
 
 -- the marks with that of a move set
-unfoldable pub set-mark : Seen → ℕ → Seen
-set-mark s m = record { marks = set s.marks (m / 64) (bit_or (get_or s.marks (m / 64) 0) (2 ^ (m % 64))) }
+unfoldable pub set_mark : Seen → ℕ → Seen
+set_mark s m = record { marks = set s.marks (m / 64) (bit_or (get_or s.marks (m / 64) 0) (2 ^ (m % 64))) }
 
 -- ---- so many moves met: each is gone from the candidates, and marked
-unfoldable pub candidates-after : ℕ → Candidates → Candidates
-candidates-after zero o = o
-candidates-after (suc n) o = candidates-after n (without-next o)
+unfoldable pub candidates_after : ℕ → Candidates → Candidates
+candidates_after zero o = o
+candidates_after (suc n) o = candidates_after n (without_next o)
 
-unfoldable pub set-marks : Seen → List ℕ → Seen
-set-marks s [] = s
-set-marks s (m ∷ ms) = set-marks (set-mark s m) ms
+unfoldable pub set_marks : Seen → List ℕ → Seen
+set_marks s [] = s
+set_marks s (m ∷ ms) = set_marks (set_mark s m) ms
 
-abbrev pub order-after : ℕ → MoveOrder → MoveOrder
-order-after n w =
-    record { left = candidates-after n w.left; seen = set-marks w.seen (take n (candidates-left w.left)) }
+abbrev pub order_after : ℕ → MoveOrder → MoveOrder
+order_after n w =
+    record { left = candidates_after n w.left; seen = set_marks w.seen (take n (candidates_left w.left)) }
 
 -- ---- a step: the move found, or the empty one; the marks by then; the moves left
 pub record Step : Type 0 where
@@ -73,39 +73,39 @@ pub record Step : Type 0 where
   pub left : List ℕ
 
 -- one mark more
-abbrev pub with-mark : (ℕ → Bool) → ℕ → ℕ → Bool
-with-mark seen m k = eqb k m || seen k
+abbrev pub with_mark : (ℕ → Bool) → ℕ → ℕ → Bool
+with_mark seen m k = eqb k m || seen k
 
 -- the first move that is not marked and passes; each that is met is marked
 unfoldable pub step : (ok : ℕ → Bool) → (seen : ℕ → Bool) → List ℕ → Step
 step ok seen [] = record { found = no_move; marks = seen; left = [] }
 step ok seen (m ∷ ms) =
     if seen m then (λ _. step ok seen ms) else
-    λ _. if ok m then (λ _. record { found = m; marks = with-mark seen m; left = ms }) else λ _. step ok (with-mark seen m) ms
+    λ _. if ok m then (λ _. record { found = m; marks = with_mark seen m; left = ms }) else λ _. step ok (with_mark seen m) ms
 
 -- over the moves that a game accepts
 abbrev pub step_of : Game → MoveOrder → Step
-step_of g w = step (accepts (position-of g)) (marked w.seen) (candidates-left w.left)
+step_of g w = step (accepts (position_of g)) (marked w.seen) (candidates_left w.left)
 
 -- how many moves it meets
-abbrev pub number-met : Game → MoveOrder → ℕ
-number-met g w = length (candidates-left w.left) - length (step_of g w).left
+abbrev pub number_met : Game → MoveOrder → ℕ
+number_met g w = length (candidates_left w.left) - length (step_of g w).left
 
 -- the move found and the game after it, with the rest: the struct by equality, and what it means. Where none is found the empty move and
 -- the game itself, as no game accepts that move
 pub record NextOf (g : Game) (w : MoveOrder) (r : NextMove) : Type 0 where
-  pub move-is : r.m.bits ≡ (step_of g w).found
-  pub game-is : r.game ≡ game-after g (step_of g w).found
-  pub order_is : r.order ≡ order-after (number-met g w) w
-  pub marks-are : (k : ℕ) → marked r.order.seen k ≡ (step_of g w).marks k
-  pub left-are : candidates-left r.order.left ≡ (step_of g w).left
+  pub move_is : r.m.bits ≡ (step_of g w).found
+  pub game_is : r.game ≡ game_after g (step_of g w).found
+  pub order_is : r.order ≡ order_after (number_met g w) w
+  pub marks_are : (k : ℕ) → marked r.order.seen k ≡ (step_of g w).marks k
+  pub left_are : candidates_left r.order.left ≡ (step_of g w).left
 
 -- ---- all the steps: those that are accepted, each once; those that are marked are passed over
 unfoldable pub unmarked : (ok : ℕ → Bool) → (seen : ℕ → Bool) → List ℕ → List ℕ
 unmarked ok seen [] = []
 unmarked ok seen (m ∷ ms) =
     if seen m then (λ _. unmarked ok seen ms) else
-    λ _. if ok m then (λ _. m ∷ unmarked ok (with-mark seen m) ms) else λ _. unmarked ok (with-mark seen m) ms
+    λ _. if ok m then (λ _. m ∷ unmarked ok (with_mark seen m) ms) else λ _. unmarked ok (with_mark seen m) ms
 
-abbrev pub order-left : Game → MoveOrder → List ℕ
-order-left g w = unmarked (accepts (position-of g)) (marked w.seen) (candidates-left w.left)
+abbrev pub order_left : Game → MoveOrder → List ℕ
+order_left g w = unmarked (accepts (position_of g)) (marked w.seen) (candidates_left w.left)

@@ -1,21 +1,23 @@
 // The order in which a position's moves are searched.
 // Ported from src/lib/minimax.rs of nelhage/ultimattt at commit 87ef0d9c7c (Apache-2.0, see NOTICE), changed: `move_iterator` and
 // `DedupIterator` are a cursor by value and a set of 256 marks.
+#![tactic(auto)]
+
 ghost use Rattle.std.specs.Prelude.{◌≡◌, ◌<◌, get_or, set};
-ghost use Rattle.order.specs.Order.{marked, candidates-left, no-marks, new-order, next-candidate, set-mark, NextOf};
+ghost use Rattle.order.specs.Order.{marked, candidates_left, no_marks, new_order, next_candidate, set_mark, NextOf};
 
 use boards::{Answer, Listed, Move, MoveIterator};
 use game::Game;
 
 // A set of 256 marks.
-#[derive(Drop)]
+#[derive(Clone, Copy)]
 pub struct Seen {
     pub marks: [u64; 4],
 }
 
 impl Seen {
     fn new() -> Seen
-        ensures { result ≡ no-marks }
+        ensures { result ≡ no_marks }
     {
         Seen { marks: [0; 4] }
     }
@@ -62,7 +64,7 @@ impl Seen {
     }
 
     fn with(self, m: Move) -> Seen
-        ensures { result ≡ set-mark self m.bits }
+        ensures { result ≡ set_mark self m.bits }
     {
         let i = m.bits / 64;
         let bit = 1u64 << (m.bits % 64);
@@ -71,14 +73,14 @@ impl Seen {
 }
 
 // The moves still to be met: the table's move; the response, or lacking one the variation's move; then the list. An empty move is none.
-#[derive(Drop)]
+#[derive(Clone, Copy)]
 pub struct Candidates {
     pub first: Move,
     pub second: Move,
     pub list: MoveIterator,
 }
 
-#[derive(Drop)]
+#[derive(Clone, Copy)]
 pub enum NextCandidate {
     Next(Move, Candidates),
     End,
@@ -86,7 +88,7 @@ pub enum NextCandidate {
 
 impl Candidates {
     fn next(self) -> NextCandidate
-        ensures { result ≡ next-candidate self (candidates-left self) }
+        ensures { result ≡ next_candidate self (candidates_left self) }
     {
         let none = Move::none();
         let first = self.first;
@@ -112,14 +114,14 @@ impl Candidates {
 }
 
 // The cursor over a position's moves: those left, and those met.
-#[derive(Drop)]
+#[derive(Clone, Copy)]
 pub struct MoveOrder {
     pub left: Candidates,
     pub seen: Seen,
 }
 
 // The next move that is no repeat and is accepted, the game after it, and the rest. The empty move says that there is none.
-#[derive(Drop)]
+#[derive(Clone, Copy)]
 pub struct NextMove {
     pub game: Game,
     pub order: MoveOrder,
@@ -128,7 +130,7 @@ pub struct NextMove {
 
 impl MoveOrder {
     pub fn new(game: Game, first: Move, second: Move) -> MoveOrder
-        ensures { result ≡ new-order game first second }
+        ensures { result ≡ new_order game first second }
     {
         let list = game.all_moves();
         let left = Candidates {

@@ -1,17 +1,18 @@
 // One line of the program, from its buffer, and the bytes of the answer.
+#![tactic(auto)]
 
 ghost use Rattle.std.specs.Prelude.{◌≡◌, [], T, length};
 ghost use Rattle.rules.specs.Moves.{moves};
 ghost use Rattle.rules.specs.Hash.{hash};
 ghost use Rattle.text.specs.Reading.{read};
-ghost use Rattle.status.specs.Sets.{set-of};
-ghost use Rattle.game.specs.Meaning.{position-of};
+ghost use Rattle.status.specs.Sets.{set_of};
+ghost use Rattle.game.specs.Meaning.{position_of};
 ghost use Rattle.game.specs.Neat.{neat};
 ghost use Rattle.notation.specs.Parsed.{Parses};
-ghost use Rattle.minimax.specs.Report.{report-of};
-ghost use Rattle.line_buffer.specs.Buffer.{buffer-text, buffer-asks};
-ghost use Rattle.answer_text.specs.AnswerBytes.{text-of-bytes};
-ghost use Rattle.program_line.specs.Answered.{program-search, report-text, position-text, reading-text, asked-text};
+ghost use Rattle.minimax.specs.Report.{report_of};
+ghost use Rattle.line_buffer.specs.Buffer.{buffer_text, buffer_asks};
+ghost use Rattle.answer_text.specs.AnswerBytes.{text_of_bytes};
+ghost use Rattle.program_line.specs.Answered.{program_search, report_text, position_text, reading_text, asked_text};
 
 use answer_text::AnswerText;
 use endgame::Analysis;
@@ -26,8 +27,8 @@ pub const ALLOWANCE: u64 = 1000000;
 
 // From fresh memory, with the table off.
 fn search(game: Game, depth: u8) -> Report
-    requires { T (neat game) × (game.hash ≡ hash (position-of game)) }
-    ensures { report-of result [] ≡ program-search depth (position-of game) }
+    requires { T (neat game) × (game.hash ≡ hash (position_of game)) }
+    ensures { report_of result [] ≡ program_search depth (position_of game) }
 {
     let mut words = [0u64; 0];
     let config = Config {
@@ -41,7 +42,7 @@ fn search(game: Game, depth: u8) -> Report
 
 // What a search's report is answered as.
 fn reported(game: Game, status: Status, report: Report) -> AnswerText
-    ensures { result ≡ text-of-bytes (report-text (set-of status) (length (moves (position-of game))) (report-of report [])) }
+    ensures { result ≡ text_of_bytes (report_text (set_of status) (length (moves (position_of game))) (report_of report [])) }
 {
     let ending = report.ending;
     let number = ending.number();
@@ -55,8 +56,8 @@ fn reported(game: Game, status: Status, report: Report) -> AnswerText
 
 // What a position that was read is answered as.
 fn position(game: Game, depth: u8) -> AnswerText
-    requires { T (neat game) × (game.hash ≡ hash (position-of game)) }
-    ensures { result ≡ text-of-bytes (position-text (position-of game) depth) }
+    requires { T (neat game) × (game.hash ≡ hash (position_of game)) }
+    ensures { result ≡ text_of_bytes (position_text (position_of game) depth) }
 {
     let analysis = Analysis::new(game);
     let answer = analysis.answer;
@@ -69,7 +70,7 @@ fn position(game: Game, depth: u8) -> AnswerText
 
 // What the buffered text is read as.
 fn parse(line: LineBuffer) -> Parsed
-    ensures { Parses (buffer-text line) result }
+    ensures { Parses (buffer_text line) result }
 {
     let bytes = line.bytes;
     let n = line.text_len();
@@ -78,7 +79,7 @@ fn parse(line: LineBuffer) -> Parsed
 
 // What the buffered text is answered as.
 fn text(line: LineBuffer, depth: u8) -> AnswerText
-    ensures { result ≡ text-of-bytes (reading-text (read (buffer-text line)) depth) }
+    ensures { result ≡ text_of_bytes (reading_text (read (buffer_text line)) depth) }
 {
     let parsed = parse(line);
     let answer = parsed.answer;
@@ -93,7 +94,7 @@ fn text(line: LineBuffer, depth: u8) -> AnswerText
 
 // What a line is answered as.
 pub fn answer(line: LineBuffer) -> AnswerText
-    ensures { result ≡ text-of-bytes (asked-text (buffer-asks line)) }
+    ensures { result ≡ text_of_bytes (asked_text (buffer_asks line)) }
 {
     match line.depth() {
         Depth::Lacking => AnswerText::refused(19),

@@ -2,16 +2,16 @@
 use mathlib.Core.Path.{◌≡◌, refl}
 use mathlib.Core.List.{[], ◌∷◌}
 use Rattle.base.specs.Branch.{if◌then◌else◌}
-use Rattle.program_reads.specs.Lines.{split, input-lines}
+use Rattle.program_reads.specs.Lines.{split, input_lines}
 
-pub no_line : input-lines [] ≡ []
+pub no_line : input_lines [] ≡ []
 unfolding split
 no_line = refl
 
-pub last-without-feed : input-lines (97 ∷ 98 ∷ 10 ∷ 10 ∷ 99 ∷ []) ≡ (97 ∷ 98 ∷ []) ∷ [] ∷ (99 ∷ []) ∷ []
+pub last_without_feed : input_lines (97 ∷ 98 ∷ 10 ∷ 10 ∷ 99 ∷ []) ≡ (97 ∷ 98 ∷ []) ∷ [] ∷ (99 ∷ []) ∷ []
 unfolding split if◌then◌else◌
-last-without-feed = refl
+last_without_feed = refl
 
-pub last-with-feed : input-lines (97 ∷ 13 ∷ 10 ∷ 10 ∷ []) ≡ (97 ∷ 13 ∷ []) ∷ [] ∷ []
+pub last_with_feed : input_lines (97 ∷ 13 ∷ 10 ∷ 10 ∷ []) ≡ (97 ∷ 13 ∷ []) ∷ [] ∷ []
 unfolding split if◌then◌else◌
-last-with-feed = refl
+last_with_feed = refl

@@ -1,20 +1,22 @@
 // The answers to the lines of an input that comes in reads.
+#![tactic(auto)]
+
 ghost use Rattle.std.specs.Prelude.{◌≡◌, ◌-◌, ltb};
-ghost use Rattle.program_reads.specs.Promises.{buffer-answer, last-answer, new-program, AnswersNext};
+ghost use Rattle.program_reads.specs.Promises.{buffer_answer, last_answer, new_program, AnswersNext};
 
 use answer_text::AnswerText;
 use line_buffer::LineBuffer;
 
 // The line that goes on from read to read, and how many reads may still come. A proved loop has to end, and nothing says that the
 // input does: reads are counted down from a number that no run uses up.
-#[derive(Drop)]
+#[derive(Clone, Copy)]
 pub struct Program {
     line: LineBuffer,
     reads: u64,
 }
 
 // What is to be written now, the program after it, and the place where the bytes go on. `found`: a line ended, and there may be more.
-#[derive(Drop)]
+#[derive(Clone, Copy)]
 pub struct NextAnswer {
     pub text: AnswerText,
     pub program: Program,
@@ -30,14 +32,14 @@ fn one_less(n: u64) -> u64
 
 // A line's answer and a line feed.
 fn answered(line: LineBuffer) -> AnswerText
-    ensures { result ≡ buffer-answer line }
+    ensures { result ≡ buffer_answer line }
 {
     program_line::answer(line).push(b'\n')
 }
 
 impl Program {
     pub fn new() -> Program
-        ensures { result ≡ new-program }
+        ensures { result ≡ new_program }
     {
         Program {
             line: LineBuffer::new(),
@@ -87,7 +89,7 @@ impl Program {
 
     // The answer to a last line without a line feed, if there is anything on it.
     pub fn last(self) -> AnswerText
-        ensures { result ≡ last-answer self.line }
+        ensures { result ≡ last_answer self.line }
     {
         let line = self.line;
         if line.is_empty() {

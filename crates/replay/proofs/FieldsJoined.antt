@@ -8,7 +8,7 @@ use lib.ListN.{get_or}
 use Rattle.base.specs.Branch.{if◌then◌else◌}
 use Rattle.base.specs.Lists.{all}
 use Rattle.base.proofs.Bool.{and→}
-use Rattle.replay.specs.Fields.{until-tab, past-tab, field}
+use Rattle.replay.specs.Fields.{until_tab, past_tab, field}
 
 abbrev tabless : List ℕ → Bool
 tabless = all (λ b. not (eqb b 0x09))
@@ -22,61 +22,61 @@ abbrev pub joined : List (List ℕ) → List ℕ
 joined [] = []
 joined (f ∷ fs) = followed f fs
 
-until-joined : (f rest : List ℕ) → T (tabless f) → until-tab (f ++ (0x09 ∷ rest)) ≡ f
-unfolding until-tab all if◌then◌else◌
-until-joined [] rest h = refl
-until-joined (b ∷ bs) rest h = go (eqb b 0x09) h (λ t. until-joined bs rest t)
+until_joined : (f rest : List ℕ) → T (tabless f) → until_tab (f ++ (0x09 ∷ rest)) ≡ f
+unfolding until_tab all if◌then◌else◌
+until_joined [] rest h = refl
+until_joined (b ∷ bs) rest h = go (eqb b 0x09) h (λ t. until_joined bs rest t)
   where
-    go : (c : Bool) → T (not c && tabless bs) → (T (tabless bs) → until-tab (bs ++ (0x09 ∷ rest)) ≡ bs) →
-        (if c then (λ _. []) else λ _. b ∷ until-tab (bs ++ (0x09 ∷ rest))) ≡ b ∷ bs
+    go : (c : Bool) → T (not c && tabless bs) → (T (tabless bs) → until_tab (bs ++ (0x09 ∷ rest)) ≡ bs) →
+        (if c then (λ _. []) else λ _. b ∷ until_tab (bs ++ (0x09 ∷ rest))) ≡ b ∷ bs
     go true t k = absurd t
     go false t k = ap (λ (l : List ℕ). b ∷ l) (k t)
 
-past-joined : (f rest : List ℕ) → T (tabless f) → past-tab (f ++ (0x09 ∷ rest)) ≡ rest
-unfolding past-tab all if◌then◌else◌
-past-joined [] rest h = refl
-past-joined (b ∷ bs) rest h = go (eqb b 0x09) h (λ t. past-joined bs rest t)
+past_joined : (f rest : List ℕ) → T (tabless f) → past_tab (f ++ (0x09 ∷ rest)) ≡ rest
+unfolding past_tab all if◌then◌else◌
+past_joined [] rest h = refl
+past_joined (b ∷ bs) rest h = go (eqb b 0x09) h (λ t. past_joined bs rest t)
   where
-    go : (c : Bool) → T (not c && tabless bs) → (T (tabless bs) → past-tab (bs ++ (0x09 ∷ rest)) ≡ rest) →
-        (if c then (λ _. bs ++ (0x09 ∷ rest)) else λ _. past-tab (bs ++ (0x09 ∷ rest))) ≡ rest
+    go : (c : Bool) → T (not c && tabless bs) → (T (tabless bs) → past_tab (bs ++ (0x09 ∷ rest)) ≡ rest) →
+        (if c then (λ _. bs ++ (0x09 ∷ rest)) else λ _. past_tab (bs ++ (0x09 ∷ rest))) ≡ rest
     go true t k = absurd t
     go false t k = k t
 
 -- the last field
-until-alone : (f : List ℕ) → T (tabless f) → until-tab f ≡ f
-unfolding until-tab all if◌then◌else◌
-until-alone [] h = refl
-until-alone (b ∷ bs) h = go (eqb b 0x09) h (λ t. until-alone bs t)
+until_alone : (f : List ℕ) → T (tabless f) → until_tab f ≡ f
+unfolding until_tab all if◌then◌else◌
+until_alone [] h = refl
+until_alone (b ∷ bs) h = go (eqb b 0x09) h (λ t. until_alone bs t)
   where
-    go : (c : Bool) → T (not c && tabless bs) → (T (tabless bs) → until-tab bs ≡ bs) →
-        (if c then (λ _. []) else λ _. b ∷ until-tab bs) ≡ b ∷ bs
+    go : (c : Bool) → T (not c && tabless bs) → (T (tabless bs) → until_tab bs ≡ bs) →
+        (if c then (λ _. []) else λ _. b ∷ until_tab bs) ≡ b ∷ bs
     go true t k = absurd t
     go false t k = ap (λ (l : List ℕ). b ∷ l) (k t)
 
-past-alone : (f : List ℕ) → T (tabless f) → past-tab f ≡ []
-unfolding past-tab all if◌then◌else◌
-past-alone [] h = refl
-past-alone (b ∷ bs) h = go (eqb b 0x09) h (λ t. past-alone bs t)
+past_alone : (f : List ℕ) → T (tabless f) → past_tab f ≡ []
+unfolding past_tab all if◌then◌else◌
+past_alone [] h = refl
+past_alone (b ∷ bs) h = go (eqb b 0x09) h (λ t. past_alone bs t)
   where
-    go : (c : Bool) → T (not c && tabless bs) → (T (tabless bs) → past-tab bs ≡ []) →
-        (if c then (λ _. bs) else λ _. past-tab bs) ≡ []
+    go : (c : Bool) → T (not c && tabless bs) → (T (tabless bs) → past_tab bs ≡ []) →
+        (if c then (λ _. bs) else λ _. past_tab bs) ≡ []
     go true t k = absurd t
     go false t k = k t
 
-field-of-nothing : (k : ℕ) → field k [] ≡ []
-unfolding field until-tab past-tab
-field-of-nothing zero = refl
-field-of-nothing (suc k) = field-of-nothing k
+field_of_nothing : (k : ℕ) → field k [] ≡ []
+unfolding field until_tab past_tab
+field_of_nothing zero = refl
+field_of_nothing (suc k) = field_of_nothing k
 
-field-followed : (k : ℕ) (f : List ℕ) (fs : List (List ℕ)) → T (all tabless (f ∷ fs)) → field k (followed f fs) ≡ get_or (f ∷ fs) k []
+field_followed : (k : ℕ) (f : List ℕ) (fs : List (List ℕ)) → T (all tabless (f ∷ fs)) → field k (followed f fs) ≡ get_or (f ∷ fs) k []
 unfolding field all
-field-followed zero f [] h = until-alone f (and→ (tabless f) true h).0
-field-followed (suc k) f [] h = rw (past-alone f (and→ (tabless f) true h).0) (field-of-nothing k)
-field-followed zero f (g ∷ gs) h = until-joined f (followed g gs) (and→ (tabless f) (all tabless (g ∷ gs)) h).0
-field-followed (suc k) f (g ∷ gs) h =
-    rw (past-joined f (followed g gs) (and→ (tabless f) (all tabless (g ∷ gs)) h).0)
-    (field-followed k g gs (and→ (tabless f) (all tabless (g ∷ gs)) h).1)
+field_followed zero f [] h = until_alone f (and→ (tabless f) true h).0
+field_followed (suc k) f [] h = rw (past_alone f (and→ (tabless f) true h).0) (field_of_nothing k)
+field_followed zero f (g ∷ gs) h = until_joined f (followed g gs) (and→ (tabless f) (all tabless (g ∷ gs)) h).0
+field_followed (suc k) f (g ∷ gs) h =
+    rw (past_joined f (followed g gs) (and→ (tabless f) (all tabless (g ∷ gs)) h).0)
+    (field_followed k g gs (and→ (tabless f) (all tabless (g ∷ gs)) h).1)
 
-pub field-of-joined : (k : ℕ) (fs : List (List ℕ)) → T (all tabless fs) → field k (joined fs) ≡ get_or fs k []
-field-of-joined k [] h = field-of-nothing k
-field-of-joined k (f ∷ fs) h = field-followed k f fs h
+pub field_of_joined : (k : ℕ) (fs : List (List ℕ)) → T (all tabless fs) → field k (joined fs) ≡ get_or fs k []
+field_of_joined k [] h = field_of_nothing k
+field_of_joined k (f ∷ fs) h = field_followed k f fs h

@@ -9,35 +9,35 @@ use Rattle.replay.specs.declared.totals.Comparison.{Comparison}
 use Rattle.replay.specs.declared.totals.Comparison.TheVariants.{Agrees, Apart, Differs}
 use Rattle.replay.specs.Agreement.{same_numbers}
 use Rattle.replay.specs.Totals.{comparison}
-use Rattle.replay.proofs.AgreementCompared.{same-numbers-equal}
+use Rattle.replay.proofs.AgreementCompared.{same_numbers_equal}
 
 -- one that agrees and is not apart agrees
-pub comparison-agrees : comparison true false ≡ Agrees
+pub comparison_agrees : comparison true false ≡ Agrees
 unfolding comparison if◌then◌else◌
-comparison-agrees = refl
+comparison_agrees = refl
 
 -- one that agrees and is apart is apart
-pub comparison-apart : comparison true true ≡ Apart
+pub comparison_apart : comparison true true ≡ Apart
 unfolding comparison if◌then◌else◌
-comparison-apart = refl
+comparison_apart = refl
 
 -- one that does not agree differs, whether it is apart or not
-pub comparison-differs : (apart : Bool) → comparison false apart ≡ Differs
+pub comparison_differs : (apart : Bool) → comparison false apart ≡ Differs
 unfolding comparison if◌then◌else◌
-comparison-differs apart = refl
+comparison_differs apart = refl
 
 -- what is not found to differ agrees
-pub agreement-found : (agrees apart : Bool) → (comparison agrees apart ≡ Differs → ⊥) → agrees ≡ true
-agreement-found true apart h = refl
-agreement-found false apart h = absurd (h (comparison-differs apart))
+pub agreement_found : (agrees apart : Bool) → (comparison agrees apart ≡ Differs → ⊥) → agrees ≡ true
+agreement_found true apart h = refl
+agreement_found false apart h = absurd (h (comparison_differs apart))
 
 -- numbers that are not found to differ from the expected ones are these
-pub numbers-found : (ns expected : List ℕ) (apart : Bool) → (comparison (same_numbers ns expected) apart ≡ Differs → ⊥) → ns ≡ expected
-numbers-found ns expected apart h = same-numbers-equal ns expected (rw (agreement-found (same_numbers ns expected) apart h) tt)
+pub numbers_found : (ns expected : List ℕ) (apart : Bool) → (comparison (same_numbers ns expected) apart ≡ Differs → ⊥) → ns ≡ expected
+numbers_found ns expected apart h = same_numbers_equal ns expected (rw (agreement_found (same_numbers ns expected) apart h) tt)
 
 -- where what fails a test differs, what does not differ passes it, and what is found then does not differ
-pub test-passed : (test : Bool) (found : Comparison) → ((if test then (λ _. found) else λ _. Differs) ≡ Differs → ⊥) →
+pub test_passed : (test : Bool) (found : Comparison) → ((if test then (λ _. found) else λ _. Differs) ≡ Differs → ⊥) →
     T test × (found ≡ Differs → ⊥)
 unfolding if◌then◌else◌
-test-passed true found h = (tt, h)
-test-passed false found h = absurd (h refl)
+test_passed true found h = (tt, h)
+test_passed false found h = absurd (h refl)

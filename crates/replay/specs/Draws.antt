@@ -6,12 +6,12 @@ use Rattle.rules.specs.declared.DrawWinner.TheVariants.{Nobody, Side}
 use Rattle.replay.specs.declared.draws.Draw.{Draw}
 use Rattle.replay.specs.declared.draws.Draw.TheVariants.{To, Bad}
 
-unfoldable pub draw-letter : ℕ → Draw
-draw-letter b =
+unfoldable pub draw_letter : ℕ → Draw
+draw_letter b =
     if eqb b 0x2d then (λ _. To Nobody) else
     λ _. if eqb b 0x58 then (λ _. To (Side X)) else
     λ _. if eqb b 0x4f then (λ _. To (Side O)) else
     λ _. Bad
 
-unfoldable pub draw-of : List ℕ → Draw
-draw-of text = if eqb (length text) 1 then (λ _. draw-letter (get_or text 0 0)) else λ _. Bad
+unfoldable pub draw_of : List ℕ → Draw
+draw_of text = if eqb (length text) 1 then (λ _. draw_letter (get_or text 0 0)) else λ _. Bad

@@ -4,18 +4,18 @@ use Rattle.base.specs.Branch.{if◌then◌else◌}
 use Rattle.base.specs.Lists.{count}
 
 -- what stands before the first tab
-unfoldable pub until-tab : List ℕ → List ℕ
-until-tab [] = []
-until-tab (b ∷ bs) = if eqb b 0x09 then (λ _. []) else λ _. b ∷ until-tab bs
+unfoldable pub until_tab : List ℕ → List ℕ
+until_tab [] = []
+until_tab (b ∷ bs) = if eqb b 0x09 then (λ _. []) else λ _. b ∷ until_tab bs
 
 -- what stands after it
-unfoldable pub past-tab : List ℕ → List ℕ
-past-tab [] = []
-past-tab (b ∷ bs) = if eqb b 0x09 then (λ _. bs) else λ _. past-tab bs
+unfoldable pub past_tab : List ℕ → List ℕ
+past_tab [] = []
+past_tab (b ∷ bs) = if eqb b 0x09 then (λ _. bs) else λ _. past_tab bs
 
 unfoldable pub field : ℕ → List ℕ → List ℕ
-field zero line = until-tab line
-field (suc k) line = field k (past-tab line)
+field zero line = until_tab line
+field (suc k) line = field k (past_tab line)
 
 -- one less than its fields
 abbrev pub tabs : List ℕ → ℕ

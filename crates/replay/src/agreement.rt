@@ -1,9 +1,9 @@
 // A record's numbers, compared with the expected ones as these come.
 ghost use Rattle.std.specs.Prelude.{◌≡◌};
-ghost use Rattle.replay.specs.Agreement.{compared, compared-all, wholly-agrees};
+ghost use Rattle.replay.specs.Agreement.{compared, compared_all, wholly_agrees};
 
 // How many of the first numbers were compared, and whether all that came was as expected.
-#[derive(Drop)]
+#[derive(Clone, Copy)]
 pub struct Agreement {
     pub at: usize,
     pub good: bool,
@@ -35,7 +35,7 @@ impl Agreement {
     }
 
     pub fn numbers(self, words: &[u64], ns: &[u64]) -> Agreement
-        ensures { result ≡ compared-all words.now self ns.now }
+        ensures { result ≡ compared_all words.now self ns.now }
     {
         let mut so_far = self;
         let mut i: usize = 0;
@@ -47,7 +47,7 @@ impl Agreement {
     }
 
     pub fn bytes(self, words: &[u64], bytes: &[u8]) -> Agreement
-        ensures { result ≡ compared-all words.now self bytes.now }
+        ensures { result ≡ compared_all words.now self bytes.now }
     {
         let mut so_far = self;
         let mut i: usize = 0;
@@ -60,7 +60,7 @@ impl Agreement {
 
     // Whether the record's numbers are the expected ones, and no more.
     pub fn is_whole(self, words: &[u64]) -> bool
-        ensures { result ≡ wholly-agrees words.now self }
+        ensures { result ≡ wholly_agrees words.now self }
     {
         if self.good {
             self.at == words.len()

@@ -1,17 +1,17 @@
 // A draw winner as a record has it.
 ghost use Rattle.std.specs.Prelude.{◌≡◌};
-ghost use Rattle.replay.specs.Draws.{draw-letter, draw-of};
+ghost use Rattle.replay.specs.Draws.{draw_letter, draw_of};
 
 use rules::{DrawWinner, Player};
 
-#[derive(Drop)]
+#[derive(Clone, Copy)]
 pub enum Draw {
     To(DrawWinner),
     Bad,
 }
 
 fn draw_letter(b: u8) -> Draw
-    ensures { result ≡ draw-letter b }
+    ensures { result ≡ draw_letter b }
 {
     match b {
         b'-' => Draw::To(DrawWinner::Nobody),
@@ -23,7 +23,7 @@ fn draw_letter(b: u8) -> Draw
 
 // X, O, or - for none.
 pub fn draw_of(text: &[u8]) -> Draw
-    ensures { result ≡ draw-of text.now }
+    ensures { result ≡ draw_of text.now }
 {
     if text.len() != 1 {
         return Draw::Bad;

@@ -1,13 +1,13 @@
 // Fields of a line, parted by tabs.
 ghost use Rattle.std.specs.Prelude.{◌≡◌, ◌+◌, ◌≤◌, length, drop};
-ghost use Rattle.replay.specs.Fields.{until-tab, past-tab, field, tabs};
+ghost use Rattle.replay.specs.Fields.{until_tab, past_tab, field, tabs};
 
 const TAB: u8 = 9;
 
 // The first tab from `at` on, or the line's end.
 fn end_of_field(line: &[u8], at: usize) -> usize
     requires { at ≤ length line.now }
-    ensures { (result ≡ at + length (until-tab (drop at line.now))) × (result ≤ length line.now) }
+    ensures { (result ≡ at + length (until_tab (drop at line.now))) × (result ≤ length line.now) }
 {
     bytes::scan::find(line, at, line.len(), TAB)
 }
@@ -15,7 +15,7 @@ fn end_of_field(line: &[u8], at: usize) -> usize
 // The byte after the first tab from `at` on, or the line's end.
 fn next_field(line: &[u8], at: usize) -> usize
     requires { at ≤ length line.now }
-    ensures { (drop result line.now ≡ past-tab (drop at line.now)) × (result ≤ length line.now) }
+    ensures { (drop result line.now ≡ past_tab (drop at line.now)) × (result ≤ length line.now) }
 {
     let end = end_of_field(line, at);
     if end < line.len() { end + 1 } else { end }

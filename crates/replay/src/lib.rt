@@ -1,4 +1,6 @@
 // Records, a line each: fields parted by tabs, draw winners, numbers compared with the expected ones, and how many records agree.
+#![tactic(auto)]
+
 pub mod agreement;
 pub mod draws;
 pub mod fields;

@@ -1,15 +1,15 @@
 // How many records agree, and what is printed of them.
 ghost use Rattle.std.specs.Prelude.{◌≡◌};
-ghost use Rattle.answer_text.specs.AnswerBytes.{text-of-bytes};
-ghost use Rattle.replay.specs.Totals.{comparison, new-totals, with-record, record-totals, printed, RecordCounted, may-go-on};
-ghost use Rattle.replay.specs.Totals.{record-text, verdict-text, last-text, told_text, Concludes};
+ghost use Rattle.answer_text.specs.AnswerBytes.{text_of_bytes};
+ghost use Rattle.replay.specs.Totals.{comparison, new_totals, with_record, record_totals, printed, RecordCounted, may_go_on};
+ghost use Rattle.replay.specs.Totals.{record_text, verdict_text, last_text, told_text, Concludes};
 
 use answer_text::AnswerText;
 use input::{Input, one_more};
 use libc::{STDERR_FILENO, STDOUT_FILENO};
 
 // What is found of a record. `Apart`: it agrees, with document 01's answer in place of the Rust's.
-#[derive(Drop)]
+#[derive(Clone, Copy)]
 pub enum Comparison {
     Agrees,
     Apart,
@@ -34,7 +34,7 @@ impl Comparison {
 }
 
 // `written`: all that was to be printed so far was written.
-#[derive(Drop)]
+#[derive(Clone, Copy)]
 pub struct Totals {
     pub records: usize,
     pub agreed: usize,
@@ -43,14 +43,14 @@ pub struct Totals {
 }
 
 // The totals with a record more, and what is printed of it.
-#[derive(Drop)]
+#[derive(Clone, Copy)]
 struct RecordTotals {
     totals: Totals,
     text: AnswerText,
 }
 
 // The end of a list: what is to be printed, the totals after it, and what is to be told on standard error.
-#[derive(Drop)]
+#[derive(Clone, Copy)]
 pub struct Conclusion {
     pub text: AnswerText,
     pub totals: Totals,
@@ -59,7 +59,7 @@ pub struct Conclusion {
 
 // What is printed of a record, by its number: nothing if it agrees.
 fn record_text(number: usize, outcome: Comparison) -> AnswerText
-    ensures { result ≡ text-of-bytes (record-text number outcome) }
+    ensures { result ≡ text_of_bytes (record_text number outcome) }
 {
     match outcome {
         Comparison::Agrees => AnswerText::new(),
@@ -73,7 +73,7 @@ fn record_text(number: usize, outcome: Comparison) -> AnswerText
 
 impl Totals {
     pub fn new() -> Totals
-        ensures { result ≡ new-totals }
+        ensures { result ≡ new_totals }
     {
         Totals {
             records: 0,
@@ -85,7 +85,7 @@ impl Totals {
 
     // One record more.
     fn with_record(self, outcome: Comparison) -> Totals
-        ensures { result ≡ with-record self outcome }
+        ensures { result ≡ with_record self outcome }
     {
         let records = one_more(self.records);
         let written = self.written;
@@ -113,7 +113,7 @@ impl Totals {
 
     // One record more, with what is printed of it.
     fn counted(self, outcome: Comparison) -> RecordTotals
-        ensures { result ≡ record-totals self outcome }
+        ensures { result ≡ record_totals self outcome }
     {
         let totals = self.with_record(outcome);
         let text = record_text(totals.records, outcome);
@@ -147,7 +147,7 @@ impl Totals {
 
     // Whether records may go on to be counted.
     pub fn may_go_on(self) -> bool
-        ensures { result ≡ may-go-on self }
+        ensures { result ≡ may_go_on self }
     {
         if self.written {
             self.records < usize::MAX
@@ -158,7 +158,7 @@ impl Totals {
 
     // How many agree, and how many of them are apart with what is said of those.
     pub fn verdict(self, said: &[u8]) -> AnswerText
-        ensures { result ≡ text-of-bytes (verdict-text self said.now) }
+        ensures { result ≡ text_of_bytes (verdict_text self said.now) }
     {
         let agreed = AnswerText::new().decimal(self.agreed as u64);
         let records = agreed.text(b" of ").decimal(self.records as u64);
@@ -172,7 +172,7 @@ impl Totals {
 
     // What is printed at the end of a list: nothing if not all could be read, or not all be printed so far.
     fn last_text(self, said: &[u8], failed: bool) -> AnswerText
-        ensures { result ≡ text-of-bytes (last-text self said.now failed) }
+        ensures { result ≡ text_of_bytes (last_text self said.now failed) }
     {
         if failed {
             return AnswerText::new();
@@ -186,7 +186,7 @@ impl Totals {
 
     // What is told on standard error: that not all could be read, or else that not all was written.
     fn told(self, failed: bool) -> AnswerText
-        ensures { result ≡ text-of-bytes (told_text failed self.written) }
+        ensures { result ≡ text_of_bytes (told_text failed self.written) }
     {
         if failed {
             return AnswerText::new()

@@ -9,20 +9,20 @@ use Rattle.text.specs.Reading.{Reading, reads, refuses, read}
 use Rattle.decimals.specs.Lists.{list_of}
 use Rattle.replay.specs.declared.totals.Comparison.TheVariants.{Differs}
 use Rattle.replay.specs.Fields.{field, tabs}
-use Rattle.replay.proofs.TotalsComparison.{numbers-found, test-passed}
-use Rattle.replay_endgame.specs.Records.{record_of, is-apart, comparison-for, outcome-of}
+use Rattle.replay.proofs.TotalsComparison.{numbers_found, test_passed}
+use Rattle.replay_endgame.specs.Records.{record_of, is_apart, comparison_for, outcome_of}
 
-numbers-said : (r : Reading) (ns : Option (List ℕ)) → (comparison-for r ns ≡ Differs → ⊥) →
+numbers_said : (r : Reading) (ns : Option (List ℕ)) → (comparison_for r ns ≡ Differs → ⊥) →
     (p : Position) × (r ≡ reads p) × (ns ≡ some (record_of p))
-numbers-said (refuses n offset size) ns h = absurd (h refl)
-numbers-said (reads p) none h = absurd (h refl)
-numbers-said (reads p) (some ns) h = (p, refl, ap some (numbers-found ns (record_of p) (is-apart ns) h))
+numbers_said (refuses n offset size) ns h = absurd (h refl)
+numbers_said (reads p) none h = absurd (h refl)
+numbers_said (reads p) (some ns) h = (p, refl, ap some (numbers_found ns (record_of p) (is_apart ns) h))
 
 -- a line that does not differ has two fields: a position that is read, and the numbers of its record, all of them and no other
-pub agreed-means : (line : List ℕ) → (outcome-of line ≡ Differs → ⊥) →
+pub agreed_means : (line : List ℕ) → (outcome_of line ≡ Differs → ⊥) →
     (p : Position) × (tabs line ≡ 1) × (read (field 0 line) ≡ reads p) × (list_of 256 (field 1 line) ≡ some (record_of p))
-unfolding outcome-of
-agreed-means line h =
-    let two = test-passed (eqb (tabs line) 1) (comparison-for (read (field 0 line)) (list_of 256 (field 1 line))) h in
-    let said = numbers-said (read (field 0 line)) (list_of 256 (field 1 line)) two.1 in
+unfolding outcome_of
+agreed_means line h =
+    let two = test_passed (eqb (tabs line) 1) (comparison_for (read (field 0 line)) (list_of 256 (field 1 line))) h in
+    let said = numbers_said (read (field 0 line)) (list_of 256 (field 1 line)) two.1 in
     (said.0, eqb→eq (tabs line) 1 two.0, said.1, said.2)

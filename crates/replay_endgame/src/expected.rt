@@ -1,13 +1,13 @@
 // The numbers that are expected of a position and of the moves that the Rust lists there, compared with a record's (tools/lists.py).
 ghost use Rattle.std.specs.Prelude.{◌≡◌};
-ghost use Rattle.base.specs.Lists.{concat-map};
+ghost use Rattle.base.specs.Lists.{concat_map};
 ghost use Rattle.rules.specs.Endgame.{analysis};
-ghost use Rattle.boards.specs.Cursor.{moves-left};
-ghost use Rattle.game.specs.Meaning.{position-of};
-ghost use Rattle.endgame.specs.Means.{endgame-stats-of};
-ghost use Rattle.replay.specs.Agreement.{compared-all, same_numbers};
-ghost use Rattle.replay_endgame.specs.Records.{has-line-of-boards, reopened, listed-moves, expected-moves};
-ghost use Rattle.replay_endgame.specs.Records.{stats-numbers, analysis-numbers, move-numbers, record_of, is-apart};
+ghost use Rattle.boards.specs.Cursor.{moves_left};
+ghost use Rattle.game.specs.Meaning.{position_of};
+ghost use Rattle.endgame.specs.Means.{endgame_stats_of};
+ghost use Rattle.replay.specs.Agreement.{compared_all, same_numbers};
+ghost use Rattle.replay_endgame.specs.Records.{has_line_of_boards, reopened, listed_moves, expected_moves};
+ghost use Rattle.replay_endgame.specs.Records.{stats_numbers, analysis_numbers, move_numbers, record_of, is_apart};
 
 use boards::{Listed, Move, MoveIterator};
 use endgame::{Analysis, EndgameStats};
@@ -21,7 +21,7 @@ const FIRST: Move = Move { bits: 0 };
 
 // Whether the game is unfinished and a side has a line of boards: the Rust's analysis panics there, and lists nothing.
 fn has_line_of_boards(game: Game) -> bool
-    ensures { result ≡ has-line-of-boards (position-of game) }
+    ensures { result ≡ has_line_of_boards (position_of game) }
 {
     let states = game.global_states;
     if game.game_over() {
@@ -35,7 +35,7 @@ fn has_line_of_boards(game: Game) -> bool
 
 // The game, finished or not, as if it went on.
 fn reopened(game: Game) -> Game
-    ensures { position-of result ≡ reopened (position-of game) }
+    ensures { position_of result ≡ reopened (position_of game) }
 {
     Game {
         game_state: GameState::InPlay,
@@ -45,7 +45,7 @@ fn reopened(game: Game) -> Game
 
 // The cursor over the moves that the Rust lists.
 fn listed(game: Game) -> MoveIterator
-    ensures { moves-left result ≡ listed-moves (position-of game) }
+    ensures { moves_left result ≡ listed_moves (position_of game) }
 {
     if has_line_of_boards(game) {
         return MoveIterator {
@@ -58,7 +58,7 @@ fn listed(game: Game) -> MoveIterator
 }
 
 fn with_stats(begun: Agreement, words: &[u64], stats: EndgameStats) -> Agreement
-    ensures { result ≡ compared-all words.now begun (stats-numbers (endgame-stats-of stats)) }
+    ensures { result ≡ compared_all words.now begun (stats_numbers (endgame_stats_of stats)) }
 {
     begun
         .number(words, stats.attacker_critical as u64)
@@ -70,7 +70,7 @@ fn with_stats(begun: Agreement, words: &[u64], stats: EndgameStats) -> Agreement
 }
 
 fn with_analysis(begun: Agreement, words: &[u64], game: Game) -> Agreement
-    ensures { result ≡ compared-all words.now begun (analysis-numbers (analysis (position-of game))) }
+    ensures { result ≡ compared_all words.now begun (analysis_numbers (analysis (position_of game))) }
 {
     let analysis = Analysis::new(game);
     let answer = analysis.answer;
@@ -83,7 +83,7 @@ fn with_analysis(begun: Agreement, words: &[u64], game: Game) -> Agreement
 }
 
 fn with_move(begun: Agreement, words: &[u64], game: Game, m: Move) -> Agreement
-    ensures { result ≡ compared-all words.now begun (move-numbers (position-of game) m.bits) }
+    ensures { result ≡ compared_all words.now begun (move_numbers (position_of game) m.bits) }
 {
     let judged = endgame::evaluate_move(game, m);
     let answer = judged.answer;
@@ -96,8 +96,8 @@ fn with_move(begun: Agreement, words: &[u64], game: Game, m: Move) -> Agreement
 
 // Compared with the moves that a cursor has left.
 fn with_left(begun: Agreement, words: &[u64], game: Game, list: MoveIterator) -> Agreement
-    ensures { result ≡ compared-all words.now begun
-        (concat-map (move-numbers (position-of game)) (moves-left list)) }
+    ensures { result ≡ compared_all words.now begun
+        (concat_map (move_numbers (position_of game)) (moves_left list)) }
 {
     let mut so_far = begun;
     let mut left = list;
@@ -116,8 +116,8 @@ fn with_left(begun: Agreement, words: &[u64], game: Game, list: MoveIterator) ->
 
 // Compared with the expected moves.
 fn with_moves(begun: Agreement, words: &[u64], game: Game) -> Agreement
-    ensures { result ≡ compared-all words.now begun
-        (concat-map (move-numbers (position-of game)) (expected-moves (position-of game))) }
+    ensures { result ≡ compared_all words.now begun
+        (concat_map (move_numbers (position_of game)) (expected_moves (position_of game))) }
 {
     let list = listed(game);
     if list.count() == 0 {
@@ -128,7 +128,7 @@ fn with_moves(begun: Agreement, words: &[u64], game: Game) -> Agreement
 
 // Whether a record is the position's.
 pub(crate) fn is_met(words: &[u64], game: Game) -> bool
-    ensures { result ≡ same_numbers words.now (record_of (position-of game)) }
+    ensures { result ≡ same_numbers words.now (record_of (position_of game)) }
 {
     let analysed = with_analysis(Agreement::NEW, words, game);
     with_moves(analysed, words, game).is_whole(words)
@@ -136,7 +136,7 @@ pub(crate) fn is_met(words: &[u64], game: Game) -> bool
 
 // Whether the position is refused with 14, or the first listed move with 10.
 pub(crate) fn is_apart(words: &[u64]) -> bool
-    ensures { result ≡ is-apart words.now }
+    ensures { result ≡ is_apart words.now }
 {
     if decimals::at(words, 0) == 14 {
         return true;

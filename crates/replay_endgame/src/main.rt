@@ -1,12 +1,14 @@
 // Replays the Rust's answers on the endgame analysis, and prints how many agree and each record that does not.
 // A record is a position's text, a tab, and the numbers that are expected (tools/lists.py).
+#![tactic(auto)]
+
 mod expected;
 
 ghost use Rattle.std.specs.Prelude.{◌≡◌};
 ghost use Rattle.std.proofs.Math.Option.{some};
 ghost use Rattle.text.specs.Reading.{read};
 ghost use Rattle.replay.specs.Totals.{RecordCounted};
-ghost use Rattle.replay_endgame.specs.Records.{comparison-for, outcome-of};
+ghost use Rattle.replay_endgame.specs.Records.{comparison_for, outcome_of};
 
 use decimals::Count;
 use input::Input;
@@ -18,7 +20,7 @@ const MOST: usize = 256;
 
 // What is found of a position's text and its numbers. A text that is no position differs.
 fn comparison(position: &[u8], words: &[u64]) -> Comparison
-    ensures { result ≡ comparison-for (read position.now) (some words.now) }
+    ensures { result ≡ comparison_for (read position.now) (some words.now) }
 {
     let parsed = notation::parse(position);
     let answer = parsed.answer;
@@ -33,7 +35,7 @@ fn comparison(position: &[u8], words: &[u64]) -> Comparison
 
 // What is found of a line. One that can't be read differs.
 fn outcome(line: &[u8]) -> Comparison
-    ensures { result ≡ outcome-of line.now }
+    ensures { result ≡ outcome_of line.now }
 {
     if replay::tabs(line) != 1 {
         return Comparison::Differs;
@@ -47,7 +49,7 @@ fn outcome(line: &[u8]) -> Comparison
 
 // The totals with a line's record more.
 fn step(totals: Totals, line: &[u8]) -> Totals
-    ensures { RecordCounted totals (outcome-of line.now) result }
+    ensures { RecordCounted totals (outcome_of line.now) result }
 {
     totals.count(outcome(line))
 }

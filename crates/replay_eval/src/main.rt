@@ -1,9 +1,11 @@
 // Replays the Rust's answers on the evaluation, and prints how many agree and each record that does not.
 // A record is a position's text, the draw winner (X, O or - for none) and the evaluation, parted by tabs (tools/lists.py).
+#![tactic(auto)]
+
 ghost use Rattle.std.specs.Prelude.{◌≡◌};
-ghost use Rattle.decimals.specs.Numbers.{read-signed};
+ghost use Rattle.decimals.specs.Numbers.{read_signed};
 ghost use Rattle.replay.specs.Totals.{RecordCounted};
-ghost use Rattle.replay_eval.specs.Records.{is-score, agrees, outcome-of};
+ghost use Rattle.replay_eval.specs.Records.{is_score, agrees, outcome_of};
 
 use decimals::Signed;
 use input::Input;
@@ -12,7 +14,7 @@ use replay::{Comparison, Draw, Totals};
 use rules::Weights;
 
 fn is_score(text: &[u8], score: i64) -> bool
-    ensures { result ≡ is-score (read-signed text.now) score }
+    ensures { result ≡ is_score (read_signed text.now) score }
 {
     match decimals::read_signed(text) {
         Signed::Is(expected) => expected == score,
@@ -38,7 +40,7 @@ fn agrees(position: &[u8], draw: &[u8], score: &[u8]) -> bool
 
 // What is found of a line. One that can't be read differs.
 fn outcome(line: &[u8]) -> Comparison
-    ensures { result ≡ outcome-of line.now }
+    ensures { result ≡ outcome_of line.now }
 {
     if replay::tabs(line) != 2 {
         return Comparison::Differs;
@@ -56,7 +58,7 @@ fn outcome(line: &[u8]) -> Comparison
 
 // The totals with a line's record more.
 fn step(totals: Totals, line: &[u8]) -> Totals
-    ensures { RecordCounted totals (outcome-of line.now) result }
+    ensures { RecordCounted totals (outcome_of line.now) result }
 {
     totals.count(outcome(line))
 }

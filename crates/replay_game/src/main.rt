@@ -1,21 +1,23 @@
 // Replays the Rust's answers on play, hash, list of moves, `equivalent`, cells, states and coordinates, and prints how many records agree
 // and each that does not. A record is taken for the question that its numbers hold, and compared with the record of that question.
 // The records are made by tools/lists.py, which says what the numbers of a record are.
+#![tactic(auto)]
+
 ghost use Rattle.std.specs.Prelude.{◌≡◌, [], ◌∷◌, not, cond, ◌+◌, ◌%◌, ◌<◌, get_or};
-ghost use Rattle.rules.specs.Board.{side-from};
+ghost use Rattle.rules.specs.Board.{side_from};
 ghost use Rattle.rules.specs.Hash.{hash};
 ghost use Rattle.rules.specs.Position.{unfinished};
-ghost use Rattle.boards.specs.Cursor.{moves-left};
-ghost use Rattle.game.specs.Meaning.{position-of};
-ghost use Rattle.game.specs.After.{games-after};
-ghost use Rattle.game.specs.Built.{new-game};
-ghost use Rattle.replay.specs.Agreement.{compared-all, wholly-agrees};
+ghost use Rattle.boards.specs.Cursor.{moves_left};
+ghost use Rattle.game.specs.Meaning.{position_of};
+ghost use Rattle.game.specs.After.{games_after};
+ghost use Rattle.game.specs.Built.{new_game};
+ghost use Rattle.replay.specs.Agreement.{compared_all, wholly_agrees};
 ghost use Rattle.replay.specs.Totals.{comparison, RecordCounted};
-ghost use Rattle.replay_game.specs.Records.{state-of, next_of, row_in, game-in, moves_from, moves-in};
-ghost use Rattle.replay_game.specs.Records.{next-number, boards-numbers, position-numbers, reached-numbers, moves-numbers};
-ghost use Rattle.replay_game.specs.Records.{play-numbers, cell-number, cells-numbers, states-numbers, looked-numbers};
-ghost use Rattle.replay_game.specs.Records.{equivalence-record, coordinates-record, of-play, of-record, comparison-of};
-ghost use Rattle.replay_game.specs.Records.{outcome-of, Runs};
+ghost use Rattle.replay_game.specs.Records.{state_of, next_of, row_in, game_in, moves_from, moves_in};
+ghost use Rattle.replay_game.specs.Records.{next_number, boards_numbers, position_numbers, reached_numbers, moves_numbers};
+ghost use Rattle.replay_game.specs.Records.{play_numbers, cell_number, cells_numbers, states_numbers, looked_numbers};
+ghost use Rattle.replay_game.specs.Records.{equivalence_record, coordinates_record, of_play, of_record, comparison_of};
+ghost use Rattle.replay_game.specs.Records.{outcome_of, Runs};
 
 use boards::{GlobalStates, Listed, LocalBoards, Move, MoveIterator, Row};
 use decimals::Count;
@@ -28,13 +30,13 @@ use rules::{CellState, GameState, NextBoard, Player};
 const MOST: usize = 1024;
 
 fn side_from(n: u64) -> Player
-    ensures { result ≡ side-from n }
+    ensures { result ≡ side_from n }
 {
     if n == 0 { Player::X } else { Player::O }
 }
 
 fn state_of(n: u64) -> GameState
-    ensures { result ≡ state-of n }
+    ensures { result ≡ state_of n }
 {
     match n {
         0 => GameState::InPlay,
@@ -67,7 +69,7 @@ fn row_in(words: &[u64], i: usize) -> Row
 // The game of the eleven numbers of a position.
 fn game_in(words: &[u64], i: usize) -> Game
     requires { i < 100 }
-    ensures { result ≡ game-in words.now i }
+    ensures { result ≡ game_in words.now i }
 {
     let rows = [
         row_in(words, i + 2),
@@ -88,7 +90,7 @@ fn game_in(words: &[u64], i: usize) -> Game
 }
 
 fn next_number(n: NextBoard) -> u64
-    ensures { result ≡ next-number n }
+    ensures { result ≡ next_number n }
 {
     match n {
         NextBoard::Any => 255,
@@ -97,7 +99,7 @@ fn next_number(n: NextBoard) -> u64
 }
 
 fn cell_number(cell: CellState) -> u64
-    ensures { result ≡ cell-number cell }
+    ensures { result ≡ cell_number cell }
 {
     match cell {
         CellState::Empty => 0,
@@ -115,7 +117,7 @@ fn number_of(yes: bool) -> u64
 }
 
 fn boards_numbers(boards: LocalBoards) -> [u64; 6]
-    ensures { result ≡ boards-numbers boards }
+    ensures { result ≡ boards_numbers boards }
 {
     let top = boards.rows[0];
     let middle = boards.rows[1];
@@ -132,7 +134,7 @@ fn boards_numbers(boards: LocalBoards) -> [u64; 6]
 
 // The numbers of a position.
 fn position(begun: Agreement, words: &[u64], g: Game) -> Agreement
-    ensures { result ≡ compared-all words.now begun (position-numbers g) }
+    ensures { result ≡ compared_all words.now begun (position_numbers g) }
 {
     let player = g.next_player;
     let next = g.next_board;
@@ -150,7 +152,7 @@ fn position(begun: Agreement, words: &[u64], g: Game) -> Agreement
 // The moves that a record asks.
 fn asked(begun: Agreement, words: &[u64], from: usize, count: usize) -> Agreement
     requires { from + count < 1000 }
-    ensures { result ≡ compared-all words.now begun (moves_from words.now from count) }
+    ensures { result ≡ compared_all words.now begun (moves_from words.now from count) }
 {
     let mut compared = begun;
     let mut at = from;
@@ -164,7 +166,7 @@ fn asked(begun: Agreement, words: &[u64], from: usize, count: usize) -> Agreemen
 }
 
 // A game after some moves, with their answers compared.
-#[derive(Drop)]
+#[derive(Clone, Copy)]
 struct Run {
     game: Game,
     compared: Agreement,
@@ -206,7 +208,7 @@ fn run_moves(begun: Agreement, words: &[u64], from: usize, count: usize, start: 
 }
 
 fn fresh_hash(g: Game) -> u64
-    ensures { result ≡ hash (position-of g) }
+    ensures { result ≡ hash (position_of g) }
 {
     let player = g.next_player;
     let next = g.next_board;
@@ -219,7 +221,7 @@ fn fresh_hash(g: Game) -> u64
 
 // The numbers of the game after a play.
 fn reached(begun: Agreement, words: &[u64], g: Game) -> Agreement
-    ensures { result ≡ compared-all words.now begun (reached-numbers g) }
+    ensures { result ≡ compared_all words.now begun (reached_numbers g) }
 {
     let boards = boards_numbers(g.local_boards);
     let hashes = [g.hash, fresh_hash(g), g.zobrist()];
@@ -242,7 +244,7 @@ fn reached(begun: Agreement, words: &[u64], g: Game) -> Agreement
 
 // The moves that a cursor has left.
 fn listed(begun: Agreement, words: &[u64], list: MoveIterator) -> Agreement
-    ensures { result ≡ compared-all words.now begun (moves-left list) }
+    ensures { result ≡ compared_all words.now begun (moves_left list) }
 {
     let mut compared = begun;
     let mut left = list;
@@ -260,7 +262,7 @@ fn listed(begun: Agreement, words: &[u64], list: MoveIterator) -> Agreement
 }
 
 fn moves(begun: Agreement, words: &[u64], g: Game) -> Agreement
-    ensures { result ≡ compared-all words.now begun (moves-numbers (position-of g)) }
+    ensures { result ≡ compared_all words.now begun (moves_numbers (position_of g)) }
 {
     let counted = begun.number(words, g.legal_moves() as u64);
     listed(counted, words, g.all_moves())
@@ -270,9 +272,9 @@ fn moves(begun: Agreement, words: &[u64], g: Game) -> Agreement
 fn play(begun: Agreement, words: &[u64], i: usize, start: Game) -> Comparison
     requires { i < 100 }
     ensures { result ≡ comparison
-        (wholly-agrees words.now
-        (compared-all words.now begun (play-numbers start (moves-in words.now i))))
-        (not (unfinished (position-of (games-after start (moves-in words.now i))))) }
+        (wholly_agrees words.now
+        (compared_all words.now begun (play_numbers start (moves_in words.now i))))
+        (not (unfinished (position_of (games_after start (moves_in words.now i))))) }
 {
     let count = (decimals::at(words, i) % 512) as usize;
     let counted = begun.number(words, count as u64);
@@ -285,15 +287,15 @@ fn play(begun: Agreement, words: &[u64], i: usize, start: Game) -> Comparison
 
 // Kind 1: a play from the empty board.
 fn play_from_start(words: &[u64]) -> Comparison
-    ensures { result ≡ of-play words.now (1 ∷ []) new-game 1 }
+    ensures { result ≡ of_play words.now (1 ∷ []) new_game 1 }
 {
     play(Agreement::NEW.number(words, 1), words, 1, Game::new())
 }
 
 // Kind 2: a play from a position.
 fn play_from_position(words: &[u64]) -> Comparison
-    ensures { result ≡ of-play words.now (2 ∷ position-numbers (game-in words.now 1))
-        (game-in words.now 1) 12 }
+    ensures { result ≡ of_play words.now (2 ∷ position_numbers (game_in words.now 1))
+        (game_in words.now 1) 12 }
 {
     let start = game_in(words, 1);
     let kind = Agreement::NEW.number(words, 2);
@@ -302,8 +304,8 @@ fn play_from_position(words: &[u64]) -> Comparison
 
 // Kind 3: whether each of two positions is equivalent to the other.
 fn equivalence(words: &[u64]) -> Comparison
-    ensures { result ≡ of-record words.now
-        (equivalence-record (game-in words.now 1) (game-in words.now 12)) }
+    ensures { result ≡ of_record words.now
+        (equivalence_record (game_in words.now 1) (game_in words.now 12)) }
 {
     let a = game_in(words, 1);
     let b = game_in(words, 12);
@@ -316,7 +318,7 @@ fn equivalence(words: &[u64]) -> Comparison
 
 // Each cell of each board.
 fn cells(begun: Agreement, words: &[u64], g: Game) -> Agreement
-    ensures { result ≡ compared-all words.now begun (cells-numbers (position-of g)) }
+    ensures { result ≡ compared_all words.now begun (cells_numbers (position_of g)) }
 {
     let mut compared = begun;
     for k in 0..81 {
@@ -329,7 +331,7 @@ fn cells(begun: Agreement, words: &[u64], g: Game) -> Agreement
 
 // The state of each board.
 fn states(begun: Agreement, words: &[u64], g: Game) -> Agreement
-    ensures { result ≡ compared-all words.now begun (states-numbers (position-of g)) }
+    ensures { result ≡ compared_all words.now begun (states_numbers (position_of g)) }
 {
     let mut compared = begun;
     for b in 0..9 {
@@ -342,7 +344,7 @@ fn states(begun: Agreement, words: &[u64], g: Game) -> Agreement
 
 // Kind 10: a position looked at.
 fn look(words: &[u64]) -> Comparison
-    ensures { result ≡ of-record words.now (10 ∷ looked-numbers (game-in words.now 1)) }
+    ensures { result ≡ of_record words.now (10 ∷ looked_numbers (game_in words.now 1)) }
 {
     let g = game_in(words, 1);
     let kind = Agreement::NEW.number(words, 10);
@@ -354,8 +356,8 @@ fn look(words: &[u64]) -> Comparison
 
 // Kind 11: the move of a board and a cell.
 fn coordinates(words: &[u64]) -> Comparison
-    ensures { result ≡ of-record words.now
-        (coordinates-record (get_or words.now 1 0 % 9) (get_or words.now 2 0 % 9)) }
+    ensures { result ≡ of_record words.now
+        (coordinates_record (get_or words.now 1 0 % 9) (get_or words.now 2 0 % 9)) }
 {
     let board = decimals::at(words, 1) % 9;
     let cell = decimals::at(words, 2) % 9;
@@ -367,7 +369,7 @@ fn coordinates(words: &[u64]) -> Comparison
 
 // What is found of a record, by its kind.
 fn comparison(words: &[u64]) -> Comparison
-    ensures { result ≡ comparison-of words.now }
+    ensures { result ≡ comparison_of words.now }
 {
     match decimals::at(words, 0) {
         1 => play_from_start(words),
@@ -381,7 +383,7 @@ fn comparison(words: &[u64]) -> Comparison
 
 // What is found of a line. One that is no list of numbers differs.
 fn outcome(line: &[u8]) -> Comparison
-    ensures { result ≡ outcome-of line.now }
+    ensures { result ≡ outcome_of line.now }
 {
     let mut words = [0u64; MOST];
     let Count::Of(n) = decimals::numbers(line, &mut words) else {
@@ -392,7 +394,7 @@ fn outcome(line: &[u8]) -> Comparison
 
 // The totals with a line's record more.
 fn step(totals: Totals, line: &[u8]) -> Totals
-    ensures { RecordCounted totals (outcome-of line.now) result }
+    ensures { RecordCounted totals (outcome_of line.now) result }
 {
     totals.count(outcome(line))
 }

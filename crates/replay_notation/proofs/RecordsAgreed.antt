@@ -5,14 +5,14 @@ use mathlib.Core.Option.{Option, none, some}
 use Prim.Native.Nat.{ℕ}
 use Rattle.decimals.specs.Lists.{list_of}
 use Rattle.replay.specs.declared.totals.Comparison.TheVariants.{Differs}
-use Rattle.replay.proofs.TotalsComparison.{numbers-found}
-use Rattle.replay_notation.specs.Records.{expected-record, is-apart, comparison-for, outcome-of}
+use Rattle.replay.proofs.TotalsComparison.{numbers_found}
+use Rattle.replay_notation.specs.Records.{expected_record, is_apart, comparison_for, outcome_of}
 
-numbers-said : (o : Option (List ℕ)) → (comparison-for o ≡ Differs → ⊥) → (ns : List ℕ) × (o ≡ some ns) × (ns ≡ expected-record ns)
-numbers-said none h = absurd (h refl)
-numbers-said (some ns) h = (ns, refl, numbers-found ns (expected-record ns) (is-apart ns) h)
+numbers_said : (o : Option (List ℕ)) → (comparison_for o ≡ Differs → ⊥) → (ns : List ℕ) × (o ≡ some ns) × (ns ≡ expected_record ns)
+numbers_said none h = absurd (h refl)
+numbers_said (some ns) h = (ns, refl, numbers_found ns (expected_record ns) (is_apart ns) h)
 
 -- a line that does not differ is a list of numbers, which are those that the definitions give for its question
-pub agreed-means : (line : List ℕ) → (outcome-of line ≡ Differs → ⊥) →
-    (ns : List ℕ) × (list_of 1024 line ≡ some ns) × (ns ≡ expected-record ns)
-agreed-means line h = numbers-said (list_of 1024 line) h
+pub agreed_means : (line : List ℕ) → (outcome_of line ≡ Differs → ⊥) →
+    (ns : List ℕ) × (list_of 1024 line ≡ some ns) × (ns ≡ expected_record ns)
+agreed_means line h = numbers_said (list_of 1024 line) h

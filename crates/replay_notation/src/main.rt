@@ -1,13 +1,15 @@
 // Replays the Rust's answers on texts and on `Status`, and prints how many agree and each record that does not.
 // The records are made by tools/lists.py, which says what the numbers of a record are.
+#![tactic(auto)]
+
 ghost use Rattle.std.specs.Prelude.{◌≡◌, ◌∷◌, ◌<◌, ltb, length, get_or};
 ghost use Rattle.text.specs.Reading.{read};
-ghost use Rattle.notation.specs.Parsed.{move-reading-of};
-ghost use Rattle.replay.specs.Agreement.{new-agreement, compared-all, same_numbers};
+ghost use Rattle.notation.specs.Parsed.{move_reading_of};
+ghost use Rattle.replay.specs.Agreement.{new_agreement, compared_all, same_numbers};
 ghost use Rattle.replay.specs.Totals.{RecordCounted};
-ghost use Rattle.replay_notation.specs.Records.{byte-in, count-in, bytes-from-2, game-numbers, reading-record, named-byte};
-ghost use Rattle.replay_notation.specs.Records.{move-record, set-number, byte-record, merge-record, play-record, won-record};
-ghost use Rattle.replay_notation.specs.Records.{reads-back, expected-record, apart, is-apart, comparison-of, outcome-of};
+ghost use Rattle.replay_notation.specs.Records.{byte_in, count_in, bytes_from_2, game_numbers, reading_record, named_byte};
+ghost use Rattle.replay_notation.specs.Records.{move_record, set_number, byte_record, merge_record, play_record, won_record};
+ghost use Rattle.replay_notation.specs.Records.{reads_back, expected_record, apart, is_apart, comparison_of, outcome_of};
 
 use decimals::Count;
 use game::Game;
@@ -24,21 +26,21 @@ const MOST: usize = 1024;
 
 // The lowest byte of the number at a place, 0 past the end.
 fn byte_in(words: &[u64], i: usize) -> u8
-    ensures { result ≡ byte-in words.now i }
+    ensures { result ≡ byte_in words.now i }
 {
     (decimals::at(words, i) % 256) as u8
 }
 
 // How many bytes of text, or moves, a record has.
 fn count_in(words: &[u64]) -> usize
-    ensures { (result ≡ count-in words.now) × (result < 512) }
+    ensures { (result ≡ count_in words.now) × (result < 512) }
 {
     (decimals::at(words, 1) % 512) as usize
 }
 
 // The bytes from place 2 on.
 fn bytes_from_2(words: &[u64]) -> [u8; 512]
-    ensures { result ≡ bytes-from-2 words.now }
+    ensures { result ≡ bytes_from_2 words.now }
 {
     let mut bytes = [0u8; 512];
     let mut k: usize = 0;
@@ -53,7 +55,7 @@ fn bytes_from_2(words: &[u64]) -> [u8; 512]
 
 // The kind, and the bytes with their number.
 fn question(words: &[u64], kind: u64, bytes: &[u8]) -> Agreement
-    ensures { result ≡ compared-all words.now new-agreement
+    ensures { result ≡ compared_all words.now new_agreement
         (kind ∷ length bytes.now ∷ bytes.now) }
 {
     let begun = Agreement::NEW.number(words, kind);
@@ -62,7 +64,7 @@ fn question(words: &[u64], kind: u64, bytes: &[u8]) -> Agreement
 
 // A game's text, hash, key, state and bound.
 fn add_game(begun: Agreement, words: &[u64], g: Game) -> Agreement
-    ensures { result ≡ compared-all words.now begun (game-numbers g) }
+    ensures { result ≡ compared_all words.now begun (game_numbers g) }
 {
     let text = notation::render(g);
     begun
@@ -74,7 +76,7 @@ fn add_game(begun: Agreement, words: &[u64], g: Game) -> Agreement
 }
 
 fn same_reading(words: &[u64], text: &[u8]) -> bool
-    ensures { result ≡ same_numbers words.now (reading-record text.now (read text.now)) }
+    ensures { result ≡ same_numbers words.now (reading_record text.now (read text.now)) }
 {
     let parsed = notation::parse(text);
     let answer = parsed.answer;
@@ -97,7 +99,7 @@ fn same_reading(words: &[u64], text: &[u8]) -> bool
 
 // The byte that a refusal names, 0 where it names none.
 fn named_byte(parsed: ParsedMove) -> u8
-    ensures { result ≡ named-byte (move-reading-of parsed.answer parsed.m.bits) }
+    ensures { result ≡ named_byte (move_reading_of parsed.answer parsed.m.bits) }
 {
     let answer = parsed.answer;
     match answer {
@@ -108,7 +110,7 @@ fn named_byte(parsed: ParsedMove) -> u8
 }
 
 fn same_move(words: &[u64], text: &[u8]) -> bool
-    ensures { result ≡ same_numbers words.now (move-record text.now) }
+    ensures { result ≡ same_numbers words.now (move_record text.now) }
 {
     let parsed = notation::parse_move(text);
     let answer = parsed.answer;
@@ -123,7 +125,7 @@ fn same_move(words: &[u64], text: &[u8]) -> bool
 
 // The byte of a set, 0 for none.
 fn set_byte(set: Read) -> u8
-    ensures { result ≡ set-number set }
+    ensures { result ≡ set_number set }
 {
     match set {
         Read::Nothing => 0,
@@ -132,7 +134,7 @@ fn set_byte(set: Read) -> u8
 }
 
 fn same_byte(words: &[u64], byte: u8) -> bool
-    ensures { result ≡ same_numbers words.now (byte-record byte) }
+    ensures { result ≡ same_numbers words.now (byte_record byte) }
 {
     let set = set_byte(Status::from_byte(byte));
     Agreement::NEW
@@ -143,7 +145,7 @@ fn same_byte(words: &[u64], byte: u8) -> bool
 }
 
 fn same_merge(words: &[u64], a: u8, b: u8) -> bool
-    ensures { result ≡ same_numbers words.now (merge-record a b) }
+    ensures { result ≡ same_numbers words.now (merge_record a b) }
 {
     let s = Status { bits: a };
     let t = Status { bits: b };
@@ -157,7 +159,7 @@ fn same_merge(words: &[u64], a: u8, b: u8) -> bool
 }
 
 fn same_won(words: &[u64], byte: u8) -> bool
-    ensures { result ≡ same_numbers words.now (won-record byte) }
+    ensures { result ≡ same_numbers words.now (won_record byte) }
 {
     let s = Status { bits: byte };
     let draw = Status::draw();
@@ -172,7 +174,7 @@ fn same_won(words: &[u64], byte: u8) -> bool
 
 // Whether a game's text is read as a game with the same hash that is equivalent to it.
 fn reads_back(g: Game) -> bool
-    ensures { result ≡ reads-back g }
+    ensures { result ≡ reads_back g }
 {
     let text = notation::render(g);
     let parsed = notation::parse(&text);
@@ -186,7 +188,7 @@ fn reads_back(g: Game) -> bool
 
 // The text of a game that is played from the empty board; it reads back.
 fn same_play(words: &[u64], moves: &[u8]) -> bool
-    ensures { result ≡ same_numbers words.now (play-record moves.now) }
+    ensures { result ≡ same_numbers words.now (play_record moves.now) }
 {
     let g = Game::new().play_all(moves);
     if reads_back(g) {
@@ -201,7 +203,7 @@ fn same_play(words: &[u64], moves: &[u8]) -> bool
 // ---- a record, a line, all lines
 
 fn agrees(words: &[u64]) -> bool
-    ensures { result ≡ same_numbers words.now (expected-record words.now) }
+    ensures { result ≡ same_numbers words.now (expected_record words.now) }
 {
     let n = count_in(words);
     let bytes = bytes_from_2(words);
@@ -242,7 +244,7 @@ fn is_text_apart(text: &[u8]) -> bool
 }
 
 fn is_apart(words: &[u64]) -> bool
-    ensures { result ≡ is-apart words.now }
+    ensures { result ≡ is_apart words.now }
 {
     if decimals::at(words, 0) != 4 {
         return false;
@@ -254,14 +256,14 @@ fn is_apart(words: &[u64]) -> bool
 
 // What is found of a record.
 fn comparison(words: &[u64]) -> Comparison
-    ensures { result ≡ comparison-of words.now }
+    ensures { result ≡ comparison_of words.now }
 {
     Comparison::of(agrees(words), is_apart(words))
 }
 
 // What is found of a line. One that is no list of numbers differs.
 fn outcome(line: &[u8]) -> Comparison
-    ensures { result ≡ outcome-of line.now }
+    ensures { result ≡ outcome_of line.now }
 {
     let mut words = [0u64; MOST];
     let Count::Of(n) = decimals::numbers(line, &mut words) else {
@@ -272,7 +274,7 @@ fn outcome(line: &[u8]) -> Comparison
 
 // The totals with a line's record more.
 fn step(totals: Totals, line: &[u8]) -> Totals
-    ensures { RecordCounted totals (outcome-of line.now) result }
+    ensures { RecordCounted totals (outcome_of line.now) result }
 {
     totals.count(outcome(line))
 }

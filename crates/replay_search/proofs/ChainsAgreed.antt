@@ -23,32 +23,32 @@ use Rattle.replay.specs.declared.draws.Draw.TheVariants.{To, Bad as Bad-draw}
 use Rattle.replay.specs.declared.totals.Comparison.{Comparison}
 use Rattle.replay.specs.declared.totals.Comparison.TheVariants.{Differs}
 use Rattle.replay.specs.Fields.{field, tabs}
-use Rattle.replay.specs.Draws.{draw-of}
+use Rattle.replay.specs.Draws.{draw_of}
 use Rattle.replay.specs.Agreement.{same_numbers}
-use Rattle.replay.proofs.AgreementCompared.{same-numbers-equal}
-use Rattle.replay.proofs.TotalsComparison.{test-passed}
-use Rattle.replay_search.specs.Records.{search-numbers}
-use Rattle.replay_search.specs.Chains.{most-numbers, start_of, matching, matching-search, record-search, search-of}
-use Rattle.replay_search.specs.Chains.{going_on, chain-of, for-number, for-draw, for-start, run_of, has-searches, outcome-of}
+use Rattle.replay.proofs.AgreementCompared.{same_numbers_equal}
+use Rattle.replay.proofs.TotalsComparison.{test_passed}
+use Rattle.replay_search.specs.Records.{search_numbers}
+use Rattle.replay_search.specs.Chains.{most_numbers, start_of, matching, matching_search, record_search, search_of}
+use Rattle.replay_search.specs.Chains.{going_on, chain_of, for_number, for_draw, for_start, run_of, has_searches, outcome_of}
 
 -- ---- one search
-matched : (ns : List ℕ) (r s : Reported) → matching ns r ≡ some s → (ns ≡ search-numbers r) × (r ≡ s)
+matched : (ns : List ℕ) (r s : Reported) → matching ns r ≡ some s → (ns ≡ search_numbers r) × (r ≡ s)
 unfolding matching if◌then◌else◌
-matched ns r s e = go (same_numbers ns (search-numbers r)) refl e
+matched ns r s e = go (same_numbers ns (search_numbers r)) refl e
   where
-    go : (b : Bool) → same_numbers ns (search-numbers r) ≡ b → (if b then (λ _. some r) else λ _. none) ≡ some s →
-        (ns ≡ search-numbers r) × (r ≡ s)
-    go true t e = (same-numbers-equal ns (search-numbers r) (rw t tt), cc)
+    go : (b : Bool) → same_numbers ns (search_numbers r) ≡ b → (if b then (λ _. some r) else λ _. none) ≡ some s →
+        (ns ≡ search_numbers r) × (r ≡ s)
+    go true t e = (same_numbers_equal ns (search_numbers r) (rw t tt), cc)
     go false t e = absurd (none-ne-some s e)
 
-search-matched : (reading : Reading) (d : Number) (o : Option (List ℕ)) (search : Position → ℕ → Reported) (s : Reported) →
-    matching-search reading d o search ≡ some s →
-    (p : Position) × (depth : ℕ) × (reading ≡ reads p) × (d ≡ Is depth) × (o ≡ some (search-numbers (search p depth)))
+search_matched : (reading : Reading) (d : Number) (o : Option (List ℕ)) (search : Position → ℕ → Reported) (s : Reported) →
+    matching_search reading d o search ≡ some s →
+    (p : Position) × (depth : ℕ) × (reading ≡ reads p) × (d ≡ Is depth) × (o ≡ some (search_numbers (search p depth)))
     × (search p depth ≡ s)
-search-matched (refuses n offset size) d o search s e = absurd (none-ne-some s e)
-search-matched (reads p) Bad o search s e = absurd (none-ne-some s e)
-search-matched (reads p) (Is depth) none search s e = absurd (none-ne-some s e)
-search-matched (reads p) (Is depth) (some ns) search s e =
+search_matched (refuses n offset size) d o search s e = absurd (none-ne-some s e)
+search_matched (reads p) Bad o search s e = absurd (none-ne-some s e)
+search_matched (reads p) (Is depth) none search s e = absurd (none-ne-some s e)
+search_matched (reads p) (Is depth) (some ns) search s e =
     let m = matched ns (search p depth) s e in (p, depth, refl, refl, ap some m.0, m.1)
 
 module _ (line : List ℕ) (w : DrawWinner) (allowance : ℕ) where
@@ -56,10 +56,10 @@ module _ (line : List ℕ) (w : DrawWinner) (allowance : ℕ) where
   pub record SearchAgreed (k : ℕ) (rs : Responses) (words : List ℕ) (found : Reported) : Type 0 where
     pub position : Position
     pub depth : ℕ
-    pub position-is : read (field (3 * k + 4) line) ≡ reads position
+    pub position_is : read (field (3 * k + 4) line) ≡ reads position
     pub depth_is : read_number (field (3 * k + 5) line) ≡ Is depth
-    pub found-is : found ≡ record-search w allowance rs words position depth
-    pub numbers-are : list_of most-numbers (field (3 * k + 6) line) ≡ some (search-numbers found)
+    pub found_is : found ≡ record_search w allowance rs words position depth
+    pub numbers_are : list_of most_numbers (field (3 * k + 6) line) ≡ some (search_numbers found)
 
   -- n searches from search k on, each from the memory that the one before left
   abbrev pub SearchesAgreed : ℕ → ℕ → Responses → List ℕ → Type 0
@@ -67,57 +67,57 @@ module _ (line : List ℕ) (w : DrawWinner) (allowance : ℕ) where
   SearchesAgreed (suc n) k rs words =
       (found : Reported) × SearchAgreed k rs words found × SearchesAgreed n (k + 1) found.responses found.table
 
-  search-agreed : (k : ℕ) (rs : Responses) (words : List ℕ) (found : Reported) → search-of line w allowance k rs words ≡ some found →
+  search_agreed : (k : ℕ) (rs : Responses) (words : List ℕ) (found : Reported) → search_of line w allowance k rs words ≡ some found →
       SearchAgreed k rs words found
-  unfolding search-of
-  search-agreed k rs words found e =
-      let m = search-matched (read (field (3 * k + 4) line)) (read_number (field (3 * k + 5) line))
-      (list_of most-numbers (field (3 * k + 6) line))
-      (record-search w allowance rs words) found e in
+  unfolding search_of
+  search_agreed k rs words found e =
+      let m = search_matched (read (field (3 * k + 4) line)) (read_number (field (3 * k + 5) line))
+      (list_of most_numbers (field (3 * k + 6) line))
+      (record_search w allowance rs words) found e in
       record {
         position = m.0;
         depth = m.1;
-        position-is = m.2;
+        position_is = m.2;
         depth_is = m.3;
-        found-is = sym m.5;
-        numbers-are = m.4 ∙ ap (λ (r : Reported). some (search-numbers r)) m.5;
+        found_is = sym m.5;
+        numbers_are = m.4 ∙ ap (λ (r : Reported). some (search_numbers r)) m.5;
       }
 
-  found-said : (o : Option Reported) (next : Reported → Comparison) → (going_on line w allowance o next ≡ Differs → ⊥) →
+  found_said : (o : Option Reported) (next : Reported → Comparison) → (going_on line w allowance o next ≡ Differs → ⊥) →
       (r : Reported) × (o ≡ some r) × (next r ≡ Differs → ⊥)
-  found-said none next h = absurd (h refl)
-  found-said (some r) next h = (r, refl, h)
+  found_said none next h = absurd (h refl)
+  found_said (some r) next h = (r, refl, h)
 
-  searches-agreed : (n k : ℕ) (refused : Bool) (rs : Responses) (words : List ℕ) →
-      (chain-of line w allowance n k refused rs words ≡ Differs → ⊥) → SearchesAgreed n k rs words
-  unfolding chain-of
-  searches-agreed zero k refused rs words h = tt
-  searches-agreed (suc n) k refused rs words h =
-      let s = found-said (search-of line w allowance k rs words) _ h in
+  searches_agreed : (n k : ℕ) (refused : Bool) (rs : Responses) (words : List ℕ) →
+      (chain_of line w allowance n k refused rs words ≡ Differs → ⊥) → SearchesAgreed n k rs words
+  unfolding chain_of
+  searches_agreed zero k refused rs words h = tt
+  searches_agreed (suc n) k refused rs words h =
+      let s = found_said (search_of line w allowance k rs words) _ h in
       let r = s.0 in
-      (r, search-agreed k rs words r s.1, searches-agreed n (k + 1) _ r.responses r.table s.2)
+      (r, search_agreed k rs words r s.1, searches_agreed n (k + 1) _ r.responses r.table s.2)
 
 -- ---- what stands before the searches
-number-said : (d : Number) (next : ℕ → Comparison) → (for-number d next ≡ Differs → ⊥) →
+number_said : (d : Number) (next : ℕ → Comparison) → (for_number d next ≡ Differs → ⊥) →
     (n : ℕ) × (d ≡ Is n) × (next n ≡ Differs → ⊥)
-number-said Bad next h = absurd (h refl)
-number-said (Is n) next h = (n, refl, h)
+number_said Bad next h = absurd (h refl)
+number_said (Is n) next h = (n, refl, h)
 
-draw-said : (d : Draw) (next : DrawWinner → Comparison) → (for-draw d next ≡ Differs → ⊥) →
+draw_said : (d : Draw) (next : DrawWinner → Comparison) → (for_draw d next ≡ Differs → ⊥) →
     (w : DrawWinner) × (d ≡ To w) × (next w ≡ Differs → ⊥)
-draw-said Bad-draw next h = absurd (h refl)
-draw-said (To w) next h = (w, refl, h)
+draw_said Bad-draw next h = absurd (h refl)
+draw_said (To w) next h = (w, refl, h)
 
-start-said : (o : Option Responses) (next : Responses → Comparison) → (for-start o next ≡ Differs → ⊥) →
+start_said : (o : Option Responses) (next : Responses → Comparison) → (for_start o next ≡ Differs → ⊥) →
     (rs : Responses) × (o ≡ some rs) × (next rs ≡ Differs → ⊥)
-start-said none next h = absurd (h refl)
-start-said (some rs) next h = (rs, refl, h)
+start_said none next h = absurd (h refl)
+start_said (some rs) next h = (rs, refl, h)
 
 -- ---- a line
 -- four fields, and three for each of 1 to 999 searches
-fields-said : (line : List ℕ) → T (has-searches line) →
+fields_said : (line : List ℕ) → T (has_searches line) →
     (tabs line ≡ 3 + 3 * (tabs line / 3 - 1)) × (1 ≤ tabs line / 3 - 1) × (tabs line / 3 - 1 ≤ 999)
-fields-said line t =
+fields_said line t =
     let both = and→ (eqb (tabs line % 3) 0) _ t in
     let bounds = and→ (leb 2 (tabs line / 3)) (leb (tabs line / 3) 1000) both.1 in
     let thirds = eqb→eq (tabs line % 3) 0 both.0 in
@@ -127,46 +127,46 @@ fields-said line t =
 
 pub record LineAgreed (room : ℕ) (line : List ℕ) : Type 0 where
   pub searches : ℕ
-  pub fields-are : tabs line ≡ 3 + 3 * searches
-  pub some-searches : 1 ≤ searches
-  pub few-searches : searches ≤ 999
+  pub fields_are : tabs line ≡ 3 + 3 * searches
+  pub some_searches : 1 ≤ searches
+  pub few_searches : searches ≤ 999
   pub entries : ℕ
-  pub entries-are : read_number (field 0 line) ≡ Is entries
+  pub entries_are : read_number (field 0 line) ≡ Is entries
   pub entries_fit : entries * 3 ≤ room
   pub winner : DrawWinner
-  pub winner-is : draw-of (field 1 line) ≡ To winner
+  pub winner_is : draw_of (field 1 line) ≡ To winner
   pub allowance : ℕ
-  pub allowance-is : read_number (field 2 line) ≡ Is allowance
+  pub allowance_is : read_number (field 2 line) ≡ Is allowance
   pub start : Responses
   pub start_is : start_of (field 3 line) ≡ some start
-  pub searches-agree : SearchesAgreed line winner allowance searches 0 start (replicate (entries * 3) 0)
+  pub searches_agree : SearchesAgreed line winner allowance searches 0 start (replicate (entries * 3) 0)
 
 -- of a line that does not differ each field is read, and each search's numbers are those that the definitions report, from a table of
 -- zeros and the responses at the start on, one search after the other
-pub agreed-means : (room : ℕ) (line : List ℕ) → (outcome-of room line ≡ Differs → ⊥) → LineAgreed room line
-unfolding outcome-of run_of
-agreed-means room line h =
-    let fields = test-passed (has-searches line) _ h in
-    let said = fields-said line fields.0 in
-    let table = number-said (read_number (field 0 line)) _ fields.1 in
-    let fits = test-passed (leb (table.0 * 3) room) _ table.2 in
-    let draw = draw-said (draw-of (field 1 line)) _ fits.1 in
-    let most = number-said (read_number (field 2 line)) _ draw.2 in
-    let begun = start-said (start_of (field 3 line)) _ most.2 in
+pub agreed_means : (room : ℕ) (line : List ℕ) → (outcome_of room line ≡ Differs → ⊥) → LineAgreed room line
+unfolding outcome_of run_of
+agreed_means room line h =
+    let fields = test_passed (has_searches line) _ h in
+    let said = fields_said line fields.0 in
+    let table = number_said (read_number (field 0 line)) _ fields.1 in
+    let fits = test_passed (leb (table.0 * 3) room) _ table.2 in
+    let draw = draw_said (draw_of (field 1 line)) _ fits.1 in
+    let most = number_said (read_number (field 2 line)) _ draw.2 in
+    let begun = start_said (start_of (field 3 line)) _ most.2 in
     let n = tabs line / 3 - 1 in
     record {
       searches = n;
-      fields-are = said.0;
-      some-searches = said.1;
-      few-searches = said.2;
+      fields_are = said.0;
+      some_searches = said.1;
+      few_searches = said.2;
       entries = table.0;
-      entries-are = table.1;
+      entries_are = table.1;
       entries_fit = leb→le (table.0 * 3) room fits.0;
       winner = draw.0;
-      winner-is = draw.1;
+      winner_is = draw.1;
       allowance = most.0;
-      allowance-is = most.1;
+      allowance_is = most.1;
       start = begun.0;
       start_is = begun.1;
-      searches-agree = searches-agreed line draw.0 most.0 n 0 false begun.0 (replicate (table.0 * 3) 0) begun.2;
+      searches_agree = searches_agreed line draw.0 most.0 n 0 false begun.0 (replicate (table.0 * 3) 0) begun.2;
     }

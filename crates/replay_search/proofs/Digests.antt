@@ -9,23 +9,23 @@ use native.Mathlib.Omega.{arith}
 use lib.Dec.{eqb}
 use lib.ListN.{length, get_or, drop, drop_of_length-le, length-map, length-drop, get_or-map}
 use lib.Seq.{drop-cons}
-use Rattle.base.specs.Lists.{count, concat-map}
+use Rattle.base.specs.Lists.{count, concat_map}
 use Rattle.boards.specs.declared.moves.Move.{Move}
 use Rattle.minimax.specs.Report.{bytes_of, byte_of}
-use Rattle.replay_search.specs.Digests.{mixed, mixed-all, digest, low-bytes, entry-count}
+use Rattle.replay_search.specs.Digests.{mixed, mixed_all, digest, low_bytes, entry_count}
 
 -- ---- given digests: of no byte, of `a`, of `foobar`
-digest-of-none : digest [] ≡ 0xcbf29ce484222325
-unfolding mixed-all
-digest-of-none = refl
+digest_of_none : digest [] ≡ 0xcbf29ce484222325
+unfolding mixed_all
+digest_of_none = refl
 
-digest-of-a : digest (0x61 ∷ []) ≡ 0xaf63dc4c8601ec8c
-unfolding mixed mixed-all
-digest-of-a = refl
+digest_of_a : digest (0x61 ∷ []) ≡ 0xaf63dc4c8601ec8c
+unfolding mixed mixed_all
+digest_of_a = refl
 
-digest-of-foobar : digest (0x66 ∷ 0x6f ∷ 0x6f ∷ 0x62 ∷ 0x61 ∷ 0x72 ∷ []) ≡ 0x85944171f73967e8
-unfolding mixed mixed-all
-digest-of-foobar = refl
+digest_of_foobar : digest (0x66 ∷ 0x6f ∷ 0x6f ∷ 0x62 ∷ 0x61 ∷ 0x72 ∷ []) ≡ 0x85944171f73967e8
+unfolding mixed mixed_all
+digest_of_foobar = refl
 
 -- ---- times 2^40 + 435, by halves
 module _ (x : ℕ) (fits : x < 18446744073709551616) where
@@ -41,47 +41,47 @@ module _ (x : ℕ) (fits : x < 18446744073709551616) where
   abbrev upper : ℕ
   upper = product / 4294967296 + high * 435 + low % 16777216 * 256
 
-  parts-of : x * 1099511628211 ≡ (upper % 4294967296 * 4294967296 + product % 4294967296)
+  parts_of : x * 1099511628211 ≡ (upper % 4294967296 * 4294967296 + product % 4294967296)
       + (upper / 4294967296 + low / 16777216 + high * 256) * 18446744073709551616
-  parts-of = omega arith
+  parts_of = omega arith
 
-  pub times-prime-is : upper % 4294967296 * 4294967296 + product % 4294967296 ≡ x * 1099511628211 % 18446744073709551616
-  times-prime-is =
+  pub times_prime_is : upper % 4294967296 * 4294967296 + product % 4294967296 ≡ x * 1099511628211 % 18446744073709551616
+  times_prime_is =
       let z = upper % 4294967296 * 4294967296 + product % 4294967296 in
       let k = upper / 4294967296 + low / 16777216 + high * 256 in
       let small : z < 18446744073709551616 = omega arith in
-      sym (ap (λ (n : ℕ). n % 18446744073709551616) parts-of ∙ add-mul-mod_self_right z k 18446744073709551616 ∙ mod-eq_of_lt small)
+      sym (ap (λ (n : ℕ). n % 18446744073709551616) parts_of ∙ add-mul-mod_self_right z k 18446744073709551616 ∙ mod-eq_of_lt small)
 
 -- ---- bytes of a list
-pub mixed-append : (h : ℕ) (xs ys : List ℕ) → mixed-all h (xs ++ ys) ≡ mixed-all (mixed-all h xs) ys
-unfolding mixed-all
-mixed-append h [] ys = refl
-mixed-append h (x ∷ xs) ys = mixed-append (mixed h x) xs ys
+pub mixed_append : (h : ℕ) (xs ys : List ℕ) → mixed_all h (xs ++ ys) ≡ mixed_all (mixed_all h xs) ys
+unfolding mixed_all
+mixed_append h [] ys = refl
+mixed_append h (x ∷ xs) ys = mixed_append (mixed h x) xs ys
 
 -- ---- bytes of a word
 pub byte_next : (h k word r : ℕ) → 0 < k → r ≡ mixed h (word % 256) →
-    mixed-all r (low-bytes (k - 1) (word / 256)) ≡ mixed-all h (low-bytes k word)
-unfolding mixed-all low-bytes
+    mixed_all r (low_bytes (k - 1) (word / 256)) ≡ mixed_all h (low_bytes k word)
+unfolding mixed_all low_bytes
 byte_next h zero word r z e = absurd (omega arith)
 byte_next h (suc k) word r z e =
     let n : suc k - 1 ≡ k = omega arith in
     rw (n, e)
 
-pub bytes-end : (h k word : ℕ) → k ≤ 0 → mixed-all h (low-bytes k word) ≡ h
-unfolding mixed-all low-bytes
-bytes-end h zero word z = refl
-bytes-end h (suc k) word z = absurd (omega arith)
+pub bytes_end : (h k word : ℕ) → k ≤ 0 → mixed_all h (low_bytes k word) ≡ h
+unfolding mixed_all low_bytes
+bytes_end h zero word z = refl
+bytes_end h (suc k) word z = absurd (omega arith)
 
 -- ---- words of a table
 module _ (words : List ℕ) (h i : ℕ) where
-  pub word_next : (r : ℕ) → i < length words → r ≡ mixed-all h (low-bytes 8 (get_or words i 0)) →
-      mixed-all r (concat-map (low-bytes 8) (drop (i + 1) words)) ≡ mixed-all h (concat-map (low-bytes 8) (drop i words))
-  unfolding concat-map
-  word_next r l e = rw (drop-cons words i 0 l, add-one i) (rw e (sym (mixed-append h (low-bytes 8 (get_or words i 0)) _)))
+  pub word_next : (r : ℕ) → i < length words → r ≡ mixed_all h (low_bytes 8 (get_or words i 0)) →
+      mixed_all r (concat_map (low_bytes 8) (drop (i + 1) words)) ≡ mixed_all h (concat_map (low_bytes 8) (drop i words))
+  unfolding concat_map
+  word_next r l e = rw (drop-cons words i 0 l, add-one i) (rw e (sym (mixed_append h (low_bytes 8 (get_or words i 0)) _)))
 
-  pub words-end : length words ≤ i → mixed-all h (concat-map (low-bytes 8) (drop i words)) ≡ h
-  unfolding concat-map mixed-all
-  words-end l = rw (drop_of_length-le words l)
+  pub words_end : length words ≤ i → mixed_all h (concat_map (low_bytes 8) (drop i words)) ≡ h
+  unfolding concat_map mixed_all
+  words_end l = rw (drop_of_length-le words l)
 
 -- ---- moves of a table of responses
 module _ (ms : List Move) (i : ℕ) where
@@ -97,14 +97,14 @@ module _ (ms : List Move) (i : ℕ) where
   none_left : length ms ≤ i → drop i (bytes_of ms) ≡ []
   none_left l = let n : length (bytes_of ms) ≤ i = omega (arith, length-map ms byte_of) in drop_of_length-le (bytes_of ms) n
 
-  pub move-next : (h r : ℕ) → i < length ms → r ≡ mixed h byte_at →
-      mixed-all r (drop (i + 1) (bytes_of ms)) ≡ mixed-all h (drop i (bytes_of ms))
-  unfolding mixed-all
-  move-next h r l e = rw (here l, e)
+  pub move_next : (h r : ℕ) → i < length ms → r ≡ mixed h byte_at →
+      mixed_all r (drop (i + 1) (bytes_of ms)) ≡ mixed_all h (drop i (bytes_of ms))
+  unfolding mixed_all
+  move_next h r l e = rw (here l, e)
 
-  pub moves-end : (h : ℕ) → length ms ≤ i → mixed-all h (drop i (bytes_of ms)) ≡ h
-  unfolding mixed-all
-  moves-end h l = rw (none_left l)
+  pub moves_end : (h : ℕ) → length ms ≤ i → mixed_all h (drop i (bytes_of ms)) ≡ h
+  unfolding mixed_all
+  moves_end h l = rw (none_left l)
 
   module _ (f : ℕ → Bool) where
     pub count_next : (t : Bool) → i < length ms → t ≡ f byte_at →
@@ -112,21 +112,21 @@ module _ (ms : List Move) (i : ℕ) where
     unfolding count
     count_next t l e = rw (here l, e)
 
-    pub count-end : length ms ≤ i → count f (drop i (bytes_of ms)) ≡ 0
+    pub count_end : length ms ≤ i → count f (drop i (bytes_of ms)) ≡ 0
     unfolding count
-    count-end l = rw (none_left l)
+    count_end l = rw (none_left l)
 
 module _ (f : ℕ → Bool) where
-  pub count-append : (xs ys : List ℕ) → count f (xs ++ ys) ≡ count f xs + count f ys
+  pub count_append : (xs ys : List ℕ) → count f (xs ++ ys) ≡ count f xs + count f ys
   unfolding count
-  count-append [] ys = omega arith
-  count-append (x ∷ xs) ys = omega (arith, count-append xs ys)
+  count_append [] ys = omega arith
+  count_append (x ∷ xs) ys = omega (arith, count_append xs ys)
 
 -- ---- entries of a table
 module _ (words : List ℕ) (i : ℕ) where
   pub entry_next : 2 < length words - i →
-      entry-count (drop i words) ≡ cond (eqb (get_or words (i + 2) 0) 0) 0 1 + entry-count (drop (i + 3) words)
-  unfolding entry-count
+      entry_count (drop i words) ≡ cond (eqb (get_or words (i + 2) 0) 0) 0 1 + entry_count (drop (i + 3) words)
+  unfolding entry_count
   entry_next h =
       let a : i < length words = omega arith in
       let b : suc i < length words = omega arith in
@@ -135,12 +135,12 @@ module _ (words : List ℕ) (i : ℕ) where
       let three : i + 3 ≡ suc (suc (suc i)) = omega arith in
       rw (two, three, drop-cons words i 0 a, drop-cons words (suc i) 0 b, drop-cons words (suc (suc i)) 0 d)
 
-  short : (xs : List ℕ) → length xs ≤ 2 → entry-count xs ≡ 0
-  unfolding entry-count
+  short : (xs : List ℕ) → length xs ≤ 2 → entry_count xs ≡ 0
+  unfolding entry_count
   short [] h = refl
   short (a ∷ []) h = refl
   short (a ∷ b ∷ []) h = refl
   short (a ∷ b ∷ d ∷ xs) h = absurd (omega arith)
 
-  pub entries-end : length words - i ≤ 2 → entry-count (drop i words) ≡ 0
-  entries-end h = short (drop i words) (rw length-drop (omega arith))
+  pub entries_end : length words - i ≤ 2 → entry_count (drop i words) ≡ 0
+  entries_end h = short (drop i words) (rw length-drop (omega arith))

@@ -1,7 +1,7 @@
 -- Digests of bytes (FNV-1a, 64 bits), and what is counted of a memory.
 use Rattle.std.specs.Prelude.{not, cond, List, [], ◌∷◌, ◌++◌, ℕ, zero, suc, ◌+◌, ◌*◌, ◌/◌, ◌%◌, ◌^◌, eqb}
 use Rattle.std.specs.Int.Bits.{bit_xor}
-use Rattle.base.specs.Lists.{count, concat-map}
+use Rattle.base.specs.Lists.{count, concat_map}
 use Rattle.rules.specs.Play.{no_move}
 use Rattle.theory.specs.Memory.{Responses}
 
@@ -9,31 +9,31 @@ use Rattle.theory.specs.Memory.{Responses}
 unfoldable pub mixed : ℕ → ℕ → ℕ
 mixed h b = bit_xor h b * 0x100000001b3 % 2 ^ 64
 
-unfoldable pub mixed-all : ℕ → List ℕ → ℕ
-mixed-all h [] = h
-mixed-all h (b ∷ bs) = mixed-all (mixed h b) bs
+unfoldable pub mixed_all : ℕ → List ℕ → ℕ
+mixed_all h [] = h
+mixed_all h (b ∷ bs) = mixed_all (mixed h b) bs
 
 abbrev pub digest : List ℕ → ℕ
-digest bytes = mixed-all 0xcbf29ce484222325 bytes
+digest bytes = mixed_all 0xcbf29ce484222325 bytes
 
 -- the n lowest bytes of a word, the lowest first
-unfoldable pub low-bytes : ℕ → ℕ → List ℕ
-low-bytes zero word = []
-low-bytes (suc n) word = word % 256 ∷ low-bytes n (word / 256)
+unfoldable pub low_bytes : ℕ → ℕ → List ℕ
+low_bytes zero word = []
+low_bytes (suc n) word = word % 256 ∷ low_bytes n (word / 256)
 
 -- ---- response tables: those to X's moves, then those to O's
-abbrev pub responses-digest : Responses → ℕ
-responses-digest rs = digest (rs.to-x ++ rs.to-o)
+abbrev pub responses_digest : Responses → ℕ
+responses_digest rs = digest (rs.to_x ++ rs.to_o)
 
-abbrev pub response-count : Responses → ℕ
-response-count rs = count (λ m. not (eqb m no_move)) (rs.to-x ++ rs.to-o)
+abbrev pub response_count : Responses → ℕ
+response_count rs = count (λ m. not (eqb m no_move)) (rs.to_x ++ rs.to_o)
 
 -- ---- the table: three words to an entry, of which the third is 0 where there is none
-abbrev pub table-digest : List ℕ → ℕ
-table-digest words = digest (concat-map (low-bytes 8) words)
+abbrev pub table_digest : List ℕ → ℕ
+table_digest words = digest (concat_map (low_bytes 8) words)
 
-unfoldable pub entry-count : List ℕ → ℕ
-entry-count [] = 0
-entry-count (a ∷ []) = 0
-entry-count (a ∷ b ∷ []) = 0
-entry-count (a ∷ b ∷ c ∷ words) = cond (eqb c 0) 0 1 + entry-count words
+unfoldable pub entry_count : List ℕ → ℕ
+entry_count [] = 0
+entry_count (a ∷ []) = 0
+entry_count (a ∷ b ∷ []) = 0
+entry_count (a ∷ b ∷ c ∷ words) = cond (eqb c 0) 0 1 + entry_count words

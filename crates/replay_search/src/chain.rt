@@ -1,10 +1,10 @@
 // A record's searches, run one after the other.
 ghost use Rattle.std.specs.Prelude.{◌≡◌, false, ◌||◌, ◌≤◌, ◌%◌, length, replicate};
-ghost use Rattle.rules.specs.Board.{side-from};
-ghost use Rattle.theory.specs.Memory.{no-responses, with-response};
-ghost use Rattle.minimax.specs.Report.{responses-of};
-ghost use Rattle.replay_search.specs.Chains.{with-responses, start_of, begun-of, search-of, chain-of, Searched};
-ghost use Rattle.replay_search.specs.Chains.{run_of, outcome-of};
+ghost use Rattle.rules.specs.Board.{side_from};
+ghost use Rattle.theory.specs.Memory.{no_responses, with_response};
+ghost use Rattle.minimax.specs.Report.{responses_of};
+ghost use Rattle.replay_search.specs.Chains.{with_responses, start_of, begun_of, search_of, chain_of, Searched};
+ghost use Rattle.replay_search.specs.Chains.{run_of, outcome_of};
 
 use crate::expected;
 use boards::Move;
@@ -18,7 +18,7 @@ use rules::{DrawWinner, Weights};
 const MOST: usize = 1024;
 
 // Whether a record says what is reported of a search, whether that is a refusal, and the response tables after it.
-#[derive(Drop)]
+#[derive(Clone, Copy)]
 pub struct ChainStep {
     pub agrees: bool,
     pub refused: bool,
@@ -26,7 +26,7 @@ pub struct ChainStep {
 }
 
 // The response tables that the first search begins with, if they could be read.
-#[derive(Drop)]
+#[derive(Clone, Copy)]
 pub struct Begun {
     pub good: bool,
     pub state: Minimax,
@@ -34,8 +34,8 @@ pub struct Begun {
 
 // With one response more.
 fn with_response(state: Minimax, side: u64, prev: u64, response: u64) -> Minimax
-    ensures { responses-of result.responses
-        ≡ with-response (responses-of state.responses) (side-from side) (prev % 256) (response % 256) }
+    ensures { responses_of result.responses
+        ≡ with_response (responses_of state.responses) (side_from side) (prev % 256) (response % 256) }
 {
     let responses = state.responses;
     let mut x = responses.x;
@@ -58,7 +58,7 @@ fn with_response(state: Minimax, side: u64, prev: u64, response: u64) -> Minimax
 
 // The responses that the numbers give, three for each.
 fn from_triples(numbers: &[u64]) -> Minimax
-    ensures { responses-of result.responses ≡ with-responses no-responses numbers.now }
+    ensures { responses_of result.responses ≡ with_responses no_responses numbers.now }
 {
     let mut state = Minimax::new();
     let mut i: usize = 0;
@@ -70,7 +70,7 @@ fn from_triples(numbers: &[u64]) -> Minimax
 }
 
 fn begin(text: &[u8]) -> Begun
-    ensures { begun-of result ≡ start_of text.now }
+    ensures { begun_of result ≡ start_of text.now }
 {
     if text.len() == 0 {
         return Begun {
@@ -112,7 +112,7 @@ fn searched(
 ) -> ChainStep
     requires { k ≤ 1000 }
     ensures { Searched
-        (search-of line.now draw_winner allowance k (responses-of state.responses) table.old)
+        (search_of line.now draw_winner allowance k (responses_of state.responses) table.old)
         result table.new }
 {
     let parsed = notation::parse(replay::field(line, 3 * k + 4));
@@ -159,7 +159,7 @@ fn replayed(
     table: &mut [u64],
 ) -> Comparison
     requires { count ≤ 1000 }
-    ensures { result ≡ chain-of line.now draw_winner allowance count 0 false (responses-of begun.responses)
+    ensures { result ≡ chain_of line.now draw_winner allowance count 0 false (responses_of begun.responses)
         table.old }
 {
     let mut state = begun;
@@ -212,7 +212,7 @@ fn run(line: &[u8], count: usize, table: &mut [u64]) -> Comparison
 
 // What is found of a line. One that can't be read differs, as does one whose table has no room.
 pub fn outcome(line: &[u8], words: &mut [u64]) -> Comparison
-    ensures { result ≡ outcome-of (length words.old) line.now }
+    ensures { result ≡ outcome_of (length words.old) line.now }
 {
     let tabs = replay::tabs(line);
     if tabs % 3 != 0 {

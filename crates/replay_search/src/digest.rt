@@ -2,9 +2,9 @@
 ghost use Rattle.std.specs.Prelude.{◌≡◌, not, ◌*◌, ◌%◌, ◌^◌, ◌≤◌, eqb};
 ghost use Rattle.base.specs.Lists.{count};
 ghost use Rattle.rules.specs.Play.{no_move};
-ghost use Rattle.minimax.specs.Report.{bytes_of, responses-of};
-ghost use Rattle.replay_search.specs.Digests.{mixed, mixed-all, low-bytes, responses-digest, response-count};
-ghost use Rattle.replay_search.specs.Digests.{table-digest, entry-count};
+ghost use Rattle.minimax.specs.Report.{bytes_of, responses_of};
+ghost use Rattle.replay_search.specs.Digests.{mixed, mixed_all, low_bytes, responses_digest, response_count};
+ghost use Rattle.replay_search.specs.Digests.{table_digest, entry_count};
 
 use boards::Move;
 use minimax::Minimax;
@@ -32,7 +32,7 @@ fn mixed(h: u64, b: u8) -> u64
 
 // The eight bytes of a word, the lowest first.
 fn mixed_word(h: u64, word: u64) -> u64
-    ensures { result ≡ mixed-all h (low-bytes 8 word) }
+    ensures { result ≡ mixed_all h (low_bytes 8 word) }
 {
     let mut digest = h;
     let mut left = word;
@@ -46,7 +46,7 @@ fn mixed_word(h: u64, word: u64) -> u64
 }
 
 fn mixed_moves(h: u64, moves: [Move; 256]) -> u64
-    ensures { result ≡ mixed-all h (bytes_of moves) }
+    ensures { result ≡ mixed_all h (bytes_of moves) }
 {
     let mut digest = h;
     for i in 0..256 {
@@ -57,7 +57,7 @@ fn mixed_moves(h: u64, moves: [Move; 256]) -> u64
 }
 
 pub fn of_responses(state: Minimax) -> u64
-    ensures { result ≡ responses-digest (responses-of state.responses) }
+    ensures { result ≡ responses_digest (responses_of state.responses) }
 {
     let responses = state.responses;
     let x = responses.x;
@@ -66,7 +66,7 @@ pub fn of_responses(state: Minimax) -> u64
 }
 
 pub fn of_table(words: &[u64]) -> u64
-    ensures { result ≡ table-digest words.now }
+    ensures { result ≡ table_digest words.now }
 {
     let mut digest = START;
     let mut i: usize = 0;
@@ -93,7 +93,7 @@ fn responses_to(moves: [Move; 256]) -> usize
 
 // How many moves have a response.
 pub fn response_count(state: Minimax) -> u64
-    ensures { result ≡ response-count (responses-of state.responses) }
+    ensures { result ≡ response_count (responses_of state.responses) }
 {
     let responses = state.responses;
     let x = responses.x;
@@ -103,7 +103,7 @@ pub fn response_count(state: Minimax) -> u64
 
 // How many entries are valid: those whose third word is not 0.
 pub fn entry_count(words: &[u64]) -> u64
-    ensures { result ≡ entry-count words.now }
+    ensures { result ≡ entry_count words.now }
 {
     let mut n: u64 = 0;
     let mut i: usize = 0;

@@ -1,9 +1,9 @@
 // What a record says of a search, compared with the report of it. The numbers are: ending, count, depth, the score's sign and size, the
 // digest and the number of the responses and of the table's entries, the line, and eight numbers of each depth (tools/lists.py).
 ghost use Rattle.std.specs.Prelude.{◌≡◌, map, nat_abs, take};
-ghost use Rattle.minimax.specs.Report.{ending-number, ending-stopped, bytes_of, stats-of, report-of};
-ghost use Rattle.replay.specs.Agreement.{same_numbers, compared-all};
-ghost use Rattle.replay_search.specs.Records.{sign, ending, head-numbers, depth-numbers, depths-numbers, search-numbers};
+ghost use Rattle.minimax.specs.Report.{ending_number, ending_stopped, bytes_of, stats_of, report_of};
+ghost use Rattle.replay.specs.Agreement.{same_numbers, compared_all};
+ghost use Rattle.replay_search.specs.Records.{sign, ending, head_numbers, depth_numbers, depths_numbers, search_numbers};
 
 use crate::digest;
 use boards::{Move, PLACES};
@@ -12,7 +12,7 @@ use replay::Agreement;
 
 // 1 where the allowance stopped the search.
 fn ending_number(e: Ending) -> u64
-    ensures { result ≡ ending (ending-number e) (ending-stopped e) }
+    ensures { result ≡ ending (ending_number e) (ending_stopped e) }
 {
     match e {
         Ending::Whole => 0,
@@ -39,7 +39,7 @@ fn size(score: i64) -> u64
 }
 
 fn depth_numbers(s: Stats) -> [u64; 8]
-    ensures { result ≡ depth-numbers (stats-of s) }
+    ensures { result ≡ depth_numbers (stats_of s) }
 {
     [
         s.depth,
@@ -55,7 +55,7 @@ fn depth_numbers(s: Stats) -> [u64; 8]
 
 // The numbers before the line.
 fn head_numbers(found: Report, table: &[u64]) -> [u64; 9]
-    ensures { result ≡ head-numbers (report-of found table.now) }
+    ensures { result ≡ head_numbers (report_of found table.now) }
 {
     let ending = found.ending;
     let state = found.state;
@@ -74,7 +74,7 @@ fn head_numbers(found: Report, table: &[u64]) -> [u64; 9]
 
 // The line's first moves, as many as the depth.
 fn with_line(begun: Agreement, numbers: &[u64], depth: u64, line: [Move; PLACES]) -> Agreement
-    ensures { result ≡ compared-all numbers.now begun (take depth (bytes_of line)) }
+    ensures { result ≡ compared_all numbers.now begun (take depth (bytes_of line)) }
 {
     let mut so_far = begun;
     let mut i: usize = 0;
@@ -91,7 +91,7 @@ fn with_line(begun: Agreement, numbers: &[u64], depth: u64, line: [Move; PLACES]
 
 // The stats of the first depths, as many as the depth.
 fn with_stats(begun: Agreement, numbers: &[u64], depth: u64, stats: [Stats; PLACES]) -> Agreement
-    ensures { result ≡ compared-all numbers.now begun (depths-numbers (take depth (map stats-of stats))) }
+    ensures { result ≡ compared_all numbers.now begun (depths_numbers (take depth (map stats_of stats))) }
 {
     let mut so_far = begun;
     let mut i: usize = 0;
@@ -108,7 +108,7 @@ fn with_stats(begun: Agreement, numbers: &[u64], depth: u64, stats: [Stats; PLAC
 
 // Whether a report and the table after the search are what the numbers say.
 pub fn agrees(numbers: &[u64], found: Report, table: &[u64]) -> bool
-    ensures { result ≡ same_numbers numbers.now (search-numbers (report-of found table.now)) }
+    ensures { result ≡ same_numbers numbers.now (search_numbers (report_of found table.now)) }
 {
     let head = head_numbers(found, table);
     let depth = found.depth;

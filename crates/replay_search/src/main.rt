@@ -1,12 +1,14 @@
 // Replays the Rust's searches, and prints how many records agree and each that does not.
 // A record is one memory and the searches that use it, one after the other (tools/lists.py).
+#![tactic(auto)]
+
 mod chain;
 mod digest;
 mod expected;
 
 ghost use Rattle.std.specs.Prelude.{length};
 ghost use Rattle.replay.specs.Totals.{RecordCounted};
-ghost use Rattle.replay_search.specs.Chains.{outcome-of};
+ghost use Rattle.replay_search.specs.Chains.{outcome_of};
 
 use input::Input;
 use replay::Totals;
@@ -16,7 +18,7 @@ const ROOM: usize = 196611;
 
 // The totals with a line's record more; a record's table stands in the words.
 fn step(totals: Totals, line: &[u8], words: &mut [u64]) -> Totals
-    ensures { RecordCounted totals (outcome-of (length words.old) line.now) result }
+    ensures { RecordCounted totals (outcome_of (length words.old) line.now) result }
 {
     totals.count(chain::outcome(line, words))
 }

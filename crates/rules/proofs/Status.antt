@@ -10,25 +10,25 @@ use lib.Dec.{T, eqb, ltb, eqb→eq, ltb→lt, nltb→le}
 use Rattle.base.specs.Branch.{if◌then◌else◌}
 use Rattle.base.specs.Lists.{all, filter, from}
 use Rattle.base.proofs.Bool.{and→, is}
-use Rattle.base.proofs.Branch.{if-ind}
-use Rattle.base.proofs.Lists.{all-each, in-from}
+use Rattle.base.proofs.Branch.{if_ind}
+use Rattle.base.proofs.Lists.{all_each, in_from}
 use Rattle.rules.specs.declared.Player.TheVariants.{X, O}
-use Rattle.rules.specs.Status.{Status, unproven, for-player, draw-or-other, as_byte, from_byte, merge}
+use Rattle.rules.specs.Status.{Status, unproven, for_player, draw_or_other, as_byte, from_byte, merge}
 
 abbrev pub is_set : Option Status → Bool
 is_set none = false
 is_set (some s) = true
 
 -- of all bytes, 1, 2, 4, 5, 6 and 7 are a set's
-pub from-byte-takes : filter (λ v. is_set (from_byte v)) (from 0 256) ≡ 1 ∷ 2 ∷ 4 ∷ 5 ∷ 6 ∷ 7 ∷ []
+pub from_byte_takes : filter (λ v. is_set (from_byte v)) (from 0 256) ≡ 1 ∷ 2 ∷ 4 ∷ 5 ∷ 6 ∷ 7 ∷ []
 unfolding filter from_byte if◌then◌else◌
-from-byte-takes = refl
+from_byte_takes = refl
 
 -- and no number from 8 on
-pub from-byte-none : (v : ℕ) → 8 ≤ v → from_byte v ≡ none
+pub from_byte_none : (v : ℕ) → 8 ≤ v → from_byte v ≡ none
 unfolding from_byte
-from-byte-none v h =
-    if-ind (λ r. r ≡ none) (ltb v 8 && (not (eqb v 0) && not (eqb v 3))) _ _
+from_byte_none v h =
+    if_ind (λ r. r ≡ none) (ltb v 8 && (not (eqb v 0) && not (eqb v 3))) _ _
     (λ t. absurd (omega (arith, ltb→lt v 8 (and→ (ltb v 8) _ t).0))) (λ _. refl)
 
 -- back to the byte, where there is a set
@@ -41,19 +41,19 @@ unfolding all back from_byte if◌then◌else◌
 all_back = tt
 
 -- the byte of the set that a byte stands for is that byte
-pub byte-of-from-byte : (v : ℕ) (s : Status) → from_byte v ≡ some s → as_byte s ≡ v
+pub byte_of_from_byte : (v : ℕ) (s : Status) → from_byte v ≡ some s → as_byte s ≡ v
 unfolding back
-byte-of-from-byte v s e = elim (is (ltb v 8)) [
+byte_of_from_byte v s e = elim (is (ltb v 8)) [
   | inl t ↦ eqb→eq (as_byte s) v (subst (λ (r : Option Status). T (back v r)) e
-      (all-each (λ n. back n (from_byte n)) v (from 0 8) all_back
-      (in-from 0 8 v (omega arith) (omega (arith, ltb→lt v 8 t)))))
-  | inr t ↦ (let n = from-byte-none v (nltb→le v 8 t) in let z : ◌≡◌ {A = ℕ} 0 1 = cc in absurd (omega arith))
+      (all_each (λ n. back n (from_byte n)) v (from 0 8) all_back
+      (in_from 0 8 v (omega arith) (omega (arith, ltb→lt v 8 t)))))
+  | inr t ↦ (let n = from_byte_none v (nltb→le v 8 t) in let z : ◌≡◌ {A = ℕ} 0 1 = cc in absurd (omega arith))
 ]
 
 -- a set that a byte stands for comes back from its byte
-pub from-byte-of-byte : (s : Status) → (from_byte (as_byte s) ≡ some s) ⊎ (from_byte (as_byte s) ≡ none)
+pub from_byte_of_byte : (s : Status) → (from_byte (as_byte s) ≡ some s) ⊎ (from_byte (as_byte s) ≡ none)
 unfolding from_byte if◌then◌else◌
-from-byte-of-byte s = of s.x s.o s.draw
+from_byte_of_byte s = of s.x s.o s.draw
   where
     of : (x o d : Bool) → let s : Status =
         record { x = x; o = o; draw = d } in (from_byte (as_byte s) ≡ some s) ⊎ (from_byte (as_byte s) ≡ none)
@@ -67,15 +67,15 @@ from-byte-of-byte s = of s.x s.o s.draw
     of false false false = inr refl
 
 -- the common part of two sets; where nothing is common, or only both sides without a draw, there is none
-abbrev draw-only : Status
-draw-only = record { x = false; o = false; draw = true }
+abbrev draw_only : Status
+draw_only = record { x = false; o = false; draw = true }
 
-pub merge-facts :
+pub merge_facts :
     (merge unproven unproven ≡ some unproven)
-    × (merge (for-player X) (draw-or-other O) ≡ some (for-player X))
-    × (merge (for-player X) (draw-or-other X) ≡ none)
-    × (merge (for-player X) (for-player O) ≡ none)
-    × (merge (draw-or-other X) (draw-or-other O) ≡ some draw-only)
+    × (merge (for_player X) (draw_or_other O) ≡ some (for_player X))
+    × (merge (for_player X) (draw_or_other X) ≡ none)
+    × (merge (for_player X) (for_player O) ≡ none)
+    × (merge (draw_or_other X) (draw_or_other O) ≡ some draw_only)
     × (merge unproven (record { x = true; o = true; draw = false }) ≡ none)
 unfolding merge from_byte if◌then◌else◌
-merge-facts = (refl, refl, refl, refl, refl, refl)
+merge_facts = (refl, refl, refl, refl, refl, refl)

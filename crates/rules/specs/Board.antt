@@ -21,13 +21,13 @@ same O X = false
 same O O = true
 
 -- the number of a side
-abbrev pub side-number : Player → ℕ
-side-number X = 0
-side-number O = 1
+abbrev pub side_number : Player → ℕ
+side_number X = 0
+side_number O = 1
 
 -- X for 0, O for any other number
-abbrev pub side-from : ℕ → Player
-side-from n = cond (eqb n 0) X O
+abbrev pub side_from : ℕ → Player
+side_from n = cond (eqb n 0) X O
 
 abbrev pub sides : List Player
 sides = X ∷ O ∷ []
@@ -42,37 +42,37 @@ abbrev pub mine : Player → CellState → Bool
 mine w Empty = false
 mine w (Played v) = same w v
 
-abbrev pub same-cell : CellState → CellState → Bool
-same-cell Empty d = blank d
-same-cell (Played w) d = mine w d
+abbrev pub same_cell : CellState → CellState → Bool
+same_cell Empty d = blank d
+same_cell (Played w) d = mine w d
 
 -- ---- states of a board, or of the game
-abbrev pub in-play : GameState → Bool
-in-play InPlay = true
-in-play Drawn = false
-in-play (Won w) = false
+abbrev pub in_play : GameState → Bool
+in_play InPlay = true
+in_play Drawn = false
+in_play (Won w) = false
 
 -- w has won it; a drawn one is nobody's
-abbrev pub won-by : Player → GameState → Bool
-won-by w InPlay = false
-won-by w Drawn = false
-won-by w (Won v) = same w v
+abbrev pub won_by : Player → GameState → Bool
+won_by w InPlay = false
+won_by w Drawn = false
+won_by w (Won v) = same w v
 
 abbrev pub drawn : GameState → Bool
 drawn InPlay = false
 drawn Drawn = true
 drawn (Won w) = false
 
-abbrev pub same-state : GameState → GameState → Bool
-same-state InPlay g = in-play g
-same-state Drawn g = drawn g
-same-state (Won w) g = won-by w g
+abbrev pub same_state : GameState → GameState → Bool
+same_state InPlay g = in_play g
+same_state Drawn g = drawn g
+same_state (Won w) g = won_by w g
 
 -- the number that a list of numbers has for a state
-abbrev pub state-number : GameState → ℕ
-state-number InPlay = 0
-state-number Drawn = 1
-state-number (Won w) = 2 + side-number w
+abbrev pub state_number : GameState → ℕ
+state_number InPlay = 0
+state_number Drawn = 1
+state_number (Won w) = 2 + side_number w
 
 -- ---- the numbers of the nine boards, and of the nine cells of a board, row by row
 abbrev pub nine : List ℕ
@@ -94,9 +94,9 @@ lines = line 0 1 2 ∷ line 3 4 5 ∷ line 6 7 8 ∷ line 0 3 6 ∷ line 1 4 7 �
 abbrev pub all_three : (ℕ → Bool) → Line → Bool
 all_three own l = own l.i && (own l.j && own l.k)
 
-unfoldable pub has-line : (ℕ → Bool) → Bool
-has-line own = any (all_three own) lines
+unfoldable pub has_line : (ℕ → Bool) → Bool
+has_line own = any (all_three own) lines
 
 -- what w's move makes of a board, or of the game: won if w has a line, drawn if nothing is left, else in play; only w's lines are looked at
-unfoldable pub result : Player → (ℕ → Bool) → (ℕ → Bool) → GameState
-result w own left = if has-line own then (λ _. Won w) else λ _. if any left nine then (λ _. InPlay) else λ _. Drawn
+unfoldable pub result_of : Player → (ℕ → Bool) → (ℕ → Bool) → GameState
+result_of w own left = if has_line own then (λ _. Won w) else λ _. if any left nine then (λ _. InPlay) else λ _. Drawn

@@ -8,18 +8,18 @@ use Rattle.rules.specs.declared.NextBoard.{NextBoard}
 use Rattle.rules.specs.declared.NextBoard.TheVariants.{Any, Only}
 use Rattle.base.specs.Branch.{if◌then◌else◌}
 use Rattle.base.specs.Lists.{any, all}
-use Rattle.base.specs.Checks.{all_pass, first-failed}
+use Rattle.base.specs.Checks.{all_pass, first_failed}
 use Rattle.base.specs.Update.{update}
-use Rattle.rules.specs.Board.{other, blank, mine, nine, has-line}
-use Rattle.rules.specs.Position.{Position, unfinished, open-board, won-boards, free-cell}
-use Rattle.rules.specs.Play.{board-of, cell-of, checks}
+use Rattle.rules.specs.Board.{other, blank, mine, nine, has_line}
+use Rattle.rules.specs.Position.{Position, unfinished, open_board, won_boards, free_cell}
+use Rattle.rules.specs.Play.{board_of, cell_of, checks}
 use Rattle.rules.specs.Sound.{sound}
-use Rattle.rules.specs.Status.{Status, unproven, for-player, draw-or-other, merge}
+use Rattle.rules.specs.Status.{Status, unproven, for_player, draw_or_other, merge}
 
 -- ---- critical boards
 -- with place i besides, own has a line
 unfoldable pub completes : (ℕ → Bool) → ℕ → Bool
-completes own i = has-line (update own i true)
+completes own i = has_line (update own i true)
 
 -- w wins the board by cell c
 unfoldable pub winning : Player → (ℕ → CellState) → ℕ → Bool
@@ -27,84 +27,84 @@ winning w row c = blank (row c) && completes (λ i. mine w (row i)) c
 
 -- board b is in play, wins w the game, and can be won by w with one cell
 unfoldable pub critical : Position → Player → ℕ → Bool
-critical p w b = open-board p b && (completes (won-boards p w) b && any (winning w (p.cells b)) nine)
+critical p w b = open_board p b && (completes (won_boards p w) b && any (winning w (p.cells b)) nine)
 
-unfoldable pub has-critical : Position → Player → Bool
-has-critical p w = any (critical p w) nine
+unfoldable pub has_critical : Position → Player → Bool
+has_critical p w = any (critical p w) nine
 
 -- where w has a critical board: sent to board b, w may play in one
 unfoldable pub suits : Position → Player → ℕ → Bool
-suits p w b = not (open-board p b) || critical p w b
+suits p w b = not (open_board p b) || critical p w b
 
 -- every empty cell of board b sends w where it suits
-unfoldable pub all-suit : Position → Player → ℕ → Bool
-all-suit p w b = all (λ c. not (free-cell p b c) || suits p w c) nine
+unfoldable pub all_suit : Position → Player → ℕ → Bool
+all_suit p w b = all (λ c. not (free_cell p b c) || suits p w c) nine
 
 -- ---- the side to move, w, wins: at once, or by sending the other side from board b to board i, which then must send w where it suits
 unfoldable pub lure : Position → Player → ℕ → ℕ → Bool
 lure p w b i =
-    free-cell p b i && (open-board p i &&
-    (not (critical p w i) && (not (critical p (other w) i) && (not (eqb i b) && all-suit p w i))))
+    free_cell p b i && (open_board p i &&
+    (not (critical p w i) && (not (critical p (other w) i) && (not (eqb i b) && all_suit p w i))))
 
 unfoldable pub attack : Position → Player → NextBoard → Bool
 attack p w Any = true
 attack p w (Only b) = critical p w b || any (lure p w b) nine
 
-unfoldable pub prove-attacker : Position → Bool
-prove-attacker p = has-critical p p.turn && attack p p.turn p.next-board
+unfoldable pub prove_attacker : Position → Bool
+prove_attacker p = has_critical p p.turn && attack p p.turn p.next_board
 
 -- ---- the side to move loses: every cell of the board that is due sends the other side, v, where it suits, and v's critical boards are
 -- elsewhere
 unfoldable pub forced : Position → Player → NextBoard → Bool
 forced p v Any = false
-forced p v (Only b) = not (critical p v b) && all-suit p v b
+forced p v (Only b) = not (critical p v b) && all_suit p v b
 
-unfoldable pub forced-loss : Position → Bool
-forced-loss p = has-critical p (other p.turn) && forced p (other p.turn) p.next-board
+unfoldable pub forced_loss : Position → Bool
+forced_loss p = has_critical p (other p.turn) && forced p (other p.turn) p.next_board
 
 -- ---- w's boards and the open ones still hold a line
 unfoldable pub winnable : Position → Player → Bool
-winnable p w = has-line (λ b. won-boards p w b || open-board p b)
+winnable p w = has_line (λ b. won_boards p w b || open_board p b)
 
 -- ---- the status of an unfinished position; none stands for the Rust's panic at a merge
 unfoldable pub proven : Player → Bool → Bool → Status
-proven t wins loses = if wins then (λ _. for-player t) else λ _. if loses then (λ _. for-player (other t)) else λ _. unproven
+proven t wins loses = if wins then (λ _. for_player t) else λ _. if loses then (λ _. for_player (other t)) else λ _. unproven
 
 unfoldable pub narrow : Bool → Status → Option Status → Option Status
 narrow can t none = none
 narrow can t (some s) = if can then (λ _. some s) else λ _. merge s t
 
 unfoldable pub combine : Player → Bool → Bool → Bool → Bool → Option Status
-combine t wins loses x o = narrow o (draw-or-other O) (narrow x (draw-or-other X) (some (proven t wins loses)))
+combine t wins loses x o = narrow o (draw_or_other O) (narrow x (draw_or_other X) (some (proven t wins loses)))
 
 unfoldable pub merged : Position → Option Status
-merged p = combine p.turn (prove-attacker p) (forced-loss p) (winnable p X) (winnable p O)
+merged p = combine p.turn (prove_attacker p) (forced_loss p) (winnable p X) (winnable p O)
 
 -- ---- the six counts of one analysis
 pub record EndgameStats : Type 0 where
-  pub attacker-critical : ℕ
-  pub defender-critical : ℕ
-  pub both-critical : ℕ
+  pub attacker_critical : ℕ
+  pub defender_critical : ℕ
+  pub both_critical : ℕ
   pub unwinnable : ℕ
-  pub prove-attacker : ℕ
-  pub prove-defender : ℕ
+  pub prove_attacker : ℕ
+  pub prove_defender : ℕ
 
-abbrev pub no-endgame-stats : EndgameStats
-no-endgame-stats =
-    record { attacker-critical = 0; defender-critical = 0; both-critical = 0; unwinnable = 0; prove-attacker = 0; prove-defender = 0 }
+abbrev pub no_endgame_stats : EndgameStats
+no_endgame_stats =
+    record { attacker_critical = 0; defender_critical = 0; both_critical = 0; unwinnable = 0; prove_attacker = 0; prove_defender = 0 }
 
-unfoldable pub endgame-stats : Position → EndgameStats
-endgame-stats p =
-    let a = has-critical p p.turn in
-    let d = has-critical p (other p.turn) in
-    let wins = prove-attacker p in
+unfoldable pub endgame_stats : Position → EndgameStats
+endgame_stats p =
+    let a = has_critical p p.turn in
+    let d = has_critical p (other p.turn) in
+    let wins = prove_attacker p in
     record {
-      attacker-critical = cond a 1 0;
-      defender-critical = cond d 1 0;
-      both-critical = cond (a && d) 1 0;
+      attacker_critical = cond a 1 0;
+      defender_critical = cond d 1 0;
+      both_critical = cond (a && d) 1 0;
       unwinnable = cond (winnable p X) 0 1 + cond (winnable p O) 0 1;
-      prove-attacker = cond wins 1 0;
-      prove-defender = cond (not wins && forced-loss p) 1 0;
+      prove_attacker = cond wins 1 0;
+      prove_defender = cond (not wins && forced_loss p) 1 0;
     }
 
 -- ---- the analysis: a finished game gives the full set, an unfinished unsound one is refused
@@ -114,18 +114,18 @@ pub record Analysis : Type 0 where
   pub status : Status
   pub stats : EndgameStats
 
-unfoldable pub or-unproven : Option Status → Status
-or-unproven none = unproven
-or-unproven (some s) = s
+unfoldable pub or_unproven : Option Status → Status
+or_unproven none = unproven
+or_unproven (some s) = s
 
 -- what is asked of a position: that it is not unfinished and unsound
-abbrev pub analysis-checks : Position → List (Bool × ℕ)
-analysis-checks p = (not (unfinished p && not (sound p)), 14) ∷ []
+abbrev pub analysis_checks : Position → List (Bool × ℕ)
+analysis_checks p = (not (unfinished p && not (sound p)), 14) ∷ []
 
 unfoldable pub analysis : Position → Analysis
 analysis p =
-    if unfinished p && sound p then (λ _. record { refusal = 0; status = or-unproven (merged p); stats = endgame-stats p }) else
-    λ _. record { refusal = first-failed (analysis-checks p); status = unproven; stats = no-endgame-stats }
+    if unfinished p && sound p then (λ _. record { refusal = 0; status = or_unproven (merged p); stats = endgame_stats p }) else
+    λ _. record { refusal = first_failed (analysis_checks p); status = unproven; stats = no_endgame_stats }
 
 -- ---- a move, judged: 14 first, then what play refuses. The Rust's answer, which calls some moves lost that win at once
 pub record Judged : Type 0 where
@@ -136,13 +136,13 @@ pub record Judged : Type 0 where
 unfoldable pub judge : Position → ℕ → Status
 judge p m =
     let v = other p.turn in
-    if has-critical p v && (not (critical p v (board-of m)) && suits p v (cell-of m)) then (λ _. for-player v) else λ _. unproven
+    if has_critical p v && (not (critical p v (board_of m)) && suits p v (cell_of m)) then (λ _. for_player v) else λ _. unproven
 
-abbrev pub judging-checks : Position → ℕ → List (Bool × ℕ)
-judging-checks p m = analysis-checks p ++ checks p (board-of m) (cell-of m)
+abbrev pub judging_checks : Position → ℕ → List (Bool × ℕ)
+judging_checks p m = analysis_checks p ++ checks p (board_of m) (cell_of m)
 
-unfoldable pub evaluate-move : Position → ℕ → Judged
-evaluate-move p m = record {
-  refusal = first-failed (judging-checks p m);
-  status = if all_pass (judging-checks p m) then (λ _. judge p m) else λ _. unproven;
+unfoldable pub evaluate_move : Position → ℕ → Judged
+evaluate_move p m = record {
+  refusal = first_failed (judging_checks p m);
+  status = if all_pass (judging_checks p m) then (λ _. judge p m) else λ _. unproven;
 }

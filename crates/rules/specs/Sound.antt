@@ -3,19 +3,19 @@ use Rattle.std.specs.Prelude.{Bool, true, not, ◌||◌, ◌&&◌, ltb}
 use Rattle.base.specs.Lists.{any, all}
 use Rattle.rules.specs.declared.NextBoard.{NextBoard}
 use Rattle.rules.specs.declared.NextBoard.TheVariants.{Any, Only}
-use Rattle.rules.specs.Board.{sides, nine, has-line}
-use Rattle.rules.specs.Position.{Position, unfinished, open-board, won-boards, free-cell, has}
+use Rattle.rules.specs.Board.{sides, nine, has_line}
+use Rattle.rules.specs.Position.{Position, unfinished, open_board, won_boards, free_cell, has}
 
 -- sound, which is asked of unfinished positions: neither side's boards make a line, and a board still in play is neither full nor won
 unfoldable pub sound : Position → Bool
 sound p =
-    all (λ w. not (has-line (won-boards p w))) sides &&
-    all (λ b. not (open-board p b) || (any (free-cell p b) nine && all (λ w. not (has-line (has p w b))) sides)) nine
+    all (λ w. not (has_line (won_boards p w))) sides &&
+    all (λ b. not (open_board p b) || (any (free_cell p b) nine && all (λ w. not (has_line (has p w b))) sides)) nine
 
 -- what play and reading give besides: the board that is due is one of the nine and in play, and an unfinished game has a board in play
-abbrev pub next-board-open : Position → NextBoard → Bool
-next-board-open p Any = true
-next-board-open p (Only b) = ltb b 9 && open-board p b
+abbrev pub next_board_open : Position → NextBoard → Bool
+next_board_open p Any = true
+next_board_open p (Only b) = ltb b 9 && open_board p b
 
 unfoldable pub proper : Position → Bool
-proper p = next-board-open p p.next-board && (not (unfinished p) || any (open-board p) nine)
+proper p = next_board_open p p.next_board && (not (unfinished p) || any (open_board p) nine)

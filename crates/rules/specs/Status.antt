@@ -15,12 +15,12 @@ pub record Status : Type 0 where
 abbrev pub unproven : Status
 unproven = record { x = true; o = true; draw = true }
 
-abbrev pub for-player : Player → Status
-for-player w = record { x = same w X; o = same w O; draw = false }
+abbrev pub for_player : Player → Status
+for_player w = record { x = same w X; o = same w O; draw = false }
 
 -- w no longer wins: a draw or the other side
-abbrev pub draw-or-other : Player → Status
-draw-or-other w = record { x = not (same w X); o = not (same w O); draw = true }
+abbrev pub draw_or_other : Player → Status
+draw_or_other w = record { x = not (same w X); o = not (same w O); draw = true }
 
 abbrev pub allows : Status → Player → Bool
 allows s X = s.x

@@ -3,13 +3,15 @@
 // Ported from src/lib/game.rs, the weights from src/lib/minimax.rs, of nelhage/ultimattt at commit 87ef0d9c7c (Apache-2.0, see NOTICE),
 // changed: methods take `self` by value, the draw winner is an enum of its own, the evaluation's weights are a struct, and the effect of
 // a move is added.
-ghost use Rattle.std.specs.Prelude.{◌≡◌, not};
-ghost use Rattle.rules.specs.Board.{other, side-number, in-play, state-number};
-ghost use Rattle.rules.specs.Position.{same-next-board, free-choice};
-ghost use Rattle.rules.specs.Play.{may, effect-number};
-ghost use Rattle.rules.specs.Evaluation.{accepted-weights};
+#![tactic(auto)]
 
-#[derive(Drop)]
+ghost use Rattle.std.specs.Prelude.{◌≡◌, not};
+ghost use Rattle.rules.specs.Board.{other, side_number, in_play, state_number};
+ghost use Rattle.rules.specs.Position.{same_next_board, is_free};
+ghost use Rattle.rules.specs.Play.{may, effect_number};
+ghost use Rattle.rules.specs.Evaluation.{accepted_weights};
+
+#[derive(Clone, Copy)]
 pub enum Player {
     X,
     O,
@@ -26,7 +28,7 @@ impl Player {
     }
 
     pub fn as_bit(self) -> usize
-        ensures { result ≡ side-number self }
+        ensures { result ≡ side_number self }
     {
         match self {
             Player::X => 0,
@@ -35,13 +37,13 @@ impl Player {
     }
 }
 
-#[derive(Drop)]
+#[derive(Clone, Copy)]
 pub enum CellState {
     Empty,
     Played(Player),
 }
 
-#[derive(Drop)]
+#[derive(Clone, Copy)]
 pub enum GameState {
     InPlay,
     Drawn,
@@ -50,7 +52,7 @@ pub enum GameState {
 
 impl GameState {
     pub fn terminal(self) -> bool
-        ensures { result ≡ not (in-play self) }
+        ensures { result ≡ not (in_play self) }
     {
         match self {
             GameState::InPlay => false,
@@ -61,7 +63,7 @@ impl GameState {
 
     // The number that a list of numbers has for it.
     pub fn number(self) -> u64
-        ensures { result ≡ state-number self }
+        ensures { result ≡ state_number self }
     {
         match self {
             GameState::InPlay => 0,
@@ -75,7 +77,7 @@ impl GameState {
 }
 
 // The next board: free choice, or the one board that is due.
-#[derive(Drop)]
+#[derive(Clone, Copy)]
 pub enum NextBoard {
     Any,
     Only(u8),
@@ -94,7 +96,7 @@ impl NextBoard {
 
     // Whether no board is due.
     pub fn free_choice(self) -> bool
-        ensures { result ≡ free-choice self }
+        ensures { result ≡ is_free self }
     {
         match self {
             NextBoard::Any => true,
@@ -103,7 +105,7 @@ impl NextBoard {
     }
 
     pub fn same(self, rhs: NextBoard) -> bool
-        ensures { result ≡ same-next-board self rhs }
+        ensures { result ≡ same_next_board self rhs }
     {
         match self {
             NextBoard::Any => match rhs {
@@ -119,7 +121,7 @@ impl NextBoard {
 }
 
 // What a move did: the state of the board played in, and whether no board is due, both after it.
-#[derive(Drop)]
+#[derive(Clone, Copy)]
 pub struct Effect {
     pub board: GameState,
     pub free_choice: bool,
@@ -134,7 +136,7 @@ impl Effect {
 
     // The number of the board's state, and 4 more for a free choice.
     pub fn number(self) -> u64
-        ensures { result ≡ effect-number self }
+        ensures { result ≡ effect_number self }
     {
         let board = self.board;
         let state = board.number();
@@ -143,14 +145,14 @@ impl Effect {
 }
 
 // The side for which a drawn game counts as won, if any.
-#[derive(Drop)]
+#[derive(Clone, Copy)]
 pub enum DrawWinner {
     Nobody,
     Side(Player),
 }
 
 // What the evaluation gives for one place of a board's line, for two places, and for a won board.
-#[derive(Drop)]
+#[derive(Clone, Copy)]
 pub struct Weights {
     pub one: u16,
     pub two: u16,
@@ -168,7 +170,7 @@ impl Weights {
 
     // Whether none is over 1,000.
     pub fn are_accepted(self) -> bool
-        ensures { result ≡ accepted-weights self }
+        ensures { result ≡ accepted_weights self }
     {
         if self.one > Weights::MOST {
             return false;

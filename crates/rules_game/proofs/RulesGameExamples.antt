@@ -6,100 +6,100 @@ use Prim.Native.Nat.{ℕ}
 use lib.IntN.{ℤ, pos, negsuc}
 use lib.ListN.{set, replicate}
 use Rattle.base.specs.Branch.{if◌then◌else◌}
-use Rattle.base.specs.Lists.{any, all, filter, elem, concat-map}
+use Rattle.base.specs.Lists.{any, all, filter, elem, concat_map}
 use Rattle.base.specs.Update.{update}
-use Rattle.base.specs.Integers.{sum, maxZ}
+use Rattle.base.specs.Integers.{sum, max_z}
 use Rattle.rules.specs.declared.Player.TheVariants.{X, O}
 use Rattle.rules.specs.declared.CellState.{CellState}
 use Rattle.rules.specs.declared.CellState.TheVariants.{Empty, Played}
 use Rattle.rules.specs.declared.GameState.TheVariants.{InPlay, Won}
 use Rattle.rules.specs.declared.NextBoard.TheVariants.{Only}
-use Rattle.rules.specs.Board.{has-line, result}
+use Rattle.rules.specs.Board.{has_line, result_of}
 use Rattle.rules.specs.Position.{Position, start}
-use Rattle.base.specs.Checks.{all_pass, first-failed}
+use Rattle.base.specs.Checks.{all_pass, first_failed}
 use Rattle.rules.specs.Play.{no_move, accepts, after, play, left_by, tried}
 use Rattle.rules.specs.Moves.{places, moves}
-use Rattle.rules.specs.Hash.{cell-key, board-key, next-board-key, xors, cells-hash, board-hash, hash, with-turn, zobrist}
-use Rattle.rules.specs.Evaluation.{won, lost, places-in, unless-both, board-line}
-use Rattle.rules.specs.Evaluation.{board-score, overall-line, score, evaluate}
-use Rattle.rules.proofs.Examples.{by_default, by-others, position, second}
+use Rattle.rules.specs.Hash.{cell_key, board_key, next_board_key, xors, cells_hash, board_hash, hash, with_turn, zobrist}
+use Rattle.rules.specs.Evaluation.{won, lost, places_in, unless_both, board_line}
+use Rattle.rules.specs.Evaluation.{board_score, overall_line, score, evaluate}
+use Rattle.rules.proofs.Examples.{by_default, by_others, position, second}
 use Rattle.theory.specs.PlainMinimax.{best, plain}
-use Rattle.theory.specs.Table.{from-word, entry_of, off, begins, look_up, store, suffices, bound_of}
-use Rattle.theory.specs.Memory.{Tally, Memory, fresh-memory, begin, enter, leaf, hit, answered, cut, some-move, hints, counts}
-use Rattle.theory.specs.Memory.{no-responses}
-use Rattle.theory.specs.OrderedSearch.{unlimited, at_most, unless-stopped, entering, probed, on-probe, with-stored, set_first, fresh}
-use Rattle.theory.specs.OrderedSearch.{candidates, over-moves, search}
-use Rattle.theory.specs.Deepening.{Stats, Completed, nothing_yet, SearchAnswer, on-outcome, deepen, analyze}
-use Rattle.rules_game.specs.RulesGame.{game, plain-minimax}
+use Rattle.theory.specs.Table.{from_word, entry_of, off, begins, look_up, store, suffices, bound_of}
+use Rattle.theory.specs.Memory.{Tally, Memory, fresh_memory, begin, enter, leaf, hit, answered, cut, some_move, hints, counts}
+use Rattle.theory.specs.Memory.{no_responses}
+use Rattle.theory.specs.OrderedSearch.{unlimited, at_most, unless_stopped, entering, probed, on_probe, with_stored, set_first, fresh}
+use Rattle.theory.specs.OrderedSearch.{candidates, over_moves, search}
+use Rattle.theory.specs.Deepening.{Stats, Completed, nothing_yet, SearchAnswer, on_outcome, deepen, analyze}
+use Rattle.rules_game.specs.RulesGame.{game, plain_minimax}
 
 -- ---- what the facts compute with
 playing : Unit {0}
-unfolding moves places concat-map filter tried left_by play accepts all_pass all any first-failed after update result has-line if◌then◌else◌
+unfolding moves places concat_map filter tried left_by play accepts all_pass all any first_failed after update result_of has_line if◌then◌else◌
 playing = tt
 
 valuing : Unit {0}
-unfolding evaluate score board-score sum places-in unless-both board-line overall-line if◌then◌else◌
+unfolding evaluate score board_score sum places_in unless_both board_line overall_line if◌then◌else◌
 valuing = tt
 
 hashing : Unit {0}
-unfolding zobrist with-turn hash xors board-hash cells-hash cell-key board-key next-board-key if◌then◌else◌
+unfolding zobrist with_turn hash xors board_hash cells_hash cell_key board_key next_board_key if◌then◌else◌
 hashing = tt
 
 remembering : Unit {0}
-unfolding begin enter leaf hit answered cut some-move hints probed on-probe with-stored set_first from-word entry_of off begins look_up
+unfolding begin enter leaf hit answered cut some_move hints probed on_probe with_stored set_first from_word entry_of off begins look_up
     store suffices bound_of if◌then◌else◌
 remembering = tt
 
 searching : Unit {0}
-unfolding analyze deepen on-outcome search entering unless-stopped over-moves candidates fresh elem remembering playing valuing hashing
+unfolding analyze deepen on_outcome search entering unless_stopped over_moves candidates fresh elem remembering playing valuing hashing
 searching = tt
 
 -- stopped or not, the completed depths, and the memory that is left
 abbrev gives : Bool → Completed → Memory → SearchAnswer
-gives stopped w s = record { is-stopped = stopped; completed = w; memory = s }
+gives stopped w s = record { is_stopped = stopped; completed = w; memory = s }
 
-abbrev at-depth : ℕ → ℤ → Tally → Stats
-at-depth d r t = record { depth = d; score = r; tally = t }
+abbrev at_depth : ℕ → ℤ → Tally → Stats
+at_depth d r t = record { depth = d; score = r; tally = t }
 
 abbrev none_yet : List ℕ
-none_yet = no-responses.to-x
+none_yet = no_responses.to_x
 
 abbrev no_table : Memory
-no_table = fresh-memory no-responses []
+no_table = fresh_memory no_responses []
 
 abbrev counted : ℕ → Tally → Memory
-counted n t = record { count = n; tally = t; responses = no-responses; table = [] }
+counted n t = record { count = n; tally = t; responses = no_responses; table = [] }
 
 -- ---- the empty board
-abbrev one-depth : Completed
-one-depth = record { depth = 1; score = pos 16; pv = 0x44 ∷ []; stats = at-depth 1 (pos 16) (counts 82 81 0 0 0) ∷ [] }
+abbrev one_depth : Completed
+one_depth = record { depth = 1; score = pos 16; pv = 0x44 ∷ []; stats = at_depth 1 (pos 16) (counts 82 81 0 0 0) ∷ [] }
 
 -- depth 1: the best of 81 moves is the centre
-pub empty-board : analyze (game by_default) unlimited 1 start no_table ≡ gives false one-depth (counted 82 (counts 82 81 0 0 0))
+pub empty_board : analyze (game by_default) unlimited 1 start no_table ≡ gives false one_depth (counted 82 (counts 82 81 0 0 0))
 unfolding searching
-empty-board = refl
+empty_board = refl
 
 -- 82 positions are just enough for depth 1, and one less is not
-pub just_enough : analyze (game by_default) (at_most 82) 1 start no_table ≡ gives false one-depth (counted 82 (counts 82 81 0 0 0))
+pub just_enough : analyze (game by_default) (at_most 82) 1 start no_table ≡ gives false one_depth (counted 82 (counts 82 81 0 0 0))
 unfolding searching
 just_enough = refl
 
-pub one-short : analyze (game by_default) (at_most 81) 1 start no_table ≡ gives true nothing_yet (counted 81 (counts 81 80 0 0 0))
+pub one_short : analyze (game by_default) (at_most 81) 1 start no_table ≡ gives true nothing_yet (counted 81 (counts 81 80 0 0 0))
 unfolding searching
-one-short = refl
+one_short = refl
 
 -- nor are they for depth 2: its root is one too many
-pub one-depth-whole : analyze (game by_default) (at_most 82) 2 start no_table ≡ gives true one-depth (counted 82 (counts 0 0 0 0 0))
+pub one_depth_whole : analyze (game by_default) (at_most 82) 2 start no_table ≡ gives true one_depth (counted 82 (counts 0 0 0 0 0))
 unfolding searching
-one-depth-whole = refl
+one_depth_whole = refl
 
 -- ---- X;XX@......; and XXX....../XXX....../XX......., the other boards empty: won at depth 1, which ends the search, with all seven moves
 -- tried
-pub second-won : analyze (game by_default) unlimited 3 second no_table
-    ≡ gives false (record { depth = 1; score = won; pv = 0x22 ∷ []; stats = at-depth 1 won (counts 8 7 0 0 0) ∷ [] })
+pub second_won : analyze (game by_default) unlimited 3 second no_table
+    ≡ gives false (record { depth = 1; score = won; pv = 0x22 ∷ []; stats = at_depth 1 won (counts 8 7 0 0 0) ∷ [] })
     (counted 8 (counts 8 7 0 0 0))
 unfolding searching second position
-second-won = refl
+second_won = refl
 
 -- ---- X;.X.OO@OX.; and X..X.XO.X/.XXXXOXOO/OOXXXO.XO/OOO.OO.O./OOOX.X.OO/.XXXO.XOX/OOOXXOXO./.OXXX.X.X/.OOXX.OOX
 abbrev x : CellState
@@ -124,52 +124,52 @@ late = position X (Only 5) (InPlay ∷ Won X ∷ InPlay ∷ Won O ∷ Won O ∷ 
     (e ∷ o ∷ o ∷ x ∷ x ∷ e ∷ o ∷ o ∷ x ∷ []) ∷ [])
 
 -- responses: to 0x26 one in a closed board, to 0x07 one in no board, and to the root's empty move a legal one, which is tried first
-pub illegal-responses :
+pub illegal_responses :
     analyze (game by_default) unlimited 4 late
-    (fresh-memory (record { to-x = set (set none_yet 0x55 0x80) 0x26 0x13; to-o = set (set none_yet 0x07 0x99) no_move 0x55 }) [])
+    (fresh_memory (record { to_x = set (set none_yet 0x55 0x80) 0x26 0x13; to_o = set (set none_yet 0x07 0x99) no_move 0x55 }) [])
     ≡ gives false (record {
       depth = 4;
       score = lost;
       pv = 0x55 ∷ 0x02 ∷ 0x26 ∷ 0x04 ∷ [];
       stats =
-          at-depth 1 (negsuc 17) (counts 3 2 0 0 0) ∷ at-depth 2 (negsuc 44) (counts 14 11 0 0 0) ∷
-          at-depth 3 (pos 32) (counts 39 25 7 0 0) ∷ at-depth 4 lost (counts 46 24 9 0 0) ∷ [];
+          at_depth 1 (negsuc 17) (counts 3 2 0 0 0) ∷ at_depth 2 (negsuc 44) (counts 14 11 0 0 0) ∷
+          at_depth 3 (pos 32) (counts 39 25 7 0 0) ∷ at_depth 4 lost (counts 46 24 9 0 0) ∷ [];
     })
     (record {
       count = 102;
       tally = counts 46 24 9 0 0;
       responses = record {
-        to-x = set (set (set (set (set none_yet 0x04 0x26) 0x07 0x26) 0x26 0x04) 0x50 0x02) 0x55 0x80;
-        to-o = set (set (set (set (set (set (set none_yet 0x01 0x02) 0x02 0x26) 0x04 0x26) 0x07 0x02) 0x26 0x02) 0x85 0x02) no_move 0x55;
+        to_x = set (set (set (set (set none_yet 0x04 0x26) 0x07 0x26) 0x26 0x04) 0x50 0x02) 0x55 0x80;
+        to_o = set (set (set (set (set (set (set none_yet 0x01 0x02) 0x02 0x26) 0x04 0x26) 0x07 0x02) 0x26 0x02) 0x85 0x02) no_move 0x55;
       };
       table = [];
     })
 unfolding searching late position
-illegal-responses = refl
+illegal_responses = refl
 
 -- under other weights: plain minimax and the search score by them
-pub by-other-weights : (plain-minimax by-others 1 late ≡ negsuc 1719) ×
-    ((analyze (game by-others) unlimited 1 late no_table).completed.score ≡ negsuc 1719)
-unfolding searching late position plain best maxZ
-by-other-weights = (refl, refl)
+pub by_other_weights : (plain_minimax by_others 1 late ≡ negsuc 1719) ×
+    ((analyze (game by_others) unlimited 1 late no_table).completed.score ≡ negsuc 1719)
+unfolding searching late position plain best max_z
+by_other_weights = (refl, refl)
 
 -- a table of seven entries, all zero: some positions are hit, and some of the hits suffice
 pub table_on :
-    analyze (game by_default) unlimited 4 late (fresh-memory no-responses (replicate 21 0))
+    analyze (game by_default) unlimited 4 late (fresh_memory no_responses (replicate 21 0))
     ≡ gives false (record {
       depth = 4;
       score = lost;
       pv = 0x50 ∷ 0x02 ∷ 0x26 ∷ 0x04 ∷ [];
       stats =
-          at-depth 1 (negsuc 17) (counts 3 2 0 0 0) ∷ at-depth 2 (negsuc 44) (counts 8 5 1 1 0) ∷
-          at-depth 3 (pos 32) (counts 17 9 4 4 1) ∷ at-depth 4 lost (counts 38 18 9 8 2) ∷ [];
+          at_depth 1 (negsuc 17) (counts 3 2 0 0 0) ∷ at_depth 2 (negsuc 44) (counts 8 5 1 1 0) ∷
+          at_depth 3 (pos 32) (counts 17 9 4 4 1) ∷ at_depth 4 lost (counts 38 18 9 8 2) ∷ [];
     })
     (record {
       count = 66;
       tally = counts 38 18 9 8 2;
       responses = record {
-        to-x = set (set (set (set (set (set none_yet 0x01 0x26) 0x07 0x26) 0x26 0x01) 0x55 0x02) 0x80 0x01) 0x85 0x01;
-        to-o = set (set (set none_yet 0x01 0x02) 0x02 0x26) 0x07 0x26;
+        to_x = set (set (set (set (set (set none_yet 0x01 0x26) 0x07 0x26) 0x26 0x01) 0x55 0x02) 0x80 0x01) 0x85 0x01;
+        to_o = set (set (set none_yet 0x01 0x02) 0x02 0x26) 0x07 0x26;
       };
       table =
           1187711115264183895 ∷ 23 ∷ 131074 ∷ 17237872460323169796 ∷ 17293822569102704640 ∷ 2490626 ∷

@@ -23,9 +23,9 @@ game sc = record {
 }
 
 -- plain minimax of a position
-abbrev pub plain-minimax : Scoring → ℕ → Position → ℤ
-plain-minimax sc d p = plain (game sc) d p
+abbrev pub plain_minimax : Scoring → ℕ → Position → ℤ
+plain_minimax sc d p = plain (game sc) d p
 
 -- the score, for the side to move, of a game that w wins
-abbrev pub win-for : Player → Position → ℤ
-win-for w p = seen_by p.turn (seen_by w won)
+abbrev pub win_for : Player → Position → ℤ
+win_for w p = seen_by p.turn (seen_by w won)

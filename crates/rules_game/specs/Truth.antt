@@ -5,13 +5,13 @@ use Rattle.rules.specs.declared.Weights.{Weights}
 use Rattle.rules.specs.Position.{Position}
 use Rattle.rules.specs.Status.{allows, alone}
 use Rattle.rules.specs.Endgame.{analysis}
-use Rattle.rules.specs.Evaluation.{no-draw-winner}
-use Rattle.rules_game.specs.RulesGame.{plain-minimax, win-for}
+use Rattle.rules.specs.Evaluation.{no_draw_winner}
+use Rattle.rules_game.specs.RulesGame.{plain_minimax, win_for}
 
 pub record StatusTells (weights : Weights) (p : Position) : Type 0 where
   -- a side that it leaves alone, without a draw, wins at every depth of three or more
-  pub alone-wins : (w : Player) → T (alone (analysis p).status w) → (d : ℕ) → 3 ≤ d →
-      plain-minimax (no-draw-winner weights) d p ≡ win-for w p
+  pub alone_wins : (w : Player) → T (alone (analysis p).status w) → (d : ℕ) → 3 ≤ d →
+      plain_minimax (no_draw_winner weights) d p ≡ win_for w p
   -- a side that it leaves out wins at no depth
-  pub left-out-never : (w : Player) → T (not (allows (analysis p).status w)) → (d : ℕ) →
-      plain-minimax (no-draw-winner weights) d p ≡ win-for w p → ⊥
+  pub left_out_never : (w : Player) → T (not (allows (analysis p).status w)) → (d : ℕ) →
+      plain_minimax (no_draw_winner weights) d p ≡ win_for w p → ⊥

@@ -7,56 +7,56 @@ use lib.Bits.{bit_and, and_mask, and_step}
 use lib.Dec.{eqb, eqb→eq}
 use Rattle.base.specs.Branch.{if◌then◌else◌}
 use Rattle.base.specs.Bits.{bit}
-use Rattle.base.proofs.BitsOperations.{bit-low, bit-suc}
+use Rattle.base.proofs.BitsOperations.{bit_low, bit_suc}
 use Rattle.base.proofs.Bool.{always}
 use Rattle.rules.specs.Status.{Status, as_byte, from_byte, merge}
-use Rattle.rules.proofs.Status.{from-byte-none}
+use Rattle.rules.proofs.Status.{from_byte_none}
 use Rattle.status.specs.declared.Read.TheVariants.{Set, Nothing}
 use Rattle.status.specs.Sets.{read_of}
 
 -- a byte over 7 is no set's
-pub over-7-is-nothing : (v : ℕ) → 8 ≤ v → Nothing ≡ read_of (from_byte v)
-over-7-is-nothing v h = sym (ap read_of (from-byte-none v h))
+pub over_7_is_nothing : (v : ℕ) → 8 ≤ v → Nothing ≡ read_of (from_byte v)
+over_7_is_nothing v h = sym (ap read_of (from_byte_none v h))
 
 -- of the others all but 0 and 3 are
-pub byte-is-set : (v : ℕ) → v < 8 → (v ≡ 0 → ⊥) → (v ≡ 3 → ⊥) → Set (record { bits = v }) ≡ read_of (from_byte v)
+pub byte_is_set : (v : ℕ) → v < 8 → (v ≡ 0 → ⊥) → (v ≡ 3 → ⊥) → Set (record { bits = v }) ≡ read_of (from_byte v)
 unfolding from_byte if◌then◌else◌
-byte-is-set zero h n m = absurd (n refl)
-byte-is-set (suc zero) h n m = refl
-byte-is-set (suc (suc zero)) h n m = refl
-byte-is-set (suc (suc (suc zero))) h n m = absurd (m refl)
-byte-is-set (suc (suc (suc (suc zero)))) h n m = refl
-byte-is-set (suc (suc (suc (suc (suc zero))))) h n m = refl
-byte-is-set (suc (suc (suc (suc (suc (suc zero)))))) h n m = refl
-byte-is-set (suc (suc (suc (suc (suc (suc (suc zero))))))) h n m = refl
-byte-is-set (suc (suc (suc (suc (suc (suc (suc (suc v)))))))) h n m = absurd (omega arith)
+byte_is_set zero h n m = absurd (n refl)
+byte_is_set (suc zero) h n m = refl
+byte_is_set (suc (suc zero)) h n m = refl
+byte_is_set (suc (suc (suc zero))) h n m = absurd (m refl)
+byte_is_set (suc (suc (suc (suc zero)))) h n m = refl
+byte_is_set (suc (suc (suc (suc (suc zero))))) h n m = refl
+byte_is_set (suc (suc (suc (suc (suc (suc zero)))))) h n m = refl
+byte_is_set (suc (suc (suc (suc (suc (suc (suc zero))))))) h n m = refl
+byte_is_set (suc (suc (suc (suc (suc (suc (suc (suc v)))))))) h n m = absurd (omega arith)
 
 -- a byte and the mask of its lowest bit, or of the next, is not 0 exactly where that bit is set
-one-or-none : (d : ℕ) → d < 2 → not (eqb d 0) ≡ eqb d 1
-one-or-none zero h = refl
-one-or-none (suc zero) h = refl
-one-or-none (suc (suc d)) h = absurd (omega arith)
+one_or_none : (d : ℕ) → d < 2 → not (eqb d 0) ≡ eqb d 1
+one_or_none zero h = refl
+one_or_none (suc zero) h = refl
+one_or_none (suc (suc d)) h = absurd (omega arith)
 
-twice-or-none : (d : ℕ) → d < 2 → not (eqb (d * 2 + 0) 0) ≡ eqb d 1
-twice-or-none zero h = refl
-twice-or-none (suc zero) h = refl
-twice-or-none (suc (suc d)) h = absurd (omega arith)
+twice_or_none : (d : ℕ) → d < 2 → not (eqb (d * 2 + 0) 0) ≡ eqb d 1
+twice_or_none zero h = refl
+twice_or_none (suc zero) h = refl
+twice_or_none (suc (suc d)) h = absurd (omega arith)
 
-pub lowest-bit-test : (n : ℕ) → not (eqb (bit_and n 1) 0) ≡ bit n 0
-lowest-bit-test n = ap (λ (d : ℕ). not (eqb d 0)) (and_mask n 1) ∙ one-or-none (n % 2) (omega arith) ∙ sym (bit-low n)
+pub lowest_bit_test : (n : ℕ) → not (eqb (bit_and n 1) 0) ≡ bit n 0
+lowest_bit_test n = ap (λ (d : ℕ). not (eqb d 0)) (and_mask n 1) ∙ one_or_none (n % 2) (omega arith) ∙ sym (bit_low n)
 
-pub next-bit-test : (n : ℕ) → not (eqb (bit_and n 2) 0) ≡ bit n 1
-next-bit-test n =
-    ap (λ (d : ℕ). not (eqb d 0)) (and_step n 2 ∙ ap₂ (λ (x y : ℕ). x * 2 + y) (and_mask (n / 2) 1) (min-zero (n % 2)))
-    ∙ twice-or-none (n / 2 % 2) (omega arith) ∙ sym (bit-suc n 0 ∙ bit-low (n / 2))
+pub next_bit_test : (n : ℕ) → not (eqb (bit_and n 2) 0) ≡ bit n 1
+next_bit_test n =
+    ap (λ (d : ℕ). not (eqb d 0)) (and_step n 2 ∙ ap₂ (λ (x y : ℕ). x * 2 + y) (and_mask (n / 2) 1) (min_zero (n % 2)))
+    ∙ twice_or_none (n / 2 % 2) (omega arith) ∙ sym (bit_suc n 0 ∙ bit_low (n / 2))
   where
-    min-zero : (d : ℕ) → min d 0 ≡ 0
-    min-zero d = omega arith
+    min_zero : (d : ℕ) → min d 0 ≡ 0
+    min_zero d = omega arith
 
 -- the bytes of two sets have the byte of their common part in common
-pub bytes-in-common : (s t : Status) → bit_and (as_byte s) (as_byte t) ≡ as_byte
+pub bytes_in_common : (s t : Status) → bit_and (as_byte s) (as_byte t) ≡ as_byte
     (record { x = s.x && t.x; o = s.o && t.o; draw = s.draw && t.draw })
-bytes-in-common s t = eqb→eq _ _ (always 6 common tt s.x s.o s.draw t.x t.o t.draw)
+bytes_in_common s t = eqb→eq _ _ (always 6 common tt s.x s.o s.draw t.x t.o t.draw)
   where
     common : Bool → Bool → Bool → Bool → Bool → Bool → Bool
     common a b c d e f =
@@ -64,6 +64,6 @@ bytes-in-common s t = eqb→eq _ _ (always 6 common tt s.x s.o s.draw t.x t.o t.
         (as_byte (record { x = a && d; o = b && e; draw = c && f }))
 
 -- so merging two sets is document 01's merge
-pub merge-is-common : (s t : Status) → from_byte (bit_and (as_byte s) (as_byte t)) ≡ merge s t
+pub merge_is_common : (s t : Status) → from_byte (bit_and (as_byte s) (as_byte t)) ≡ merge s t
 unfolding merge
-merge-is-common s t = ap from_byte (bytes-in-common s t)
+merge_is_common s t = ap from_byte (bytes_in_common s t)

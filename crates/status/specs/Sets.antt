@@ -3,26 +3,26 @@ use Rattle.std.specs.Prelude.{true, false, ℕ}
 use Rattle.std.proofs.Math.Option.{Option, none, some}
 use Rattle.rules.specs.declared.Player.{Player}
 use Rattle.base.specs.Bits.{bit}
-use Rattle.rules.specs.Status.{Status as Set, for-player, as_byte}
+use Rattle.rules.specs.Status.{Status as Set, for_player, as_byte}
 use Rattle.status.specs.declared.Status.{Status}
 use Rattle.status.specs.declared.Read.{Read}
 use Rattle.status.specs.declared.Read.TheVariants.{Set as IsSet, Nothing}
 
 -- the low three bits: X wins, O wins, draw
-abbrev pub set-of : Status → Set
-set-of s = record { x = bit s.bits 0; o = bit s.bits 1; draw = bit s.bits 2 }
+abbrev pub set_of : Status → Set
+set_of s = record { x = bit s.bits 0; o = bit s.bits 1; draw = bit s.bits 2 }
 
-abbrev pub status-of : Set → Status
-status-of s = record { bits = as_byte s }
+abbrev pub status_of : Set → Status
+status_of s = record { bits = as_byte s }
 
-abbrev pub only-draw : Set
-only-draw = record { x = false; o = false; draw = true }
+abbrev pub only_draw : Set
+only_draw = record { x = false; o = false; draw = true }
 
 -- document 01's "or none"
 abbrev pub read_of : Option Set → Read
 read_of none = Nothing
-read_of (some s) = IsSet (status-of s)
+read_of (some s) = IsSet (status_of s)
 
 -- the byte of a set that holds a side alone
-abbrev pub won-byte : Player → ℕ
-won-byte w = as_byte (for-player w)
+abbrev pub won_byte : Player → ℕ
+won_byte w = as_byte (for_player w)

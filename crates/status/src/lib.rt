@@ -1,10 +1,12 @@
 // The set of the results that are left: X wins, O wins, draw.
 // Ported from src/lib/prove.rs of nelhage/ultimattt at commit 87ef0d9c7c (Apache-2.0, see NOTICE), changed: `Status` only, and an enum for
 // `Option`.
+#![tactic(auto)]
+
 ghost use Rattle.std.specs.Prelude.{◌≡◌, eqb};
 ghost use Rattle.std.specs.Int.Bits.{bit_and};
-ghost use Rattle.rules.specs.Status.{unproven, for-player, draw-or-other, allows, from_byte};
-ghost use Rattle.status.specs.Sets.{set-of, only-draw, status-of, read_of, won-byte};
+ghost use Rattle.rules.specs.Status.{unproven, for_player, draw_or_other, allows, from_byte};
+ghost use Rattle.status.specs.Sets.{set_of, only_draw, status_of, read_of, won_byte};
 
 use rules::Player;
 
@@ -16,13 +18,13 @@ const MAYBE_DRAW: u8 = 0b0100;
 
 const VALID_BITS: u8 = 0b0111;
 
-#[derive(Drop)]
+#[derive(Clone, Copy)]
 pub struct Status {
     pub bits: u8,
 }
 
 // What a byte, or the common part of two sets, is read as.
-#[derive(Drop)]
+#[derive(Clone, Copy)]
 pub enum Read {
     Set(Status),
     Nothing,
@@ -35,31 +37,31 @@ impl Status {
 
     // Nothing is proved: the full set.
     pub fn unproven() -> Status
-        ensures { result ≡ status-of unproven }
+        ensures { result ≡ status_of unproven }
     {
         Status::UNPROVEN
     }
 
     pub fn x() -> Status
-        ensures { result ≡ status-of (for-player Player.X) }
+        ensures { result ≡ status_of (for_player Player.X) }
     {
         Status { bits: MAYBE_X }
     }
 
     pub fn o() -> Status
-        ensures { result ≡ status-of (for-player Player.O) }
+        ensures { result ≡ status_of (for_player Player.O) }
     {
         Status { bits: MAYBE_O }
     }
 
     pub fn draw() -> Status
-        ensures { result ≡ status-of only-draw }
+        ensures { result ≡ status_of only_draw }
     {
         Status { bits: MAYBE_DRAW }
     }
 
     pub fn draw_or_x() -> Status
-        ensures { result ≡ status-of (draw-or-other Player.O) }
+        ensures { result ≡ status_of (draw_or_other Player.O) }
     {
         Status {
             bits: MAYBE_DRAW | MAYBE_X,
@@ -67,7 +69,7 @@ impl Status {
     }
 
     pub fn draw_or_o() -> Status
-        ensures { result ≡ status-of (draw-or-other Player.X) }
+        ensures { result ≡ status_of (draw_or_other Player.X) }
     {
         Status {
             bits: MAYBE_DRAW | MAYBE_O,
@@ -75,7 +77,7 @@ impl Status {
     }
 
     pub fn for_player(player: Player) -> Status
-        ensures { result ≡ status-of (for-player player) }
+        ensures { result ≡ status_of (for_player player) }
     {
         match player {
             Player::X => Status::x(),
@@ -110,7 +112,7 @@ impl Status {
     }
 
     pub fn is_winnable(self, who: Player) -> bool
-        ensures { result ≡ allows (set-of self) who }
+        ensures { result ≡ allows (set_of self) who }
     {
         match who {
             Player::X => self.bits & MAYBE_X != 0,
@@ -119,7 +121,7 @@ impl Status {
     }
 
     pub fn is_won(self, who: Player) -> bool
-        ensures { result ≡ eqb self.bits (won-byte who) }
+        ensures { result ≡ eqb self.bits (won_byte who) }
     {
         match who {
             Player::X => self.bits == MAYBE_X,

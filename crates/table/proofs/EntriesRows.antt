@@ -11,14 +11,14 @@ use lib.ListN.{length, get_or, set, length-set}
 use lib.Seq.{get_or-set_same, get_or-set_other}
 use borrow.Author.Tests.{eq-eqb, ne_eqb}
 use Rattle.base.specs.Branch.{if◌then◌else◌}
-use Rattle.base.proofs.Branch.{if-ind}
+use Rattle.base.proofs.Branch.{if_ind}
 use Rattle.theory.specs.Table.{Entry, to_word, rest_of, entry_of, off, begins, look_up, replaces, store}
-use Rattle.table.proofs.EntriesWords.{Kept, entry-back}
+use Rattle.table.proofs.EntriesWords.{Kept, entry_back}
 
 -- an entry's three words are within the row
-pub begins-within : (n h : ℕ) → 3 ≤ n → begins n h + 2 < n
+pub begins_within : (n h : ℕ) → 3 ≤ n → begins n h + 2 < n
 unfolding begins
-begins-within n h k = omega (arith, mod-lt h {m = n / 3} (omega arith))
+begins_within n h k = omega (arith, mod-lt h {m = n / 3} (omega arith))
 
 -- the entry whose words begin at i, whichever position's it is
 abbrev pub held_at : List ℕ → ℕ → Option Entry
@@ -29,62 +29,62 @@ written words i h e = set (set (set words i h) (i + 1) (to_word e.value)) (i + 2
 
 -- ---- a table that is off: nothing is found, and a store leaves the row as it is
 module _ (words : List ℕ) (h : ℕ) (k : length words < 3) where
-  pub look-up-off : look_up words h ≡ none
+  pub look_up_off : look_up words h ≡ none
   unfolding look_up off
-  look-up-off =
-      if-ind (λ (o : Option Entry). o ≡ none) (ltb (length words) 3) _ _ (λ _. refl)
+  look_up_off =
+      if_ind (λ (o : Option Entry). o ≡ none) (ltb (length words) 3) _ _ (λ _. refl)
       (λ t. absurd (omega (arith, nltb→le (length words) 3 t)))
 
-  pub store-off : (e : Entry) → store words h e ≡ words
+  pub store_off : (e : Entry) → store words h e ≡ words
   unfolding store off
-  store-off e =
-      if-ind (λ (l : List ℕ). l ≡ words) (ltb (length words) 3) _ _ (λ _. refl)
+  store_off e =
+      if_ind (λ (l : List ℕ). l ≡ words) (ltb (length words) 3) _ _ (λ _. refl)
       (λ t. absurd (omega (arith, nltb→le (length words) 3 t)))
 
 -- ---- one that is on, where the words of a hash begin at i
 module _ (words : List ℕ) (h i : ℕ) (k : 3 ≤ length words) (at : i ≡ begins (length words) h) where
-  look-up-on : look_up words h ≡ (if eqb (get_or words i 0) h then (λ _. held_at words i) else λ _. none)
+  look_up_on : look_up words h ≡ (if eqb (get_or words i 0) h then (λ _. held_at words i) else λ _. none)
   unfolding look_up off
-  look-up-on =
-      if-ind (λ (o : Option Entry). o ≡ (if eqb (get_or words i 0) h then (λ _. held_at words i) else λ _. none)) (ltb (length words) 3)
+  look_up_on =
+      if_ind (λ (o : Option Entry). o ≡ (if eqb (get_or words i 0) h then (λ _. held_at words i) else λ _. none)) (ltb (length words) 3)
       _ _
       (λ t. absurd (omega (arith, ltb→lt (length words) 3 t)))
       (λ _. ap (λ (j : ℕ). if eqb (get_or words j 0) h then (λ _. held_at words j) else λ _. none) (sym at))
 
   -- another position's entry is not taken
-  pub look-up-other : (get_or words i 0 ≡ h → ⊥) → look_up words h ≡ none
+  pub look_up_other : (get_or words i 0 ≡ h → ⊥) → look_up words h ≡ none
   unfolding if◌then◌else◌
-  look-up-other f = look-up-on ∙ rw (ne_eqb (get_or words i 0) h f)
+  look_up_other f = look_up_on ∙ rw (ne_eqb (get_or words i 0) h f)
 
-  pub look-up-same : get_or words i 0 ≡ h → look_up words h ≡ held_at words i
+  pub look_up_same : get_or words i 0 ≡ h → look_up words h ≡ held_at words i
   unfolding if◌then◌else◌
-  look-up-same p = look-up-on ∙ rw (eq-eqb (get_or words i 0) h p)
+  look_up_same p = look_up_on ∙ rw (eq-eqb (get_or words i 0) h p)
 
   module _ (e : Entry) where
-    store-on : store words h e ≡ (if replaces e.depth (held_at words i) then (λ _. written words i h e) else λ _. words)
+    store_on : store words h e ≡ (if replaces e.depth (held_at words i) then (λ _. written words i h e) else λ _. words)
     unfolding store off
-    store-on =
-        if-ind (λ (l : List ℕ). l ≡ (if replaces e.depth (held_at words i) then (λ _. written words i h e) else λ _. words))
+    store_on =
+        if_ind (λ (l : List ℕ). l ≡ (if replaces e.depth (held_at words i) then (λ _. written words i h e) else λ _. words))
         (ltb (length words) 3) _ _
         (λ t. absurd (omega (arith, ltb→lt (length words) 3 t)))
         (λ _. ap (λ (j : ℕ). if replaces e.depth (held_at words j) then (λ _. written words j h e) else λ _. words) (sym at))
 
-    pub store-refused : replaces e.depth (held_at words i) ≡ false → store words h e ≡ words
+    pub store_refused : replaces e.depth (held_at words i) ≡ false → store words h e ≡ words
     unfolding if◌then◌else◌
-    store-refused r = store-on ∙ rw r
+    store_refused r = store_on ∙ rw r
 
-    pub store-taken : replaces e.depth (held_at words i) ≡ true → store words h e ≡ written words i h e
+    pub store_taken : replaces e.depth (held_at words i) ≡ true → store words h e ≡ written words i h e
     unfolding if◌then◌else◌
-    store-taken r = store-on ∙ rw r
+    store_taken r = store_on ∙ rw r
 
     -- the same, where the two words are known by equations
     pub store_wrote : (v r : ℕ) → v ≡ to_word e.value → r ≡ rest_of e → replaces e.depth (held_at words i) ≡ true →
         set (set (set words i h) (i + 1) v) (i + 2) r ≡ store words h e
-    store_wrote v r p q t = ap₂ (λ (x y : ℕ). set (set (set words i h) (i + 1) x) (i + 2) y) p q ∙ sym (store-taken t)
+    store_wrote v r p q t = ap₂ (λ (x y : ℕ). set (set (set words i h) (i + 1) x) (i + 2) y) p q ∙ sym (store_taken t)
 
 -- ---- the one after the other
-pub written-length : (words : List ℕ) (i h : ℕ) (e : Entry) → length (written words i h e) ≡ length words
-written-length words i h e = simp length-set
+pub written_length : (words : List ℕ) (i h : ℕ) (e : Entry) → length (written words i h e) ≡ length words
+written_length words i h e = simp length-set
 
 module _ (words : List ℕ) (i h : ℕ) (e : Entry) (k : i + 2 < length words) where
   first_word : get_or (written words i h e) i 0 ≡ h
@@ -98,21 +98,21 @@ module _ (words : List ℕ) (i h : ℕ) (e : Entry) (k : i + 2 < length words) w
       get_or-set_other (set (set words i h) (i + 1) (to_word e.value)) (i + 2) (i + 1) (rest_of e) 0 (λ p. omega arith)
       ∙ get_or-set_same (set words i h) (i + 1) (to_word e.value) 0 (simp length-set (omega arith))
 
-  third-word : get_or (written words i h e) (i + 2) 0 ≡ rest_of e
-  third-word = get_or-set_same (set (set words i h) (i + 1) (to_word e.value)) (i + 2) (rest_of e) 0 (simp length-set (omega arith))
+  third_word : get_or (written words i h e) (i + 2) 0 ≡ rest_of e
+  third_word = get_or-set_same (set (set words i h) (i + 1) (to_word e.value)) (i + 2) (rest_of e) 0 (simp length-set (omega arith))
 
   -- what is written at a hash's slot is found there
   found : 3 ≤ length words → i ≡ begins (length words) h → Kept e → look_up (written words i h e) h ≡ some e
   found l at f =
       let w = written words i h e in
-      let n : length w ≡ length words = written-length words i h e in
-      look-up-same w h i (omega arith) (at ∙ ap (λ (m : ℕ). begins m h) (sym n)) first_word
-      ∙ ap₂ entry_of second_word third-word
-      ∙ entry-back e f
+      let n : length w ≡ length words = written_length words i h e in
+      look_up_same w h i (omega arith) (at ∙ ap (λ (m : ℕ). begins m h) (sym n)) first_word
+      ∙ ap₂ entry_of second_word third_word
+      ∙ entry_back e f
 
 -- an entry that was stored is found
-pub look-up-stored : (words : List ℕ) (h : ℕ) (e : Entry) → 3 ≤ length words → Kept e →
+pub look_up_stored : (words : List ℕ) (h : ℕ) (e : Entry) → 3 ≤ length words → Kept e →
     replaces e.depth (held_at words (begins (length words) h)) ≡ true → look_up (store words h e) h ≡ some e
-look-up-stored words h e k f r =
+look_up_stored words h e k f r =
     let i = begins (length words) h in
-    ap (λ (w : List ℕ). look_up w h) (store-taken words h i k refl e r) ∙ found words i h e (begins-within (length words) h k) k refl f
+    ap (λ (w : List ℕ). look_up w h) (store_taken words h i k refl e r) ∙ found words i h e (begins_within (length words) h k) k refl f

@@ -10,57 +10,57 @@ use lib.Signed.{mag, le_z, lt_z, ◌≤ℤ◌, ◌<ℤ◌, clash_ℤ}
 use mir.Syntax.{w64}
 use mir.Val.{SFits}
 use Rattle.base.proofs.Bool.{and→, →and}
-use Rattle.base.proofs.Branch.{if-ind}
-use Rattle.base.proofs.Integers.{hi, lo, hi-le, lo-le, zarith}
+use Rattle.base.proofs.Branch.{if_ind}
+use Rattle.base.proofs.Integers.{hi, lo, hi_le, lo_le, zarith}
 use Rattle.base.proofs.Signed.{reads, negative, natural}
 use Rattle.theory.specs.PlainMinimax.{lowest, highest}
-use Rattle.theory.specs.Table.{Entry, from-word, to_word, rest_of, entry_of}
+use Rattle.theory.specs.Table.{Entry, from_word, to_word, rest_of, entry_of}
 use Rattle.table.specs.declared.Bound.{Bound}
 use Rattle.table.specs.declared.Bound.TheVariants.{Exact, AtLeast, AtMost}
-use Rattle.table.specs.Entries.{bound-number}
+use Rattle.table.specs.Entries.{bound_number}
 
 -- ---- values
 module _ (z : ℤ) (f : SFits w64 z) where
-  pub negative-word : lt_z (reads z) (pos 0) ≡ true → 18446744073709551615 - mag z ≡ to_word z
-  negative-word e = subst (λ (y : ℤ). 18446744073709551615 - mag y ≡ to_word y) (sym (negative z f e)) refl
+  pub negative_word : lt_z (reads z) (pos 0) ≡ true → 18446744073709551615 - mag z ≡ to_word z
+  negative_word e = subst (λ (y : ℤ). 18446744073709551615 - mag y ≡ to_word y) (sym (negative z f e)) refl
 
-  pub natural-word : lt_z (reads z) (pos 0) ≡ false → nat_abs z ≡ to_word z
-  natural-word e = subst (λ (y : ℤ). nat_abs y ≡ to_word y) (sym (natural z f e)) refl
+  pub natural_word : lt_z (reads z) (pos 0) ≡ false → nat_abs z ≡ to_word z
+  natural_word e = subst (λ (y : ℤ). nat_abs y ≡ to_word y) (sym (natural z f e)) refl
 
-pub value_low : (w : ℕ) → w < 9223372036854775808 → from-word w ≡ pos w
-unfolding from-word
+pub value_low : (w : ℕ) → w < 9223372036854775808 → from_word w ≡ pos w
+unfolding from_word
 value_low w h =
-    if-ind (λ (z : ℤ). z ≡ pos w) (ltb w 9223372036854775808) _ _ (λ _. refl)
+    if_ind (λ (z : ℤ). z ≡ pos w) (ltb w 9223372036854775808) _ _ (λ _. refl)
     (λ t. absurd (omega (arith, nltb→le w 9223372036854775808 t)))
 
-pub value-high : (w : ℕ) → 9223372036854775808 ≤ w → from-word w ≡ negsuc (18446744073709551615 - w)
-unfolding from-word
-value-high w h =
-    if-ind (λ (z : ℤ). z ≡ negsuc (18446744073709551615 - w)) (ltb w 9223372036854775808) _ _
+pub value_high : (w : ℕ) → 9223372036854775808 ≤ w → from_word w ≡ negsuc (18446744073709551615 - w)
+unfolding from_word
+value_high w h =
+    if_ind (λ (z : ℤ). z ≡ negsuc (18446744073709551615 - w)) (ltb w 9223372036854775808) _ _
     (λ t. absurd (omega (arith, ltb→lt w 9223372036854775808 t))) (λ _. refl)
 
 -- the word of a number that 64 bits hold says that number
-pub value-back : (z : ℤ) → negsuc 9223372036854775807 ≤ℤ z → z ≤ℤ pos 9223372036854775807 → from-word (to_word z) ≡ z
+pub value_back : (z : ℤ) → negsuc 9223372036854775807 ≤ℤ z → z ≤ℤ pos 9223372036854775807 → from_word (to_word z) ≡ z
 unfolding hi lo
-value-back (pos n) l h = value_low n (omega (arith, hi-le (pos n) 9223372036854775807 h))
-value-back (negsuc n) l h =
-    let k : n ≤ 9223372036854775807 = omega (arith, lo-le (negsuc n) 9223372036854775807 l) in
-    value-high (18446744073709551615 - n) (omega arith) ∙ ap negsuc (omega arith)
+value_back (pos n) l h = value_low n (omega (arith, hi_le (pos n) 9223372036854775807 h))
+value_back (negsuc n) l h =
+    let k : n ≤ 9223372036854775807 = omega (arith, lo_le (negsuc n) 9223372036854775807 l) in
+    value_high (18446744073709551615 - n) (omega arith) ∙ ap negsuc (omega arith)
 
 -- ---- entries
-pub bound-number-most : (b : Bound) → bound-number b ≤ 2
-bound-number-most Exact = omega arith
-bound-number-most AtLeast = omega arith
-bound-number-most AtMost = omega arith
+pub bound_number_most : (b : Bound) → bound_number b ≤ 2
+bound_number_most Exact = omega arith
+bound_number_most AtLeast = omega arith
+bound_number_most AtMost = omega arith
 
 -- what the table keeps: depth 1 to 81, bound 0 to 2, a move of 8 bits, a value from -2^60 - 1 to 2^60 + 1
 pub record Kept (e : Entry) : Type 0 where
-  pub some-depth : 0 < e.depth
-  pub depth-most : e.depth ≤ 81
-  pub bound-most : e.bound ≤ 2
-  pub move-most : e.move ≤ 255
-  pub value-least : lowest ≤ℤ e.value
-  pub value-most : e.value ≤ℤ highest
+  pub some_depth : 0 < e.depth
+  pub depth_most : e.depth ≤ 81
+  pub bound_most : e.bound ≤ 2
+  pub move_most : e.move ≤ 255
+  pub value_least : lowest ≤ℤ e.value
+  pub value_most : e.value ≤ℤ highest
 
 abbrev kept : Entry → Bool
 kept e =
@@ -75,53 +75,53 @@ kept→ e t =
     let s = and→ (leb e.move 255) _ r.1 in
     let u = and→ (le_z lowest e.value) _ s.1 in
     record {
-      some-depth = ltb→lt 0 e.depth p.0;
-      depth-most = leb→le e.depth 81 q.0;
-      bound-most = leb→le e.bound 2 r.0;
-      move-most = leb→le e.move 255 s.0;
-      value-least = record { le = u.0 };
-      value-most = record { le = u.1 };
+      some_depth = ltb→lt 0 e.depth p.0;
+      depth_most = leb→le e.depth 81 q.0;
+      bound_most = leb→le e.bound 2 r.0;
+      move_most = leb→le e.move 255 s.0;
+      value_least = record { le = u.0 };
+      value_most = record { le = u.1 };
     }
 
 →kept : (e : Entry) → Kept e → T (kept e)
 →kept e k =
-    →and (ltb 0 e.depth) _ (lt→ltb 0 e.depth k.some-depth)
-    (→and (leb e.depth 81) _ (le→leb e.depth 81 k.depth-most)
-    (→and (leb e.bound 2) _ (le→leb e.bound 2 k.bound-most)
-    (→and (leb e.move 255) _ (le→leb e.move 255 k.move-most)
-    (→and (le_z lowest e.value) _ k.value-least.le k.value-most.le))))
+    →and (ltb 0 e.depth) _ (lt→ltb 0 e.depth k.some_depth)
+    (→and (leb e.depth 81) _ (le→leb e.depth 81 k.depth_most)
+    (→and (leb e.bound 2) _ (le→leb e.bound 2 k.bound_most)
+    (→and (leb e.move 255) _ (le→leb e.move 255 k.move_most)
+    (→and (le_z lowest e.value) _ k.value_least.le k.value_most.le))))
 
 module _ (value rest : ℕ) where
   abbrev pub says : Entry
-  says = record { value = from-word value; depth = rest % 256; bound = rest / 256 % 256; move = rest / 65536 }
+  says = record { value = from_word value; depth = rest % 256; bound = rest / 256 % 256; move = rest / 65536 }
 
   -- two words that say what is not kept are no entry
   pub absent : (Kept says → ⊥) → none ≡ entry_of value rest
   unfolding entry_of
-  absent f = if-ind (λ (o : Option Entry). none ≡ o) (kept says) _ _ (λ t. absurd (f (kept→ says t))) (λ _. refl)
+  absent f = if_ind (λ (o : Option Entry). none ≡ o) (kept says) _ _ (λ t. absurd (f (kept→ says t))) (λ _. refl)
 
   -- nor are they if they say a value that is too low or too high
-  pub absent-low : {v : ℤ} → v ≡ from-word value → v <ℤ lowest → none ≡ entry_of value rest
-  absent-low e h = absent (λ k. clash_ℤ h (subst (λ (z : ℤ). lowest ≤ℤ z) (sym e) k.value-least))
+  pub absent_low : {v : ℤ} → v ≡ from_word value → v <ℤ lowest → none ≡ entry_of value rest
+  absent_low e h = absent (λ k. clash_ℤ h (subst (λ (z : ℤ). lowest ≤ℤ z) (sym e) k.value_least))
 
-  pub absent-high : {v : ℤ} → v ≡ from-word value → highest <ℤ v → none ≡ entry_of value rest
-  absent-high e h = absent (λ k. clash_ℤ h (subst (λ (z : ℤ). z ≤ℤ highest) (sym e) k.value-most))
+  pub absent_high : {v : ℤ} → v ≡ from_word value → highest <ℤ v → none ≡ entry_of value rest
+  absent_high e h = absent (λ k. clash_ℤ h (subst (λ (z : ℤ). z ≤ℤ highest) (sym e) k.value_most))
 
   -- two words that say an entry that is kept are that entry
   pub present : (e : Entry) → Kept e → e ≡ says → some e ≡ entry_of value rest
   unfolding entry_of
   present e k s =
-      ap some s ∙ if-ind (λ (o : Option Entry). some says ≡ o) (kept says) _ _ (λ _. refl)
+      ap some s ∙ if_ind (λ (o : Option Entry). some says ≡ o) (kept says) _ _ (λ _. refl)
       (λ t. absurd (T_not (kept says) t (→kept says (subst Kept s k))))
 
 -- entries with the same four parts are the same
-pub same-entry : {v v' : ℤ} {d d' b b' m m' : ℕ} → v ≡ v' → d ≡ d' → b ≡ b' → m ≡ m' →
+pub same_entry : {v v' : ℤ} {d d' b b' m m' : ℕ} → v ≡ v' → d ≡ d' → b ≡ b' → m ≡ m' →
     ◌≡◌ {A = Entry} (record { value = v; depth = d; bound = b; move = m }) (record { value = v'; depth = d'; bound = b'; move = m' })
-same-entry p q r s = cc
+same_entry p q r s = cc
 
 -- an entry that the table keeps is read back
-pub entry-back : (e : Entry) → Kept e → entry_of (to_word e.value) (rest_of e) ≡ some e
+pub entry_back : (e : Entry) → Kept e → entry_of (to_word e.value) (rest_of e) ≡ some e
 unfolding hi lo
-entry-back e k =
-    let v = value-back e.value (omega (zarith, k.value-least)) (omega (zarith, k.value-most)) in
-    sym (present (to_word e.value) (rest_of e) e k (same-entry (sym v) (omega arith) (omega arith) (omega arith)))
+entry_back e k =
+    let v = value_back e.value (omega (zarith, k.value_least)) (omega (zarith, k.value_most)) in
+    sym (present (to_word e.value) (rest_of e) e k (same_entry (sym v) (omega arith) (omega arith) (omega arith)))

@@ -9,14 +9,14 @@ use Rattle.table.specs.declared.LookupResult.{LookupResult}
 use Rattle.table.specs.declared.LookupResult.TheVariants.{Entry as Holds, Absent}
 
 -- document 01's numbers
-abbrev pub bound-number : Bound → ℕ
-bound-number Exact = 0
-bound-number AtLeast = 1
-bound-number AtMost = 2
+abbrev pub bound_number : Bound → ℕ
+bound_number Exact = 0
+bound_number AtLeast = 1
+bound_number AtMost = 2
 
-abbrev pub entry-means : Entry → Meant
-entry-means e = record { value = e.value; depth = e.depth; bound = bound-number e.bound; move = e.pv.bits }
+abbrev pub entry_means : Entry → Meant
+entry_means e = record { value = e.value; depth = e.depth; bound = bound_number e.bound; move = e.pv.bits }
 
-abbrev pub lookup-means : LookupResult → Option Meant
-lookup-means (Holds e) = some (entry-means e)
-lookup-means Absent = none
+abbrev pub lookup_means : LookupResult → Option Meant
+lookup_means (Holds e) = some (entry_means e)
+lookup_means Absent = none

@@ -1,20 +1,22 @@
 // The transposition table in lent words. An entry takes three: its hash, its value in two's complement, and depth, bound and move in one.
 // Ported from src/lib/table.rs and the entry of src/lib/minimax.rs of nelhage/ultimattt at commit 87ef0d9c7c (Apache-2.0, see NOTICE),
 // changed: one slot, lent words for a box of entries, no index bytes and no statistics.
+#![tactic(auto)]
+
 ghost use Rattle.std.specs.Prelude.{◌≡◌, ◌+◌, ◌≤◌, ◌<◌};
-ghost use Rattle.theory.specs.Table.{from-word, to_word, rest_of, entry_of, begins, look_up, replaces, store};
-ghost use Rattle.table.specs.Entries.{bound-number, entry-means, lookup-means};
+ghost use Rattle.theory.specs.Table.{from_word, to_word, rest_of, entry_of, begins, look_up, replaces, store};
+ghost use Rattle.table.specs.Entries.{bound_number, entry_means, lookup_means};
 
 use boards::{Move, PLACES};
 
-#[derive(Drop)]
+#[derive(Clone, Copy)]
 pub enum Bound {
     Exact,
     AtLeast,
     AtMost,
 }
 
-#[derive(Drop)]
+#[derive(Clone, Copy)]
 pub struct Entry {
     pub value: i64,
     pub depth: u8,
@@ -23,7 +25,7 @@ pub struct Entry {
 }
 
 // What the table holds for a position.
-#[derive(Drop)]
+#[derive(Clone, Copy)]
 pub enum LookupResult {
     Entry(Entry),
     Absent,
@@ -37,7 +39,7 @@ pub const DEEPEST: u64 = PLACES as u64;
 
 // A word as a number in two's complement.
 fn from_word(w: u64) -> i64
-    ensures { result ≡ from-word w }
+    ensures { result ≡ from_word w }
 {
     if w < 9223372036854775808 {
         w as i64
@@ -67,7 +69,7 @@ fn slot(hash: u64, words: usize) -> usize
 
 fn bound_of(number: u64) -> Bound
     requires { number < 3 }
-    ensures { bound-number result ≡ number }
+    ensures { bound_number result ≡ number }
 {
     match number {
         0 => Bound::Exact,
@@ -77,7 +79,7 @@ fn bound_of(number: u64) -> Bound
 }
 
 fn number_of(bound: Bound) -> u64
-    ensures { result ≡ bound-number bound }
+    ensures { result ≡ bound_number bound }
 {
     match bound {
         Bound::Exact => 0,
@@ -88,7 +90,7 @@ fn number_of(bound: Bound) -> u64
 
 // What an entry's second and third words say.
 fn entry_of(value: u64, rest: u64) -> LookupResult
-    ensures { lookup-means result ≡ entry_of value rest }
+    ensures { lookup_means result ≡ entry_of value rest }
 {
     let v = from_word(value);
     if v < -WIDEST {
@@ -122,7 +124,7 @@ fn entry_of(value: u64, rest: u64) -> LookupResult
 
 // The third word of an entry.
 fn rest_of(e: Entry) -> u64
-    ensures { result ≡ rest_of (entry-means e) }
+    ensures { result ≡ rest_of (entry_means e) }
 {
     let bound = e.bound;
     let pv = e.pv;
@@ -131,7 +133,7 @@ fn rest_of(e: Entry) -> u64
 
 // The entry of a hash, if the table has it.
 pub fn lookup(words: &[u64], hash: u64) -> LookupResult
-    ensures { lookup-means result ≡ look_up words.now hash }
+    ensures { lookup_means result ≡ look_up words.now hash }
 {
     let n = words.len();
     if n < 3 {
@@ -146,7 +148,7 @@ pub fn lookup(words: &[u64], hash: u64) -> LookupResult
 
 // Whether an entry of a depth replaces what is held.
 fn replaces(depth: u8, held: LookupResult) -> bool
-    ensures { result ≡ replaces depth (lookup-means held) }
+    ensures { result ≡ replaces depth (lookup_means held) }
 {
     match held {
         LookupResult::Absent => true,
@@ -156,7 +158,7 @@ fn replaces(depth: u8, held: LookupResult) -> bool
 
 // Stores an entry where there is none, or one of less depth.
 pub fn store(words: &mut [u64], hash: u64, e: Entry)
-    ensures { words.new ≡ store words.old hash (entry-means e) }
+    ensures { words.new ≡ store words.old hash (entry_means e) }
 {
     let n = words.len();
     if n < 3 {

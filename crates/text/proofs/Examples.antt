@@ -12,15 +12,15 @@ use Rattle.rules.specs.declared.GameState.{GameState}
 use Rattle.rules.specs.declared.GameState.TheVariants.{InPlay, Drawn, Won}
 use Rattle.rules.specs.declared.NextBoard.{NextBoard}
 use Rattle.rules.specs.declared.NextBoard.TheVariants.{Any, Only}
-use Rattle.rules.specs.Board.{has-line, result}
+use Rattle.rules.specs.Board.{has_line, result_of}
 use Rattle.rules.specs.Position.{Position, start}
-use Rattle.rules.specs.Hash.{cell-key, board-key, next-board-key, xors, cells-hash, board-hash, hash}
+use Rattle.rules.specs.Hash.{cell_key, board_key, next_board_key, xors, cells_hash, board_hash, hash}
 use Rattle.text.specs.Bytes.{semicolon, quoted}
-use Rattle.text.specs.Reading.{Reading, reads, refuses, side-of, overall-mark, cell-mark, sections, first-bad, last-at, fault-at}
-use Rattle.text.specs.Reading.{first-fault, cell_in, state-in, said, read-cells, read-overall, read}
-use Rattle.text.specs.Writing.{overall-byte, board-text, joined_by, text_of}
-use Rattle.text.specs.MoveText.{reads-move, bad-length, bad-character, read_letters, read-move, move-text}
-use Rattle.text.proofs.WritingRoundTrip.{start-is-written, read-after-write}
+use Rattle.text.specs.Reading.{Reading, reads, refuses, side_of, overall_mark, cell_mark, sections, first_bad, last_at, fault_at}
+use Rattle.text.specs.Reading.{first_fault, cell_in, state_in, said, read_cells, read_overall, read}
+use Rattle.text.specs.Writing.{overall_byte, board_text, joined_by, text_of}
+use Rattle.text.specs.MoveText.{reads_move, bad_length, bad_character, read_letters, read_move, move_text}
+use Rattle.text.proofs.WritingRoundTrip.{start_is_written, read_after_write}
 
 -- ---- what the facts compute with
 -- what is told of the position that is read, if any
@@ -32,20 +32,20 @@ told f (refuses n o l) = none
 pub record Seen : Type 0 where
   pub text : List ℕ
   pub state : GameState
-  pub next-board : NextBoard
+  pub next_board : NextBoard
   pub hash : ℕ
 
 -- what is compared with the Rust
 abbrev pub seen : Reading → Option Seen
-seen r = told (λ p. record { text = text_of p; state = p.state; next-board = p.next-board; hash = hash p }) r
+seen r = told (λ p. record { text = text_of p; state = p.state; next_board = p.next_board; hash = hash p }) r
 
 reading : Unit {0}
-unfolding quoted read sections read-overall first-bad read-cells first-fault fault-at side-of overall-mark cell-mark said last-at cell_in
-    state-in result has-line any if◌then◌else◌
+unfolding quoted read sections read_overall first_bad read_cells first_fault fault_at side_of overall_mark cell_mark said last_at cell_in
+    state_in result_of has_line any if◌then◌else◌
 reading = tt
 
 seeing : Unit {0}
-unfolding text_of joined_by board-text overall-byte hash xors board-hash cells-hash cell-key board-key next-board-key reading
+unfolding text_of joined_by board_text overall_byte hash xors board_hash cells_hash cell_key board_key next_board_key reading
 seeing = tt
 
 -- ---- the empty board
@@ -54,34 +54,34 @@ unfoldable pub e9 : List ℕ
 e9 = quoted "........./........./........./........./........./........./........./........./........."
 
 -- the text of 101 bytes
-unfoldable pub empty-text : List ℕ
-empty-text = quoted "X;.........;" ++ e9
+unfoldable pub empty_text : List ℕ
+empty_text = quoted "X;.........;" ++ e9
 
 -- it is what the empty board is written as
-pub start-text : text_of start ≡ empty-text
-unfolding empty-text e9 seeing
-start-text = refl
+pub start_text : text_of start ≡ empty_text
+unfolding empty_text e9 seeing
+start_text = refl
 
 -- and what reads as the empty board
-pub empty-text-reads : read empty-text ≡ reads start
-empty-text-reads = ap read (sym start-text) ∙ read-after-write start start-is-written
+pub empty_text_reads : read empty_text ≡ reads start
+empty_text_reads = ap read (sym start_text) ∙ read_after_write start start_is_written
 
 -- its hash is 0
-pub empty-text-is-seen : seen (read empty-text) ≡ some (record { text = empty-text; state = InPlay; next-board = Any; hash = 0 })
-unfolding empty-text e9 seeing
-empty-text-is-seen = refl
+pub empty_text_is_seen : seen (read empty_text) ≡ some (record { text = empty_text; state = InPlay; next_board = Any; hash = 0 })
+unfolding empty_text e9 seeing
+empty_text_is_seen = refl
 
 -- its first 100 bytes lack a cell, and so does its head alone
-pub short-texts : (length empty-text ≡ 101) × (read (take 100 empty-text) ≡ refuses 6 12 88) × (read (quoted "X;.........;") ≡ refuses 6 12 0) × (read [] ≡ refuses 2 0 0)
-unfolding empty-text e9 reading
-short-texts = (refl, refl, refl, refl)
+pub short_texts : (length empty_text ≡ 101) × (read (take 100 empty_text) ≡ refuses 6 12 88) × (read (quoted "X;.........;") ≡ refuses 6 12 0) × (read [] ≡ refuses 2 0 0)
+unfolding empty_text e9 reading
+short_texts = (refl, refl, refl, refl)
 
 -- a tail up to 256 bytes passes, 257 bytes do not, and a third `;` is 2
 pub tails :
-    (told text_of (read (empty-text ++ replicate 155 0xff)) ≡ some empty-text)
-    × (read (empty-text ++ replicate 156 0xff) ≡ refuses 1 0 0)
-    × (read (empty-text ++ (semicolon ∷ [])) ≡ refuses 2 0 102)
-unfolding empty-text e9 seeing
+    (told text_of (read (empty_text ++ replicate 155 0xff)) ≡ some empty_text)
+    × (read (empty_text ++ replicate 156 0xff) ≡ refuses 1 0 0)
+    × (read (empty_text ++ (semicolon ∷ [])) ≡ refuses 2 0 102)
+unfolding empty_text e9 seeing
 tails = (refl, refl, refl)
 
 -- ---- the refusals, each of a text that the next tests would refuse too
@@ -98,7 +98,7 @@ unfolding e9 reading
 refusals = (refl, refl, refl, refl, refl, refl, refl, refl)
 
 -- the cells are looked at from left to right: a `/` replaced or lacking is 5, a bad cell 3
-pub cell-refusals :
+pub cell_refusals :
     (read (quoted "X;.........;.........|x") ≡ refuses 5 12 11)
     × (read (quoted "X;.........;..........") ≡ refuses 5 12 10)
     × (read (quoted "X;.........;.........") ≡ refuses 5 12 9)
@@ -106,25 +106,25 @@ pub cell-refusals :
     × (read (quoted "X;.........;......../") ≡ refuses 3 12 9)
     × (read (quoted "X;.........;........./") ≡ refuses 6 12 10)
 unfolding reading
-cell-refusals = (refl, refl, refl, refl, refl, refl)
+cell_refusals = (refl, refl, refl, refl, refl, refl)
 
 -- ---- with more than one `@` the next board is where the last stands, and each of them is a board in play
-pub several-due :
-    (told (λ p. p.next-board) (read (quoted "O;@X@.#@.O.;" ++ e9)) ≡ some (Only 5))
+pub several_due :
+    (told (λ p. p.next_board) (read (quoted "O;@X@.#@.O.;" ++ e9)) ≡ some (Only 5))
     × (told text_of (read (quoted "O;@X@.#@.O.;" ++ e9)) ≡ some (quoted "O;.X..#@.O.;" ++ e9))
 unfolding e9 seeing
-several-due = (refl, refl)
+several_due = (refl, refl)
 
 -- ---- only the lines of the side not to move are looked at
-pub trusted-marks :
+pub trusted_marks :
     (told (λ p. p.state) (read (quoted "X;XXX......;" ++ e9)) ≡ some InPlay)
     × (told (λ p. p.state) (read (quoted "O;XXX......;" ++ e9)) ≡ some (Won X))
 unfolding e9 reading
-trusted-marks = (refl, refl)
+trusted_marks = (refl, refl)
 
 -- ---- the Rust's answers
 -- refusals with their places
-pub rust-refusals :
+pub rust_refusals :
     (read (quoted ";;;") ≡ refuses 2 0 3)
     × (read (quoted "X;...X@..O.") ≡ refuses 2 0 11)
     × (read (quoted "O;.@.......;.O......./.XOX...XX/XO......./.O......./........X/.X......X/.OX...X../.....O.../....OOO..;") ≡ refuses 2 0 102)
@@ -144,14 +144,14 @@ pub rust-refusals :
     × (read (quoted "X;.OX.X..OO;.X.OO...X/") ≡ refuses 6 12 10)
     × (read (quoted "X;.......@.;..O....../........./.....O.X./X......../.......O./...O...X./....X..../..X..XOO./") ≡ refuses 6 12 80)
 unfolding reading
-rust-refusals = (refl, refl, refl, refl, refl, refl, refl, refl, refl, refl, refl, refl, refl, refl, refl, refl, refl, refl)
+rust_refusals = (refl, refl, refl, refl, refl, refl, refl, refl, refl, refl, refl, refl, refl, refl, refl, refl, refl, refl)
 
 -- a text reads, with what the Rust then shows
 abbrev Rust : List ℕ → String → GameState → NextBoard → ℕ → Type 0
-Rust t again g d h = seen (read t) ≡ some (record { text = quoted again; state = g; next-board = d; hash = h })
+Rust t again g d h = seen (read t) ≡ some (record { text = quoted again; state = g; next_board = d; hash = h })
 
 -- positions: won, drawn though X has every line, with a tail, with several `@`
-pub rust-readings :
+pub rust_readings :
     (Rust (quoted "O;.@.......;.OO....../XX.O...X./.OX....../......X../........./........./XX....O.O/.O......./......X..")
     "O;.@.......;.OO....../XX.O...X./.OX....../......X../........./........./XX....O.O/.O......./......X.."
     InPlay (Only 1) 16275768051207996528)
@@ -168,19 +168,19 @@ pub rust-readings :
     "X;.......@.;.O..X..../...XO..O./..X....../.....XO../OX.X..X.O/....OXXXX/X.OOO.X.O/.....O..O/.X......."
     InPlay (Only 7) 8000145076095137924)
 unfolding seeing
-rust-readings = (refl, refl, refl, refl, refl, refl)
+rust_readings = (refl, refl, refl, refl, refl, refl)
 
 -- ---- moves
-pub move-examples :
-    (read-move (quoted "aa") ≡ reads-move 0x00)
-    × (read-move (quoted "ii") ≡ reads-move 0x88)
-    × (read-move (quoted "eh") ≡ reads-move 0x47)
-    × (read-move (quoted "ij") ≡ bad-character 0x6a)
-    × (read-move (quoted "`j") ≡ bad-character 0x60)
-    × (read-move (0xc3 ∷ 0xa9 ∷ []) ≡ bad-character 0xc3)
-    × (read-move (quoted "a") ≡ bad-length)
-    × (read-move (quoted "aaa") ≡ bad-length)
-    × (move-text 0x47 ≡ quoted "eh")
-    × (move-text 0xff ≡ quoted "pp")
+pub move_examples :
+    (read_move (quoted "aa") ≡ reads_move 0x00)
+    × (read_move (quoted "ii") ≡ reads_move 0x88)
+    × (read_move (quoted "eh") ≡ reads_move 0x47)
+    × (read_move (quoted "ij") ≡ bad_character 0x6a)
+    × (read_move (quoted "`j") ≡ bad_character 0x60)
+    × (read_move (0xc3 ∷ 0xa9 ∷ []) ≡ bad_character 0xc3)
+    × (read_move (quoted "a") ≡ bad_length)
+    × (read_move (quoted "aaa") ≡ bad_length)
+    × (move_text 0x47 ≡ quoted "eh")
+    × (move_text 0xff ≡ quoted "pp")
 unfolding quoted read_letters if◌then◌else◌
-move-examples = (refl, refl, refl, refl, refl, refl, refl, refl, refl, refl)
+move_examples = (refl, refl, refl, refl, refl, refl, refl, refl, refl, refl)

@@ -8,11 +8,11 @@ use lib.ListN.{length, take, set}
 use lib.Seq.{set_out}
 use Rattle.text.specs.Padded.{padded}
 
-pub length-padded : (n : ℕ) (xs : List ℕ) → length (padded n xs) ≡ n
+pub length_padded : (n : ℕ) (xs : List ℕ) → length (padded n xs) ≡ n
 unfolding padded
-length-padded zero xs = refl
-length-padded (suc n) [] = ap suc (length-padded n [])
-length-padded (suc n) (x ∷ xs) = ap suc (length-padded n xs)
+length_padded zero xs = refl
+length_padded (suc n) [] = ap suc (length_padded n [])
+length_padded (suc n) (x ∷ xs) = ap suc (length_padded n xs)
 
 set_next : (n : ℕ) (xs : List ℕ) (b : ℕ) → set (padded n xs) (length xs) b ≡ padded n (xs ++ (b ∷ []))
 unfolding padded
@@ -21,25 +21,25 @@ set_next (suc n) [] b = refl
 set_next (suc n) (x ∷ xs) b = ap (◌∷◌ x) (set_next n xs b)
 
 -- the place of the next byte, at most n
-pub set-padded : (n : ℕ) (xs : List ℕ) (b : ℕ) → set (padded n xs) (min (length xs) n) b ≡ padded n (xs ++ (b ∷ []))
-set-padded n xs b = go (dec_le (length xs) n)
+pub set_padded : (n : ℕ) (xs : List ℕ) (b : ℕ) → set (padded n xs) (min (length xs) n) b ≡ padded n (xs ++ (b ∷ []))
+set_padded n xs b = go (dec_le (length xs) n)
   where
     go : Dec (length xs ≤ n) → set (padded n xs) (min (length xs) n) b ≡ padded n (xs ++ (b ∷ []))
     go (yes h) = let e : min (length xs) n ≡ length xs = omega arith in rw e (set_next n xs b)
     go (no h) =
-        let l = length-padded n xs in
+        let l = length_padded n xs in
         set_out (padded n xs) (min (length xs) n) b (omega arith) ∙ sym (set_out (padded n xs) (length xs) b (omega arith))
         ∙ set_next n xs b
 
-pub padded-full : (n : ℕ) (xs ys : List ℕ) → n ≤ length xs → padded n (xs ++ ys) ≡ padded n xs
+pub padded_full : (n : ℕ) (xs ys : List ℕ) → n ≤ length xs → padded n (xs ++ ys) ≡ padded n xs
 unfolding padded
-padded-full zero xs ys h = refl
-padded-full (suc n) [] ys h = absurd (omega arith)
-padded-full (suc n) (x ∷ xs) ys h = ap (◌∷◌ x) (padded-full n xs ys (omega arith))
+padded_full zero xs ys h = refl
+padded_full (suc n) [] ys h = absurd (omega arith)
+padded_full (suc n) (x ∷ xs) ys h = ap (◌∷◌ x) (padded_full n xs ys (omega arith))
 
-pub take-padded : (k n : ℕ) (xs : List ℕ) → k ≤ n → k ≤ length xs → take k (padded n xs) ≡ take k xs
+pub take_padded : (k n : ℕ) (xs : List ℕ) → k ≤ n → k ≤ length xs → take k (padded n xs) ≡ take k xs
 unfolding padded
-take-padded zero n xs h l = refl
-take-padded (suc k) zero xs h l = absurd (omega arith)
-take-padded (suc k) (suc n) [] h l = absurd (omega arith)
-take-padded (suc k) (suc n) (x ∷ xs) h l = ap (◌∷◌ x) (take-padded k n xs (omega arith) (omega arith))
+take_padded zero n xs h l = refl
+take_padded (suc k) zero xs h l = absurd (omega arith)
+take_padded (suc k) (suc n) [] h l = absurd (omega arith)
+take_padded (suc k) (suc n) (x ∷ xs) h l = ap (◌∷◌ x) (take_padded k n xs (omega arith) (omega arith))

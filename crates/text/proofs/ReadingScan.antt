@@ -13,73 +13,73 @@ use lib.ListN.{length, get_or, take, drop, length-drop}
 use lib.Seq.{slice, take-nil, drop-cons, drop-drop, get_or-drop, get_or-take}
 use Rattle.base.specs.Branch.{if◌then◌else◌}
 use Rattle.base.specs.Lists.{count, from}
-use Rattle.base.proofs.Bool.{and→, →and, is, not-not}
-use Rattle.base.proofs.Branch.{if-ind}
+use Rattle.base.proofs.Bool.{and→, →and, is, not_not}
+use Rattle.base.proofs.Branch.{if_ind}
 use Rattle.rules.specs.declared.NextBoard.{NextBoard}
 use Rattle.rules.specs.declared.NextBoard.TheVariants.{Only}
 use Rattle.text.specs.Bytes.{semicolon, slash, at_mark}
-use Rattle.text.specs.Reading.{side-of, overall-mark, cell-mark, known, first-longer, sections, one_on, first-bad, last-at}
-use Rattle.text.specs.Reading.{fault-at, first-fault, lone-side}
+use Rattle.text.specs.Reading.{side_of, overall_mark, cell_mark, known, first_longer, sections, one_on, first_bad, last_at}
+use Rattle.text.specs.Reading.{fault_at, first_fault, lone_side}
 
 -- a choice by whether two numbers are equal
-pub if-equal {ℓ κ} : {A : Type ℓ} (P : A → Type κ) (m n : ℕ) (x y : Unit {0} → A) → (m ≡ n → P (x tt)) →
+pub if_equal {ℓ κ} : {A : Type ℓ} (P : A → Type κ) (m n : ℕ) (x y : Unit {0} → A) → (m ≡ n → P (x tt)) →
     ((m ≡ n → ⊥) → P (y tt)) → P (if eqb m n then x else y)
-if-equal P m n x y f g =
-    if-ind P (eqb m n) x y (λ t. f (eqb→eq m n t)) (λ t. g (λ e. T_not (eqb m n) t (subst (λ (k : ℕ). T (eqb m k)) e (eqb_refl m))))
+if_equal P m n x y f g =
+    if_ind P (eqb m n) x y (λ t. f (eqb→eq m n t)) (λ t. g (λ e. T_not (eqb m n) t (subst (λ (k : ℕ). T (eqb m k)) e (eqb_refl m))))
 
 -- ---- sections
 -- no semicolon from place i up to, not including, place j
 abbrev pub Clear : List ℕ → ℕ → ℕ → Type 0
 Clear t i j = (k : ℕ) → i ≤ k → k < j → get_or t k 0 ≡ semicolon → ⊥
 
-section-ends : (c : ℕ) (cs : List ℕ) → c ≡ semicolon → sections (c ∷ cs) ≡ [] ∷ sections cs
+section_ends : (c : ℕ) (cs : List ℕ) → c ≡ semicolon → sections (c ∷ cs) ≡ [] ∷ sections cs
 unfolding sections
-section-ends c cs e = if-equal (λ r. r ≡ [] ∷ sections cs) c semicolon _ _ (λ _. refl) (λ n. absurd (n e))
+section_ends c cs e = if_equal (λ r. r ≡ [] ∷ sections cs) c semicolon _ _ (λ _. refl) (λ n. absurd (n e))
 
-section-goes-on : (c : ℕ) (cs : List ℕ) → (c ≡ semicolon → ⊥) → sections (c ∷ cs) ≡ first-longer c (sections cs)
+section_goes_on : (c : ℕ) (cs : List ℕ) → (c ≡ semicolon → ⊥) → sections (c ∷ cs) ≡ first_longer c (sections cs)
 unfolding sections
-section-goes-on c cs n = if-equal (λ r. r ≡ first-longer c (sections cs)) c semicolon _ _ (λ e. absurd (n e)) (λ _. refl)
+section_goes_on c cs n = if_equal (λ r. r ≡ first_longer c (sections cs)) c semicolon _ _ (λ e. absurd (n e)) (λ _. refl)
 
 -- the first semicolon ends the first section
-pub sections-split : (t : List ℕ) (i : ℕ) → i < length t → Clear t 0 i → get_or t i 0 ≡ semicolon → sections t ≡ take i t ∷
+pub sections_split : (t : List ℕ) (i : ℕ) → i < length t → Clear t 0 i → get_or t i 0 ≡ semicolon → sections t ≡ take i t ∷
     sections (drop (suc i) t)
-sections-split [] i h f e = absurd (omega arith)
-sections-split (c ∷ cs) zero h f e = section-ends c cs e
-sections-split (c ∷ cs) (suc i) h f e =
-    section-goes-on c cs (f 0 (omega arith) (omega arith))
-    ∙ ap (first-longer c) (sections-split cs i (omega arith) (λ k _ l. f (suc k) (omega arith) (omega arith)) e)
+sections_split [] i h f e = absurd (omega arith)
+sections_split (c ∷ cs) zero h f e = section_ends c cs e
+sections_split (c ∷ cs) (suc i) h f e =
+    section_goes_on c cs (f 0 (omega arith) (omega arith))
+    ∙ ap (first_longer c) (sections_split cs i (omega arith) (λ k _ l. f (suc k) (omega arith) (omega arith)) e)
 
 -- without semicolons there is one section
-pub one-section : (t : List ℕ) → Clear t 0 (length t) → sections t ≡ t ∷ []
+pub one_section : (t : List ℕ) → Clear t 0 (length t) → sections t ≡ t ∷ []
 unfolding sections
-one-section [] f = refl
-one-section (c ∷ cs) f =
-    section-goes-on c cs (f 0 (omega arith) (omega arith)) ∙ ap (first-longer c)
-    (one-section cs (λ k _ l. f (suc k) (omega arith) (omega arith)))
+one_section [] f = refl
+one_section (c ∷ cs) f =
+    section_goes_on c cs (f 0 (omega arith) (omega arith)) ∙ ap (first_longer c)
+    (one_section cs (λ k _ l. f (suc k) (omega arith) (omega arith)))
 
 -- the part after place i has the semicolons that stand after it
-drop-clear : (t : List ℕ) (i j n : ℕ) → i + n ≤ j → Clear t i j → Clear (drop i t) 0 n
-drop-clear t i j n h f k _ l e = f (i + k) (omega arith) (omega arith) (sym (get_or-drop i t k 0) ∙ e)
+drop_clear : (t : List ℕ) (i j n : ℕ) → i + n ≤ j → Clear t i j → Clear (drop i t) 0 n
+drop_clear t i j n h f k _ l e = f (i + k) (omega arith) (omega arith) (sym (get_or-drop i t k 0) ∙ e)
 
 -- with one semicolon there are two
-pub two-sections : (t : List ℕ) (i : ℕ) → i < length t → Clear t 0 i → get_or t i 0 ≡ semicolon → Clear t (suc i) (length t) →
+pub two_sections : (t : List ℕ) (i : ℕ) → i < length t → Clear t 0 i → get_or t i 0 ≡ semicolon → Clear t (suc i) (length t) →
     sections t ≡ take i t ∷ drop (suc i) t ∷ []
-two-sections t i h f e g =
-    sections-split t i h f e ∙ ap (λ (ss : List (List ℕ)). take i t ∷ ss)
-    (one-section (drop (suc i) t) (drop-clear t (suc i) (length t) _ (omega (arith, length-drop (suc i) t)) g))
+two_sections t i h f e g =
+    sections_split t i h f e ∙ ap (λ (ss : List (List ℕ)). take i t ∷ ss)
+    (one_section (drop (suc i) t) (drop_clear t (suc i) (length t) _ (omega (arith, length-drop (suc i) t)) g))
 
 -- ---- two semicolons
-drop-take : (n j : ℕ) (t : List ℕ) → n ≤ j → drop n (take j t) ≡ take (j - n) (drop n t)
-drop-take zero j t h = let e : j - 0 ≡ j = omega arith in rw e
-drop-take (suc n) zero t h = absurd (omega arith)
-drop-take (suc n) (suc j) [] h = sym (take-nil (suc j - suc n))
-drop-take (suc n) (suc j) (c ∷ cs) h = let e : j - n ≡ suc j - suc n = omega arith in drop-take n j cs (omega arith) ∙ rw e
+drop_take : (n j : ℕ) (t : List ℕ) → n ≤ j → drop n (take j t) ≡ take (j - n) (drop n t)
+drop_take zero j t h = let e : j - 0 ≡ j = omega arith in rw e
+drop_take (suc n) zero t h = absurd (omega arith)
+drop_take (suc n) (suc j) [] h = sym (take-nil (suc j - suc n))
+drop_take (suc n) (suc j) (c ∷ cs) h = let e : j - n ≡ suc j - suc n = omega arith in drop_take n j cs (omega arith) ∙ rw e
 
 module _ (t : List ℕ) (i j : ℕ) (h : i < j) (l : j < length t) (f : Clear t 0 i) (e : get_or t i 0 ≡ semicolon) (g : Clear t (suc i) j)
     (d : get_or t j 0 ≡ semicolon) where
   -- the first two semicolons end the first two sections
-  pub sections-split-twice : sections t ≡ take i t ∷ slice (suc i) j t ∷ sections (drop (suc j) t)
-  sections-split-twice = sections-split t i (omega arith) f e ∙ ap (λ (ss : List (List ℕ)). take i t ∷ ss) second
+  pub sections_split_twice : sections t ≡ take i t ∷ slice (suc i) j t ∷ sections (drop (suc j) t)
+  sections_split_twice = sections_split t i (omega arith) f e ∙ ap (λ (ss : List (List ℕ)). take i t ∷ ss) second
     where
       m : ℕ
       m = j - suc i
@@ -90,15 +90,15 @@ module _ (t : List ℕ) (i j : ℕ) (h : i < j) (l : j < length t) (f : Clear t 
       second : sections (drop (suc i) t) ≡ slice (suc i) j t ∷ sections (drop (suc j) t)
       second =
           let n : suc i + (j - suc i) ≡ j = omega arith in
-          sections-split (drop (suc i) t) m (omega (arith, length-drop (suc i) t)) (drop-clear t (suc i) j m (omega arith) g)
+          sections_split (drop (suc i) t) m (omega (arith, length-drop (suc i) t)) (drop_clear t (suc i) j m (omega arith) g)
           (get_or-drop (suc i) t m 0 ∙ rw n d)
-          ∙ ap₂ (λ (s r : List ℕ). s ∷ sections r) (sym (drop-take (suc i) j t h)) rest
+          ∙ ap₂ (λ (s r : List ℕ). s ∷ sections r) (sym (drop_take (suc i) j t h)) rest
 
   -- with no third there are three sections
-  pub three-sections : Clear t (suc j) (length t) → sections t ≡ take i t ∷ slice (suc i) j t ∷ drop (suc j) t ∷ []
-  three-sections k = sections-split-twice
-      ∙ ap (λ (ss : List (List ℕ)). take i t ∷ slice (suc i) j t ∷ ss) (one-section (drop (suc j) t)
-      (drop-clear t (suc j) (length t) _ (omega (arith, length-drop (suc j) t)) k))
+  pub three_sections : Clear t (suc j) (length t) → sections t ≡ take i t ∷ slice (suc i) j t ∷ drop (suc j) t ∷ []
+  three_sections k = sections_split_twice
+      ∙ ap (λ (ss : List (List ℕ)). take i t ∷ slice (suc i) j t ∷ ss) (one_section (drop (suc j) t)
+      (drop_clear t (suc j) (length t) _ (omega (arith, length-drop (suc j) t)) k))
 
 -- what stands in a section between two places
 pub slice_at : (t : List ℕ) (i j k : ℕ) → i + k < j → get_or (slice i j t) k 0 ≡ get_or t (i + k) 0
@@ -109,56 +109,56 @@ abbrev pub semicolons : List ℕ → ℕ
 semicolons t = count (λ c. eqb c semicolon) t
 
 -- there is one section more
-pub section-count : (t : List ℕ) → length (sections t) ≡ suc (semicolons t)
+pub section_count : (t : List ℕ) → length (sections t) ≡ suc (semicolons t)
 unfolding sections count if◌then◌else◌
-section-count [] = refl
-section-count (c ∷ cs) = go (eqb c semicolon) (sections cs) (section-count cs)
+section_count [] = refl
+section_count (c ∷ cs) = go (eqb c semicolon) (sections cs) (section_count cs)
   where
     go : (b : Bool) (ss : List (List ℕ)) → length ss ≡ suc (semicolons cs) →
-        length (if b then (λ _. [] ∷ ss) else λ _. first-longer c ss) ≡ suc (cond b 1 0 + semicolons cs)
+        length (if b then (λ _. [] ∷ ss) else λ _. first_longer c ss) ≡ suc (cond b 1 0 + semicolons cs)
     go true ss e = omega arith
     go false [] e = absurd (omega arith)
     go false (s ∷ ss) e = omega arith
 
 -- a semicolon at j is one more than those after it
-semicolon-counts : (t : List ℕ) (i j : ℕ) → i ≤ j → j < length t → get_or t j 0 ≡ semicolon →
+semicolon_counts : (t : List ℕ) (i j : ℕ) → i ≤ j → j < length t → get_or t j 0 ≡ semicolon →
     semicolons (drop (suc j) t) < semicolons (drop i t)
 unfolding count
-semicolon-counts [] i j h l e = absurd (omega arith)
-semicolon-counts (c ∷ cs) zero zero h l e = rw (eq-eqb c semicolon e) (omega arith)
-semicolon-counts (c ∷ cs) zero (suc j) h l e = omega (arith, semicolon-counts cs 0 j (omega arith) (omega arith) e)
-semicolon-counts (c ∷ cs) (suc i) zero h l e = absurd (omega arith)
-semicolon-counts (c ∷ cs) (suc i) (suc j) h l e = semicolon-counts cs i j (omega arith) (omega arith) e
+semicolon_counts [] i j h l e = absurd (omega arith)
+semicolon_counts (c ∷ cs) zero zero h l e = rw (eq-eqb c semicolon e) (omega arith)
+semicolon_counts (c ∷ cs) zero (suc j) h l e = omega (arith, semicolon_counts cs 0 j (omega arith) (omega arith) e)
+semicolon_counts (c ∷ cs) (suc i) zero h l e = absurd (omega arith)
+semicolon_counts (c ∷ cs) (suc i) (suc j) h l e = semicolon_counts cs i j (omega arith) (omega arith) e
 
 -- with a third semicolon there are more than three
-pub more-sections : (t : List ℕ) (i j k : ℕ) → i < j → j < k → k < length t → get_or t i 0 ≡ semicolon →
+pub more_sections : (t : List ℕ) (i j k : ℕ) → i < j → j < k → k < length t → get_or t i 0 ≡ semicolon →
     get_or t j 0 ≡ semicolon → get_or t k 0 ≡ semicolon → 3 < length (sections t)
-more-sections t i j k h l m x y z =
+more_sections t i j k h l m x y z =
     omega (
       arith,
-      section-count t,
-      semicolon-counts t 0 i (omega arith) (omega arith) x,
-      semicolon-counts t (suc i) j h (omega arith) y,
-      semicolon-counts t (suc j) k l m z,
+      section_count t,
+      semicolon_counts t 0 i (omega arith) (omega arith) x,
+      semicolon_counts t (suc i) j h (omega arith) y,
+      semicolon_counts t (suc j) k l m z,
     )
 
 -- ---- the side
 -- a lone byte names it
-pub lone-byte : (s : List ℕ) → length s ≡ 1 → lone-side s ≡ side-of (get_or s 0 0)
-lone-byte [] e = absurd (omega arith)
-lone-byte (c ∷ []) e = refl
-lone-byte (c ∷ d ∷ cs) e = absurd (omega arith)
+pub lone_byte : (s : List ℕ) → length s ≡ 1 → lone_side s ≡ side_of (get_or s 0 0)
+lone_byte [] e = absurd (omega arith)
+lone_byte (c ∷ []) e = refl
+lone_byte (c ∷ d ∷ cs) e = absurd (omega arith)
 
 -- no byte, or several, name none
-pub not-lone : (s : List ℕ) → (length s ≡ 1 → ⊥) → lone-side s ≡ none
-not-lone [] n = refl
-not-lone (c ∷ []) n = absurd (n refl)
-not-lone (c ∷ d ∷ cs) n = refl
+pub not_lone : (s : List ℕ) → (length s ≡ 1 → ⊥) → lone_side s ≡ none
+not_lone [] n = refl
+not_lone (c ∷ []) n = absurd (n refl)
+not_lone (c ∷ d ∷ cs) n = refl
 
 -- ---- the first bad mark
 -- mark k is one of the five
 abbrev pub Known : List ℕ → ℕ → Type 0
-Known os k = T (known (overall-mark (get_or os k 0)))
+Known os k = T (known (overall_mark (get_or os k 0)))
 
 -- mark i is bad, and those before it are not
 pub record FirstBad (os : List ℕ) (i : ℕ) : Type 0 where
@@ -166,28 +166,28 @@ pub record FirstBad (os : List ℕ) (i : ℕ) : Type 0 where
   pub before : (k : ℕ) → k < i → Known os k
   pub bad : Known os i → ⊥
 
-first-bad-here : (c : ℕ) (cs : List ℕ) → (T (known (overall-mark c)) → ⊥) → first-bad (c ∷ cs) ≡ some 0
-unfolding first-bad
-first-bad-here c cs n = if-ind (λ r. r ≡ some 0) (known (overall-mark c)) _ _ (λ t. absurd (n t)) (λ _. refl)
+first_bad_here : (c : ℕ) (cs : List ℕ) → (T (known (overall_mark c)) → ⊥) → first_bad (c ∷ cs) ≡ some 0
+unfolding first_bad
+first_bad_here c cs n = if_ind (λ r. r ≡ some 0) (known (overall_mark c)) _ _ (λ t. absurd (n t)) (λ _. refl)
 
-first-bad-later : (c : ℕ) (cs : List ℕ) → T (known (overall-mark c)) → first-bad (c ∷ cs) ≡ one_on (first-bad cs)
-unfolding first-bad
-first-bad-later c cs t =
-    if-ind (λ r. r ≡ one_on (first-bad cs)) (known (overall-mark c)) _ _ (λ _. refl) (λ n. absurd (T_not (known (overall-mark c)) n t))
+first_bad_later : (c : ℕ) (cs : List ℕ) → T (known (overall_mark c)) → first_bad (c ∷ cs) ≡ one_on (first_bad cs)
+unfolding first_bad
+first_bad_later c cs t =
+    if_ind (λ r. r ≡ one_on (first_bad cs)) (known (overall_mark c)) _ _ (λ _. refl) (λ n. absurd (T_not (known (overall_mark c)) n t))
 
 -- the first bad mark is the one that is found
-pub →first-bad : (os : List ℕ) (i : ℕ) → FirstBad os i → first-bad os ≡ some i
-→first-bad [] i f = absurd (omega (arith, f.inside))
-→first-bad (c ∷ cs) zero f = first-bad-here c cs f.bad
-→first-bad (c ∷ cs) (suc i) f = first-bad-later c cs (f.before 0 (omega arith))
-    ∙ ap one_on (→first-bad cs i
+pub →first_bad : (os : List ℕ) (i : ℕ) → FirstBad os i → first_bad os ≡ some i
+→first_bad [] i f = absurd (omega (arith, f.inside))
+→first_bad (c ∷ cs) zero f = first_bad_here c cs f.bad
+→first_bad (c ∷ cs) (suc i) f = first_bad_later c cs (f.before 0 (omega arith))
+    ∙ ap one_on (→first_bad cs i
     (record { inside = omega (arith, f.inside); before = λ k h. f.before (suc k) (omega arith); bad = f.bad }))
 
 -- where every mark is known none is found
-pub →none-bad : (os : List ℕ) → ((k : ℕ) → k < length os → Known os k) → first-bad os ≡ none
-unfolding first-bad
-→none-bad [] f = refl
-→none-bad (c ∷ cs) f = first-bad-later c cs (f 0 (omega arith)) ∙ ap one_on (→none-bad cs (λ k h. f (suc k) (omega arith)))
+pub →none_bad : (os : List ℕ) → ((k : ℕ) → k < length os → Known os k) → first_bad os ≡ none
+unfolding first_bad
+→none_bad [] f = refl
+→none_bad (c ∷ cs) f = first_bad_later c cs (f 0 (omega arith)) ∙ ap one_on (→none_bad cs (λ k h. f (suc k) (omega arith)))
 
 -- what is found says which marks are known
 abbrev pub BadMarks : List ℕ → Option ℕ → Type 0
@@ -195,14 +195,14 @@ BadMarks os none = (k : ℕ) → k < length os → Known os k
 BadMarks os (some i) = FirstBad os i
 
 -- either answer is right
-pub first-bad-is : (os : List ℕ) → BadMarks os (first-bad os)
-unfolding first-bad
-first-bad-is [] = λ k h. absurd (omega arith)
-first-bad-is (c ∷ cs) = if-ind (BadMarks (c ∷ cs)) (known (overall-mark c)) _ _
-    (λ t. go (first-bad cs) t (first-bad-is cs))
-    (λ n. record { inside = omega arith; before = λ k h. absurd (omega arith); bad = T_not (known (overall-mark c)) n })
+pub first_bad_is : (os : List ℕ) → BadMarks os (first_bad os)
+unfolding first_bad
+first_bad_is [] = λ k h. absurd (omega arith)
+first_bad_is (c ∷ cs) = if_ind (BadMarks (c ∷ cs)) (known (overall_mark c)) _ _
+    (λ t. go (first_bad cs) t (first_bad_is cs))
+    (λ n. record { inside = omega arith; before = λ k h. absurd (omega arith); bad = T_not (known (overall_mark c)) n })
   where
-    go : (r : Option ℕ) → T (known (overall-mark c)) → BadMarks cs r → BadMarks (c ∷ cs) (one_on r)
+    go : (r : Option ℕ) → T (known (overall_mark c)) → BadMarks cs r → BadMarks (c ∷ cs) (one_on r)
     go none t f = λ k. elim k [ zero ↦ λ _. t | suc k ↦ λ h. f k (omega arith) ]
     go (some i) t f =
         record {
@@ -212,46 +212,46 @@ first-bad-is (c ∷ cs) = if-ind (BadMarks (c ∷ cs)) (known (overall-mark c)) 
         }
 
 -- the mark that is found is the first bad one
-pub first-bad→ : (os : List ℕ) (i : ℕ) → first-bad os ≡ some i → FirstBad os i
-first-bad→ os i e = subst (BadMarks os) e (first-bad-is os)
+pub first_bad→ : (os : List ℕ) (i : ℕ) → first_bad os ≡ some i → FirstBad os i
+first_bad→ os i e = subst (BadMarks os) e (first_bad_is os)
 
 -- ---- the last `@`
 -- one mark on: the board that is due, as far as it is known
-pub last-at-steps : (i : ℕ) (os : List ℕ) (d : NextBoard) → i < length os
-    → last-at i (drop i os) d ≡ last-at (suc i) (drop (suc i) os) (if eqb (get_or os i 0) at_mark then (λ _. Only i) else λ _. d)
-unfolding last-at
-last-at-steps i os d h = ap (λ (cs : List ℕ). last-at i cs d) (drop-cons os i 0 h)
+pub last_at_steps : (i : ℕ) (os : List ℕ) (d : NextBoard) → i < length os
+    → last_at i (drop i os) d ≡ last_at (suc i) (drop (suc i) os) (if eqb (get_or os i 0) at_mark then (λ _. Only i) else λ _. d)
+unfolding last_at
+last_at_steps i os d h = ap (λ (cs : List ℕ). last_at i cs d) (drop-cons os i 0 h)
 
 -- no `@` among the marks from i on
 abbrev pub NoneAt : List ℕ → ℕ → Type 0
 NoneAt os i = (k : ℕ) → i ≤ k → k < length os → get_or os k 0 ≡ at_mark → ⊥
 
-none-at-later : (c : ℕ) (cs : List ℕ) (i : ℕ) → NoneAt cs i → NoneAt (c ∷ cs) (suc i)
-none-at-later c cs i f k = elim k [ zero ↦ λ h. absurd (omega arith) | suc k ↦ λ h l. f k (omega arith) (omega arith) ]
+none_at_later : (c : ℕ) (cs : List ℕ) (i : ℕ) → NoneAt cs i → NoneAt (c ∷ cs) (suc i)
+none_at_later c cs i f k = elim k [ zero ↦ λ h. absurd (omega arith) | suc k ↦ λ h l. f k (omega arith) (omega arith) ]
 
 none_at_all : (c : ℕ) (cs : List ℕ) → (c ≡ at_mark → ⊥) → NoneAt cs 0 → NoneAt (c ∷ cs) 0
 none_at_all c cs n f k = elim k [ zero ↦ λ _ _. n | suc k ↦ λ _ l. f k (omega arith) (omega arith) ]
 
 -- it is the last place that holds `@`, or with none what was due before
-pub last-at-cases {κ} : (P : NextBoard → Type κ) (i : ℕ) (os : List ℕ) (d : NextBoard) →
+pub last_at_cases {κ} : (P : NextBoard → Type κ) (i : ℕ) (os : List ℕ) (d : NextBoard) →
     (NoneAt os 0 → P d) → ((k : ℕ) → k < length os → get_or os k 0 ≡ at_mark → NoneAt os (suc k) → P (Only (i + k))) →
-    P (last-at i os d)
-unfolding last-at
-last-at-cases P i [] d x f = x (λ k _ h. absurd (omega arith))
-last-at-cases P i (c ∷ cs) d x f = last-at-cases P (suc i) cs _
-    (λ n. if-equal P c at_mark _ _
-    (λ e. subst (λ (k : ℕ). P (Only k)) (omega arith) (f 0 (omega arith) e (none-at-later c cs 0 n)))
+    P (last_at i os d)
+unfolding last_at
+last_at_cases P i [] d x f = x (λ k _ h. absurd (omega arith))
+last_at_cases P i (c ∷ cs) d x f = last_at_cases P (suc i) cs _
+    (λ n. if_equal P c at_mark _ _
+    (λ e. subst (λ (k : ℕ). P (Only k)) (omega arith) (f 0 (omega arith) e (none_at_later c cs 0 n)))
     (λ m. x (none_at_all c cs m n)))
-    (λ k h e n. subst (λ (k : ℕ). P (Only k)) (omega arith) (f (suc k) (omega arith) e (none-at-later c cs (suc k) n)))
+    (λ k h e n. subst (λ (k : ℕ). P (Only k)) (omega arith) (f (suc k) (omega arith) e (none_at_later c cs (suc k) n)))
 
 -- without an `@` nothing becomes due
-pub last-at-none : (os : List ℕ) (d : NextBoard) → NoneAt os 0 → last-at 0 os d ≡ d
-last-at-none os d n = last-at-cases (λ r. r ≡ d) 0 os d (λ _. refl) (λ k h e _. absurd (n k (omega arith) h e))
+pub last_at_none : (os : List ℕ) (d : NextBoard) → NoneAt os 0 → last_at 0 os d ≡ d
+last_at_none os d n = last_at_cases (λ r. r ≡ d) 0 os d (λ _. refl) (λ k h e _. absurd (n k (omega arith) h e))
 
 -- the last `@` is due
-pub last-at-is : (os : List ℕ) (d : NextBoard) (i : ℕ) → i < length os → get_or os i 0 ≡ at_mark → NoneAt os (suc i) →
-    last-at 0 os d ≡ Only i
-last-at-is os d i h e n = last-at-cases (λ r. r ≡ Only i) 0 os d
+pub last_at_is : (os : List ℕ) (d : NextBoard) (i : ℕ) → i < length os → get_or os i 0 ≡ at_mark → NoneAt os (suc i) →
+    last_at 0 os d ≡ Only i
+last_at_is os d i h e n = last_at_cases (λ r. r ≡ Only i) 0 os d
     (λ m. absurd (m i (omega arith) h e)) (λ k l f m. go k l f m (is (ltb i k)) (is (ltb k i)))
   where
     go : (k : ℕ) → k < length os → get_or os k 0 ≡ at_mark → NoneAt os (suc k)
@@ -263,115 +263,115 @@ last-at-is os d i h e n = last-at-cases (λ r. r ≡ Only i) 0 os d
 -- ---- the fault of a byte of the cells
 -- byte i is a cell's mark
 abbrev pub KnownCell : List ℕ → ℕ → Type 0
-KnownCell cs i = T (known (cell-mark (get_or cs i 0)))
+KnownCell cs i = T (known (cell_mark (get_or cs i 0)))
 
 -- the cases of a byte: a `/` that is there, lacks or is replaced; a cell that is lacking, there or bad
 module _ (cs : List ℕ) (i : ℕ) where
-  pub fault-cases {κ} : (P : ℕ → Type κ) →
+  pub fault_cases {κ} : (P : ℕ → Type κ) →
       (i % 10 ≡ 9 → i < length cs → get_or cs i 0 ≡ slash → P 0) →
       (i % 10 ≡ 9 → (i < length cs → get_or cs i 0 ≡ slash → ⊥) → P 5) →
       ((i % 10 ≡ 9 → ⊥) → length cs ≤ i → P 6) →
       ((i % 10 ≡ 9 → ⊥) → i < length cs → KnownCell cs i → P 0) →
       ((i % 10 ≡ 9 → ⊥) → i < length cs → (KnownCell cs i → ⊥) → P 3) →
-      P (fault-at cs i)
-  unfolding fault-at
-  fault-cases P a b c d e = if-equal P (i % 10) 9 _ _
-      (λ s. if-ind P (ltb i (length cs) && eqb (get_or cs i 0) slash) _ _
+      P (fault_at cs i)
+  unfolding fault_at
+  fault_cases P a b c d e = if_equal P (i % 10) 9 _ _
+      (λ s. if_ind P (ltb i (length cs) && eqb (get_or cs i 0) slash) _ _
       (λ t. let r = and→ (ltb i (length cs)) _ t in a s (ltb→lt _ _ r.0) (eqb→eq _ _ r.1))
       (λ n. b s (λ h k. T_not (ltb i (length cs) && eqb (get_or cs i 0) slash) n
       (→and (ltb i (length cs)) _ (lt→ltb i (length cs) h) (subst (λ (x : ℕ). T (eqb (get_or cs i 0) x)) k
       (eqb_refl (get_or cs i 0)))))))
-      (λ n. if-ind P (not (ltb i (length cs))) _ _
+      (λ n. if_ind P (not (ltb i (length cs))) _ _
       (λ t. c n (nltb→le _ _ t))
-      (λ t. let h = ltb→lt i (length cs) (not-not (ltb i (length cs)) t) in
-      if-ind P (known (cell-mark (get_or cs i 0))) _ _ (d n h) (λ u. e n h (T_not (known (cell-mark (get_or cs i 0))) u))))
+      (λ t. let h = ltb→lt i (length cs) (not_not (ltb i (length cs)) t) in
+      if_ind P (known (cell_mark (get_or cs i 0))) _ _ (d n h) (λ u. e n h (T_not (known (cell_mark (get_or cs i 0))) u))))
 
   -- a `/` in its place is no fault
-  pub slash-stands : i % 10 ≡ 9 → i < length cs → get_or cs i 0 ≡ slash → fault-at cs i ≡ 0
-  slash-stands s h e =
-      fault-cases (λ f. f ≡ 0) (λ _ _ _. refl) (λ _ n. absurd (n h e)) (λ n _. absurd (n s)) (λ _ _ _. refl) (λ n _ _. absurd (n s))
+  pub slash_stands : i % 10 ≡ 9 → i < length cs → get_or cs i 0 ≡ slash → fault_at cs i ≡ 0
+  slash_stands s h e =
+      fault_cases (λ f. f ≡ 0) (λ _ _ _. refl) (λ _ n. absurd (n h e)) (λ n _. absurd (n s)) (λ _ _ _. refl) (λ n _ _. absurd (n s))
 
   -- another byte there, or none, is 5
-  pub slash-lacks : i % 10 ≡ 9 → (i < length cs → get_or cs i 0 ≡ slash → ⊥) → fault-at cs i ≡ 5
-  slash-lacks s m =
-      fault-cases (λ f. f ≡ 5) (λ _ h e. absurd (m h e)) (λ _ _. refl) (λ n _. absurd (n s)) (λ n _ _. absurd (n s))
+  pub slash_lacks : i % 10 ≡ 9 → (i < length cs → get_or cs i 0 ≡ slash → ⊥) → fault_at cs i ≡ 5
+  slash_lacks s m =
+      fault_cases (λ f. f ≡ 5) (λ _ h e. absurd (m h e)) (λ _ _. refl) (λ n _. absurd (n s)) (λ n _ _. absurd (n s))
       (λ n _ _. absurd (n s))
 
   -- a cell that lacks is 6
-  pub cell-lacks : (i % 10 ≡ 9 → ⊥) → length cs ≤ i → fault-at cs i ≡ 6
-  cell-lacks n l =
-      fault-cases (λ f. f ≡ 6) (λ s _ _. absurd (n s)) (λ s _. absurd (n s)) (λ _ _. refl) (λ _ h _. absurd (omega arith))
+  pub cell_lacks : (i % 10 ≡ 9 → ⊥) → length cs ≤ i → fault_at cs i ≡ 6
+  cell_lacks n l =
+      fault_cases (λ f. f ≡ 6) (λ s _ _. absurd (n s)) (λ s _. absurd (n s)) (λ _ _. refl) (λ _ h _. absurd (omega arith))
       (λ _ h _. absurd (omega arith))
 
   -- a cell with a mark is no fault
-  pub cell-stands : (i % 10 ≡ 9 → ⊥) → i < length cs → KnownCell cs i → fault-at cs i ≡ 0
-  cell-stands n h t =
-      fault-cases (λ f. f ≡ 0) (λ _ _ _. refl) (λ s _. absurd (n s)) (λ _ l. absurd (omega arith)) (λ _ _ _. refl)
+  pub cell_stands : (i % 10 ≡ 9 → ⊥) → i < length cs → KnownCell cs i → fault_at cs i ≡ 0
+  cell_stands n h t =
+      fault_cases (λ f. f ≡ 0) (λ _ _ _. refl) (λ s _. absurd (n s)) (λ _ l. absurd (omega arith)) (λ _ _ _. refl)
       (λ _ _ m. absurd (m t))
 
   -- another byte there is 3
-  pub cell-bad : (i % 10 ≡ 9 → ⊥) → i < length cs → (KnownCell cs i → ⊥) → fault-at cs i ≡ 3
-  cell-bad n h m =
-      fault-cases (λ f. f ≡ 3) (λ s _ _. absurd (n s)) (λ s _. absurd (n s)) (λ _ l. absurd (omega arith)) (λ _ _ t. absurd (m t))
+  pub cell_bad : (i % 10 ≡ 9 → ⊥) → i < length cs → (KnownCell cs i → ⊥) → fault_at cs i ≡ 3
+  cell_bad n h m =
+      fault_cases (λ f. f ≡ 3) (λ s _ _. absurd (n s)) (λ s _. absurd (n s)) (λ _ l. absurd (omega arith)) (λ _ _ t. absurd (m t))
       (λ _ _ _. refl)
 
   -- a byte without fault is there
-  pub faultless-is-there : fault-at cs i ≡ 0 → i < length cs
-  faultless-is-there =
-      fault-cases (λ f. f ≡ 0 → i < length cs) (λ _ h _ _. h) (λ _ _ e. absurd (omega arith)) (λ _ _ e. absurd (omega arith))
+  pub faultless_is_there : fault_at cs i ≡ 0 → i < length cs
+  faultless_is_there =
+      fault_cases (λ f. f ≡ 0 → i < length cs) (λ _ h _ _. h) (λ _ _ e. absurd (omega arith)) (λ _ _ e. absurd (omega arith))
       (λ _ h _ _. h) (λ _ _ _ e. absurd (omega arith))
 
   -- the numbers end at 6
-  pub fault-at-most-6 : fault-at cs i ≤ 6
-  fault-at-most-6 =
-      fault-cases (λ f. f ≤ 6) (λ _ _ _. lit≤ tt) (λ _ _. lit≤ tt) (λ _ _. lit≤ tt) (λ _ _ _. lit≤ tt) (λ _ _ _. lit≤ tt)
+  pub fault_at_most_6 : fault_at cs i ≤ 6
+  fault_at_most_6 =
+      fault_cases (λ f. f ≤ 6) (λ _ _ _. lit≤ tt) (λ _ _. lit≤ tt) (λ _ _. lit≤ tt) (λ _ _ _. lit≤ tt) (λ _ _ _. lit≤ tt)
 
 -- ---- the first fault of n bytes from i on
 module _ (cs : List ℕ) where
   -- a byte without one is passed over
-  pub first-fault-steps : (i n : ℕ) → fault-at cs i ≡ 0 → first-fault cs (from i (suc n)) ≡ first-fault cs (from (suc i) n)
-  unfolding first-fault
-  first-fault-steps i n e = if-equal (λ f. f ≡ first-fault cs (from (suc i) n)) (fault-at cs i) 0 _ _ (λ _. refl) (λ m. absurd (m e))
+  pub first_fault_steps : (i n : ℕ) → fault_at cs i ≡ 0 → first_fault cs (from i (suc n)) ≡ first_fault cs (from (suc i) n)
+  unfolding first_fault
+  first_fault_steps i n e = if_equal (λ f. f ≡ first_fault cs (from (suc i) n)) (fault_at cs i) 0 _ _ (λ _. refl) (λ m. absurd (m e))
 
   -- a byte with one is the answer
-  pub first-fault-stops : (i n : ℕ) → (fault-at cs i ≡ 0 → ⊥) → first-fault cs (from i (suc n)) ≡ fault-at cs i
-  unfolding first-fault
-  first-fault-stops i n m = if-equal (λ f. f ≡ fault-at cs i) (fault-at cs i) 0 _ _ (λ e. absurd (m e)) (λ _. refl)
+  pub first_fault_stops : (i n : ℕ) → (fault_at cs i ≡ 0 → ⊥) → first_fault cs (from i (suc n)) ≡ fault_at cs i
+  unfolding first_fault
+  first_fault_stops i n m = if_equal (λ f. f ≡ fault_at cs i) (fault_at cs i) 0 _ _ (λ e. absurd (m e)) (λ _. refl)
 
   -- it is that of the first byte that has one
-  pub first-fault-is : (i n k : ℕ) → k < n → ((j : ℕ) → i ≤ j → j < i + k → fault-at cs j ≡ 0) →
-      (fault-at cs (i + k) ≡ 0 → ⊥) → first-fault cs (from i n) ≡ fault-at cs (i + k)
-  first-fault-is i zero k h f m = absurd (omega arith)
-  first-fault-is i (suc n) zero h f m = let e : i + 0 ≡ i = omega arith in rw e (first-fault-stops i n (rw e at m))
-  first-fault-is i (suc n) (suc k) h f m =
+  pub first_fault_is : (i n k : ℕ) → k < n → ((j : ℕ) → i ≤ j → j < i + k → fault_at cs j ≡ 0) →
+      (fault_at cs (i + k) ≡ 0 → ⊥) → first_fault cs (from i n) ≡ fault_at cs (i + k)
+  first_fault_is i zero k h f m = absurd (omega arith)
+  first_fault_is i (suc n) zero h f m = let e : i + 0 ≡ i = omega arith in rw e (first_fault_stops i n (rw e at m))
+  first_fault_is i (suc n) (suc k) h f m =
       let e : i + suc k ≡ suc i + k = omega arith in
-      first-fault-steps i n (f i (omega arith) (omega arith))
-      ∙ rw e (first-fault-is (suc i) n k (omega arith) (λ j a b. f j (omega arith) (omega arith)) (rw e at m))
+      first_fault_steps i n (f i (omega arith) (omega arith))
+      ∙ rw e (first_fault_is (suc i) n k (omega arith) (λ j a b. f j (omega arith) (omega arith)) (rw e at m))
 
   -- where no byte has one the answer is 0
-  pub no-fault : (i n : ℕ) → ((j : ℕ) → i ≤ j → j < i + n → fault-at cs j ≡ 0) → first-fault cs (from i n) ≡ 0
-  unfolding first-fault
-  no-fault i zero f = refl
-  no-fault i (suc n) f =
-      first-fault-steps i n (f i (omega arith) (omega arith)) ∙ no-fault (suc i) n (λ j a b. f j (omega arith) (omega arith))
+  pub no_fault : (i n : ℕ) → ((j : ℕ) → i ≤ j → j < i + n → fault_at cs j ≡ 0) → first_fault cs (from i n) ≡ 0
+  unfolding first_fault
+  no_fault i zero f = refl
+  no_fault i (suc n) f =
+      first_fault_steps i n (f i (omega arith) (omega arith)) ∙ no_fault (suc i) n (λ j a b. f j (omega arith) (omega arith))
 
   -- 0 says that none has one
-  pub no-fault→ : (i n : ℕ) → first-fault cs (from i n) ≡ 0 → (j : ℕ) → i ≤ j → j < i + n → fault-at cs j ≡ 0
-  no-fault→ i zero e j a b = absurd (omega arith)
-  no-fault→ i (suc n) e j a b =
-      let z : fault-at cs i ≡ 0 = elim (ℕ_discrete (fault-at cs i) 0) [
+  pub no_fault→ : (i n : ℕ) → first_fault cs (from i n) ≡ 0 → (j : ℕ) → i ≤ j → j < i + n → fault_at cs j ≡ 0
+  no_fault→ i zero e j a b = absurd (omega arith)
+  no_fault→ i (suc n) e j a b =
+      let z : fault_at cs i ≡ 0 = elim (ℕ_discrete (fault_at cs i) 0) [
         | yes y ↦ y
-        | no m ↦ absurd (m (sym (first-fault-stops i n m) ∙ e))
+        | no m ↦ absurd (m (sym (first_fault_stops i n m) ∙ e))
       ] in
       elim (ℕ_discrete j i) [
         | yes q ↦ rw q z
-        | no q ↦ no-fault→ (suc i) n (sym (first-fault-steps i n z) ∙ e) j (omega arith)
+        | no q ↦ no_fault→ (suc i) n (sym (first_fault_steps i n z) ∙ e) j (omega arith)
             (omega arith)
       ]
 
   -- of any bytes it is at most 6
-  pub first-fault-at-most-6 : (is : List ℕ) → first-fault cs is ≤ 6
-  unfolding first-fault
-  first-fault-at-most-6 [] = lit≤ tt
-  first-fault-at-most-6 (i ∷ is) =
-      if-equal (λ f. f ≤ 6) (fault-at cs i) 0 _ _ (λ _. first-fault-at-most-6 is) (λ _. fault-at-most-6 cs i)
+  pub first_fault_at_most_6 : (is : List ℕ) → first_fault cs is ≤ 6
+  unfolding first_fault
+  first_fault_at_most_6 [] = lit≤ tt
+  first_fault_at_most_6 (i ∷ is) =
+      if_equal (λ f. f ≤ 6) (fault_at cs i) 0 _ _ (λ _. first_fault_at_most_6 is) (λ _. fault_at_most_6 cs i)

@@ -10,7 +10,7 @@ use Rattle.base.specs.Lists.{from}
 use Rattle.rules.specs.Board.{nine}
 use Rattle.rules.specs.Position.{Position}
 use Rattle.text.specs.Bytes.{slash}
-use Rattle.text.specs.Writing.{cell-byte, overall-byte, board-text, joined_by, text_of, cells-byte, byte_at}
+use Rattle.text.specs.Writing.{cell_byte, overall_byte, board_text, joined_by, text_of, cells_byte, byte_at}
 
 -- ---- a list made from a run of numbers
 -- it has as many elements
@@ -25,50 +25,50 @@ run_at f d i (suc n) zero h = ap f (omega arith)
 run_at f d i (suc n) (suc k) h = run_at f d (suc i) n k (omega arith) ∙ ap f (omega arith)
 
 -- each tenth byte is a `/`
-pub slash-every-tenth : (p : Position) (k : ℕ) → k % 10 ≡ 9 → cells-byte p k ≡ slash
-unfolding cells-byte if◌then◌else◌
-slash-every-tenth p k e = rw (eq-eqb (k % 10) 9 e)
+pub slash_every_tenth : (p : Position) (k : ℕ) → k % 10 ≡ 9 → cells_byte p k ≡ slash
+unfolding cells_byte if◌then◌else◌
+slash_every_tenth p k e = rw (eq-eqb (k % 10) 9 e)
 
 -- the others are cells
-pub cell-elsewhere : (p : Position) (k : ℕ) → (k % 10 ≡ 9 → ⊥) → cells-byte p k ≡ cell-byte (p.cells (k / 10) (k % 10))
-unfolding cells-byte if◌then◌else◌
-cell-elsewhere p k n = rw (ne_eqb (k % 10) 9 n)
+pub cell_elsewhere : (p : Position) (k : ℕ) → (k % 10 ≡ 9 → ⊥) → cells_byte p k ≡ cell_byte (p.cells (k / 10) (k % 10))
+unfolding cells_byte if◌then◌else◌
+cell_elsewhere p k n = rw (ne_eqb (k % 10) 9 n)
 
 -- the text is those bytes
-pub text-is-bytes : (p : Position) → text_of p ≡ map (byte_at p) (from 0 101)
-unfolding text_of byte_at cells-byte joined_by board-text if◌then◌else◌
-text-is-bytes p = refl
+pub text_is_bytes : (p : Position) → text_of p ≡ map (byte_at p) (from 0 101)
+unfolding text_of byte_at cells_byte joined_by board_text if◌then◌else◌
+text_is_bytes p = refl
 
 -- every position's text has 101 bytes
-pub text-has-101-bytes : (p : Position) → length (text_of p) ≡ 101
-text-has-101-bytes p = ap length (text-is-bytes p) ∙ run_length (byte_at p) 0 101
+pub text_has_101_bytes : (p : Position) → length (text_of p) ≡ 101
+text_has_101_bytes p = ap length (text_is_bytes p) ∙ run_length (byte_at p) 0 101
 
 -- what stands at each place
 pub text_at : (p : Position) (i : ℕ) → i < 101 → get_or (text_of p) i 0 ≡ byte_at p i
-text_at p i h = ap (λ (t : List ℕ). get_or t i 0) (text-is-bytes p) ∙ run_at (byte_at p) 0 0 101 i h ∙ ap (byte_at p) (omega arith)
+text_at p i h = ap (λ (t : List ℕ). get_or t i 0) (text_is_bytes p) ∙ run_at (byte_at p) 0 0 101 i h ∙ ap (byte_at p) (omega arith)
 
 -- ---- its last two sections
 -- the overall marks
-abbrev pub marks-of : Position → List ℕ
-marks-of p = map (overall-byte p) nine
+abbrev pub marks_of : Position → List ℕ
+marks_of p = map (overall_byte p) nine
 
 -- one for each board
-pub marks-at : (p : Position) (b : ℕ) → b < 9 → get_or (marks-of p) b 0 ≡ overall-byte p b
-marks-at p b h = run_at (overall-byte p) 0 0 9 b h ∙ ap (overall-byte p) (omega arith)
+pub marks_at : (p : Position) (b : ℕ) → b < 9 → get_or (marks_of p) b 0 ≡ overall_byte p b
+marks_at p b h = run_at (overall_byte p) 0 0 9 b h ∙ ap (overall_byte p) (omega arith)
 
 -- the cells
 abbrev pub cells_of : Position → List ℕ
-cells_of p = joined_by slash (board-text p) nine
+cells_of p = joined_by slash (board_text p) nine
 
-cells-are-bytes : (p : Position) → cells_of p ≡ map (cells-byte p) (from 0 89)
-unfolding cells-byte joined_by board-text if◌then◌else◌
-cells-are-bytes p = refl
+cells_are_bytes : (p : Position) → cells_of p ≡ map (cells_byte p) (from 0 89)
+unfolding cells_byte joined_by board_text if◌then◌else◌
+cells_are_bytes p = refl
 
 -- they take 89 bytes
-pub cells-have-89-bytes : (p : Position) → length (cells_of p) ≡ 89
-cells-have-89-bytes p = ap length (cells-are-bytes p) ∙ run_length (cells-byte p) 0 89
+pub cells_have_89_bytes : (p : Position) → length (cells_of p) ≡ 89
+cells_have_89_bytes p = ap length (cells_are_bytes p) ∙ run_length (cells_byte p) 0 89
 
 -- what stands at each place of them
-pub cells_at : (p : Position) (k : ℕ) → k < 89 → get_or (cells_of p) k 0 ≡ cells-byte p k
+pub cells_at : (p : Position) (k : ℕ) → k < 89 → get_or (cells_of p) k 0 ≡ cells_byte p k
 cells_at p k h =
-    ap (λ (t : List ℕ). get_or t k 0) (cells-are-bytes p) ∙ run_at (cells-byte p) 0 0 89 k h ∙ ap (cells-byte p) (omega arith)
+    ap (λ (t : List ℕ). get_or t k 0) (cells_are_bytes p) ∙ run_at (cells_byte p) 0 0 89 k h ∙ ap (cells_byte p) (omega arith)

@@ -5,46 +5,46 @@ use Rattle.base.specs.Branch.{if◌then◌else◌}
 use Rattle.rules.specs.declared.Player.TheVariants.{X, O}
 use Rattle.rules.specs.Status.{Status}
 use Rattle.rules.specs.Play.{no_move}
-use Rattle.text.specs.Bytes.{space, minus, first-digit, letter, letter-draw, letter-refused}
-use Rattle.text.specs.MoveText.{move-text}
+use Rattle.text.specs.Bytes.{space, minus, first_digit, letter, letter_draw, letter_refused}
+use Rattle.text.specs.MoveText.{move_text}
 
 -- ---- what a line asks: `position depth`
 -- what stands before the last blank, and what follows it
 pub data Parted : Type 0 where
-  no-blank : Parted
+  no_blank : Parted
   around : (text rest : List ℕ) → Parted
 
 -- with c in front: a blank is the last one where none follows it
-abbrev pub parted-with : ℕ → List ℕ → Parted → Parted
-parted-with c cs no-blank = if eqb c space then (λ _. around [] cs) else λ _. no-blank
-parted-with c cs (around text rest) = around (c ∷ text) rest
+abbrev pub parted_with : ℕ → List ℕ → Parted → Parted
+parted_with c cs no_blank = if eqb c space then (λ _. around [] cs) else λ _. no_blank
+parted_with c cs (around text rest) = around (c ∷ text) rest
 
 unfoldable pub parted : List ℕ → Parted
-parted [] = no-blank
-parted (c ∷ cs) = parted-with c cs (parted cs)
+parted [] = no_blank
+parted (c ∷ cs) = parted_with c cs (parted cs)
 
 abbrev pub is_digit : ℕ → Bool
-is_digit c = leb first-digit c && leb c (first-digit + 9)
+is_digit c = leb first_digit c && leb c (first_digit + 9)
 
 -- one or two digits
-unfoldable pub depth-of : List ℕ → Option ℕ
-depth-of [] = none
-depth-of (c ∷ []) = if is_digit c then (λ _. some (c - first-digit)) else λ _. none
-depth-of (c ∷ d ∷ []) = if is_digit c && is_digit d then (λ _. some (10 * (c - first-digit) + (d - first-digit))) else λ _. none
-depth-of (c ∷ d ∷ e ∷ cs) = none
+unfoldable pub depth_of : List ℕ → Option ℕ
+depth_of [] = none
+depth_of (c ∷ []) = if is_digit c then (λ _. some (c - first_digit)) else λ _. none
+depth_of (c ∷ d ∷ []) = if is_digit c && is_digit d then (λ _. some (10 * (c - first_digit) + (d - first_digit))) else λ _. none
+depth_of (c ∷ d ∷ e ∷ cs) = none
 
 pub data Question : Type 0 where
   -- 19
-  no-depth : Question
+  no_depth : Question
   asks : (text : List ℕ) (depth : ℕ) → Question
 
-abbrev pub asks-with : List ℕ → Option ℕ → Question
-asks-with text none = no-depth
-asks-with text (some depth) = asks text depth
+abbrev pub asks_with : List ℕ → Option ℕ → Question
+asks_with text none = no_depth
+asks_with text (some depth) = asks text depth
 
 abbrev pub asked_by : Parted → Question
-asked_by no-blank = no-depth
-asked_by (around text rest) = asks-with text (depth-of rest)
+asked_by no_blank = no_depth
+asked_by (around text rest) = asks_with text (depth_of rest)
 
 -- of the bytes of a line without its line feed
 abbrev pub asked : List ℕ → Question
@@ -52,15 +52,15 @@ asked line = asked_by (parted line)
 
 -- ---- numbers
 -- n with no zero in front, if it has at most k digits
-unfoldable pub in-places : ℕ → ℕ → List ℕ
-in-places zero n = []
-in-places (suc k) n =
-    if ltb n 10 then (λ _. (first-digit + n) ∷ []) else
-    λ _. in-places k (n / 10) ++ ((first-digit + n % 10) ∷ [])
+unfoldable pub in_places : ℕ → ℕ → List ℕ
+in_places zero n = []
+in_places (suc k) n =
+    if ltb n 10 then (λ _. (first_digit + n) ∷ []) else
+    λ _. in_places k (n / 10) ++ ((first_digit + n % 10) ∷ [])
 
 -- n has at most n + 1 digits
 unfoldable pub decimal : ℕ → List ℕ
-decimal n = in-places (suc n) n
+decimal n = in_places (suc n) n
 
 unfoldable pub signed : ℤ → List ℕ
 signed (pos n) = decimal n
@@ -72,21 +72,21 @@ shown true c = c ∷ []
 shown false c = []
 
 -- in the order X, O, D
-abbrev pub status-letters : Status → List ℕ
-status-letters s = shown s.x (letter X) ++ (shown s.o (letter O) ++ shown s.draw letter-draw)
+abbrev pub status_letters : Status → List ℕ
+status_letters s = shown s.x (letter X) ++ (shown s.o (letter O) ++ shown s.draw letter_draw)
 
 -- moves up to the first empty one
-unfoldable pub move-letters : List ℕ → List ℕ
-move-letters [] = []
-move-letters (m ∷ ms) = if eqb m no_move then (λ _. []) else λ _. move-text m ++ move-letters ms
+unfoldable pub move_letters : List ℕ → List ℕ
+move_letters [] = []
+move_letters (m ∷ ms) = if eqb m no_move then (λ _. []) else λ _. move_text m ++ move_letters ms
 
-abbrev pub or-minus : List ℕ → List ℕ
-or-minus [] = minus ∷ []
-or-minus (c ∷ cs) = c ∷ cs
+abbrev pub or_minus : List ℕ → List ℕ
+or_minus [] = minus ∷ []
+or_minus (c ∷ cs) = c ∷ cs
 
 -- `-` if there are none
-abbrev pub moves-text : List ℕ → List ℕ
-moves-text ms = or-minus (move-letters ms)
+abbrev pub moves_text : List ℕ → List ℕ
+moves_text ms = or_minus (move_letters ms)
 
 -- texts, parted by one blank
 abbrev pub spaced : List (List ℕ) → List ℕ
@@ -95,9 +95,9 @@ spaced (t ∷ []) = t
 spaced (t ∷ u ∷ us) = t ++ (space ∷ spaced (u ∷ us))
 
 -- the results left, how many moves are legal, the last completed depth and its score, how many positions were entered, the line
-abbrev pub answer-text : Status → ℕ → ℕ → ℤ → ℕ → List ℕ → List ℕ
-answer-text s legal depth score count line =
-    spaced (status-letters s ∷ decimal legal ∷ decimal depth ∷ signed score ∷ decimal count ∷ moves-text line ∷ [])
+abbrev pub answer_text : Status → ℕ → ℕ → ℤ → ℕ → List ℕ → List ℕ
+answer_text s legal depth score count line =
+    spaced (status_letters s ∷ decimal legal ∷ decimal depth ∷ signed score ∷ decimal count ∷ moves_text line ∷ [])
 
-abbrev pub refusal-text : ℕ → List ℕ
-refusal-text n = spaced ((letter-refused ∷ []) ∷ decimal n ∷ [])
+abbrev pub refusal_text : ℕ → List ℕ
+refusal_text n = spaced ((letter_refused ∷ []) ∷ decimal n ∷ [])

@@ -11,9 +11,9 @@ use Rattle.rules.specs.declared.NextBoard.{NextBoard}
 use Rattle.rules.specs.declared.NextBoard.TheVariants.{Any, Only}
 use Rattle.base.specs.Branch.{if◌then◌else◌}
 use Rattle.base.specs.Lists.{from}
-use Rattle.rules.specs.Board.{other, in-play, won-by, result}
+use Rattle.rules.specs.Board.{other, in_play, won_by, result_of}
 use Rattle.rules.specs.Position.{Position}
-use Rattle.text.specs.Bytes.{semicolon, slash, dot, hash-mark, at_mark, letter}
+use Rattle.text.specs.Bytes.{semicolon, slash, dot, hash_mark, at_mark, letter}
 
 pub data Reading : Type 0 where
   reads : Position → Reading
@@ -21,33 +21,33 @@ pub data Reading : Type 0 where
   refuses : ℕ → ℕ → ℕ → Reading
 
 -- the number of a refused text, 0 where it reads
-abbrev pub text-refusal : Reading → ℕ
-text-refusal (reads p) = 0
-text-refusal (refuses n offset size) = n
+abbrev pub text_refusal : Reading → ℕ
+text_refusal (reads p) = 0
+text_refusal (refuses n offset size) = n
 
 -- ---- marks
 -- a letter, as the side that it names
-unfoldable pub side-of : ℕ → Option Player
-side-of c =
+unfoldable pub side_of : ℕ → Option Player
+side_of c =
     if eqb c (letter X) then (λ _. some X) else
     λ _. if eqb c (letter O) then (λ _. some O) else λ _. none
 
-abbrev pub won-mark : Option Player → Option GameState
-won-mark none = none
-won-mark (some w) = some (Won w)
+abbrev pub won_mark : Option Player → Option GameState
+won_mark none = none
+won_mark (some w) = some (Won w)
 
 -- an overall mark: in play for `.` and `@`, `#` drawn, a letter for the side that has won
-unfoldable pub overall-mark : ℕ → Option GameState
-overall-mark c =
+unfoldable pub overall_mark : ℕ → Option GameState
+overall_mark c =
     if eqb c dot || eqb c at_mark then (λ _. some InPlay) else
-    λ _. if eqb c hash-mark then (λ _. some Drawn) else λ _. won-mark (side-of c)
+    λ _. if eqb c hash_mark then (λ _. some Drawn) else λ _. won_mark (side_of c)
 
-abbrev pub played-mark : Option Player → Option CellState
-played-mark none = none
-played-mark (some w) = some (Played w)
+abbrev pub played_mark : Option Player → Option CellState
+played_mark none = none
+played_mark (some w) = some (Played w)
 
-unfoldable pub cell-mark : ℕ → Option CellState
-cell-mark c = if eqb c dot then (λ _. some Empty) else λ _. played-mark (side-of c)
+unfoldable pub cell_mark : ℕ → Option CellState
+cell_mark c = if eqb c dot then (λ _. some Empty) else λ _. played_mark (side_of c)
 
 abbrev pub known : {A : Type 0} → Option A → Bool
 known none = false
@@ -58,89 +58,89 @@ or_else none d = d
 or_else (some a) d = a
 
 -- ---- sections: what the semicolons part
-abbrev pub first-longer : ℕ → List (List ℕ) → List (List ℕ)
-first-longer c [] = (c ∷ []) ∷ []
-first-longer c (s ∷ ss) = (c ∷ s) ∷ ss
+abbrev pub first_longer : ℕ → List (List ℕ) → List (List ℕ)
+first_longer c [] = (c ∷ []) ∷ []
+first_longer c (s ∷ ss) = (c ∷ s) ∷ ss
 
 unfoldable pub sections : List ℕ → List (List ℕ)
 sections [] = [] ∷ []
-sections (c ∷ cs) = if eqb c semicolon then (λ _. [] ∷ sections cs) else λ _. first-longer c (sections cs)
+sections (c ∷ cs) = if eqb c semicolon then (λ _. [] ∷ sections cs) else λ _. first_longer c (sections cs)
 
 -- ---- the overall section: its first bad mark; and the last `@`, which is the next board
 abbrev pub one_on : Option ℕ → Option ℕ
 one_on none = none
 one_on (some i) = some (suc i)
 
-unfoldable pub first-bad : List ℕ → Option ℕ
-first-bad [] = none
-first-bad (c ∷ cs) = if known (overall-mark c) then (λ _. one_on (first-bad cs)) else λ _. some 0
+unfoldable pub first_bad : List ℕ → Option ℕ
+first_bad [] = none
+first_bad (c ∷ cs) = if known (overall_mark c) then (λ _. one_on (first_bad cs)) else λ _. some 0
 
 -- i is the number of the first mark
-unfoldable pub last-at : ℕ → List ℕ → NextBoard → NextBoard
-last-at i [] d = d
-last-at i (c ∷ cs) d = last-at (suc i) cs (if eqb c at_mark then (λ _. Only i) else λ _. d)
+unfoldable pub last_at : ℕ → List ℕ → NextBoard → NextBoard
+last_at i [] d = d
+last_at i (c ∷ cs) d = last_at (suc i) cs (if eqb c at_mark then (λ _. Only i) else λ _. d)
 
 -- ---- the cells' section: nine boards of nine cells joined by `/`, 89 bytes; what follows is ignored
 -- the fault of byte i: a `/` lacking or replaced is 5, a cell that is lacking 6, a bad cell mark 3; 0 for none
-unfoldable pub fault-at : List ℕ → ℕ → ℕ
-fault-at cs i =
+unfoldable pub fault_at : List ℕ → ℕ → ℕ
+fault_at cs i =
     if eqb (i % 10) 9 then (λ _. if ltb i (length cs) && eqb (get_or cs i 0) slash then (λ _. 0) else λ _. 5) else
     λ _. if not (ltb i (length cs)) then (λ _. 6) else
-    λ _. if known (cell-mark (get_or cs i 0)) then (λ _. 0) else λ _. 3
+    λ _. if known (cell_mark (get_or cs i 0)) then (λ _. 0) else λ _. 3
 
-unfoldable pub first-fault : List ℕ → List ℕ → ℕ
-first-fault cs [] = 0
-first-fault cs (i ∷ is) = let f = fault-at cs i in if eqb f 0 then (λ _. first-fault cs is) else λ _. f
+unfoldable pub first_fault : List ℕ → List ℕ → ℕ
+first_fault cs [] = 0
+first_fault cs (i ∷ is) = let f = fault_at cs i in if eqb f 0 then (λ _. first_fault cs is) else λ _. f
 
 -- ---- the position that three good sections say: the overall marks are taken on trust, and only the lines of the side not to move are
 -- looked at
 unfoldable pub cell_in : List ℕ → ℕ → ℕ → CellState
-cell_in cs b c = if ltb b 9 && ltb c 9 then (λ _. or_else (cell-mark (get_or cs (10 * b + c) dot)) Empty) else λ _. Empty
+cell_in cs b c = if ltb b 9 && ltb c 9 then (λ _. or_else (cell_mark (get_or cs (10 * b + c) dot)) Empty) else λ _. Empty
 
-unfoldable pub state-in : List ℕ → ℕ → GameState
-state-in os b = if ltb b 9 then (λ _. or_else (overall-mark (get_or os b dot)) InPlay) else λ _. InPlay
+unfoldable pub state_in : List ℕ → ℕ → GameState
+state_in os b = if ltb b 9 then (λ _. or_else (overall_mark (get_or os b dot)) InPlay) else λ _. InPlay
 
 unfoldable pub said : Player → List ℕ → List ℕ → Position
 said w os cs =
     let v = other w in
     record {
       turn = w;
-      next-board = last-at 0 os Any;
+      next_board = last_at 0 os Any;
       cells = cell_in cs;
-      states = state-in os;
-      state = result v (λ b. won-by v (state-in os b)) (λ b. in-play (state-in os b));
+      states = state_in os;
+      state = result_of v (λ b. won_by v (state_in os b)) (λ b. in_play (state_in os b));
     }
 
 -- ---- the tests, in their order
 -- the cells' section begins at 12
-unfoldable pub read-cells : Player → List ℕ → List ℕ → Reading
-read-cells w os cs = let f = first-fault cs (from 0 89) in if eqb f 0 then (λ _. reads (said w os cs)) else λ _. refuses f 12 (length cs)
+unfoldable pub read_cells : Player → List ℕ → List ℕ → Reading
+read_cells w os cs = let f = first_fault cs (from 0 89) in if eqb f 0 then (λ _. reads (said w os cs)) else λ _. refuses f 12 (length cs)
 
 -- the overall section begins at 2
-abbrev pub read-marks : Option ℕ → Player → List ℕ → List ℕ → Reading
-read-marks none w os cs = read-cells w os cs
-read-marks (some i) w os cs = refuses 5 (2 + i) 1
+abbrev pub read_marks : Option ℕ → Player → List ℕ → List ℕ → Reading
+read_marks none w os cs = read_cells w os cs
+read_marks (some i) w os cs = refuses 5 (2 + i) 1
 
-unfoldable pub read-overall : Player → List ℕ → List ℕ → Reading
-read-overall w os cs = if eqb (length os) 9 then (λ _. read-marks (first-bad os) w os cs) else λ _. refuses 4 2 (length os)
+unfoldable pub read_overall : Player → List ℕ → List ℕ → Reading
+read_overall w os cs = if eqb (length os) 9 then (λ _. read_marks (first_bad os) w os cs) else λ _. refuses 4 2 (length os)
 
 -- the side is one letter
-abbrev pub lone-side : List ℕ → Option Player
-lone-side [] = none
-lone-side (c ∷ []) = side-of c
-lone-side (c ∷ d ∷ cs) = none
+abbrev pub lone_side : List ℕ → Option Player
+lone_side [] = none
+lone_side (c ∷ []) = side_of c
+lone_side (c ∷ d ∷ cs) = none
 
-abbrev pub read-side : Option Player → List ℕ → List ℕ → List ℕ → Reading
-read-side none s os cs = refuses 3 0 (length s)
-read-side (some w) s os cs = read-overall w os cs
+abbrev pub read_side : Option Player → List ℕ → List ℕ → List ℕ → Reading
+read_side none s os cs = refuses 3 0 (length s)
+read_side (some w) s os cs = read_overall w os cs
 
-abbrev pub read-sections : List (List ℕ) → ℕ → Reading
-read-sections [] n = refuses 2 0 n
-read-sections (s ∷ []) n = refuses 2 0 n
-read-sections (s ∷ os ∷ []) n = refuses 2 0 n
-read-sections (s ∷ os ∷ cs ∷ []) n = read-side (lone-side s) s os cs
-read-sections (s ∷ os ∷ cs ∷ t ∷ ts) n = refuses 2 0 n
+abbrev pub read_sections : List (List ℕ) → ℕ → Reading
+read_sections [] n = refuses 2 0 n
+read_sections (s ∷ []) n = refuses 2 0 n
+read_sections (s ∷ os ∷ []) n = refuses 2 0 n
+read_sections (s ∷ os ∷ cs ∷ []) n = read_side (lone_side s) s os cs
+read_sections (s ∷ os ∷ cs ∷ t ∷ ts) n = refuses 2 0 n
 
 -- over 256 bytes is 1, which has no place
 unfoldable pub read : List ℕ → Reading
-read text = if ltb 256 (length text) then (λ _. refuses 1 0 0) else λ _. read-sections (sections text) (length text)
+read text = if ltb 256 (length text) then (λ _. refuses 1 0 0) else λ _. read_sections (sections text) (length text)

@@ -11,7 +11,7 @@ use lib.IntN.{ℤ, neg_ℤ, neg_ℤ-neg_ℤ}
 use lib.ListN.{length, length-append}
 use lib.Signed.{le_z, ◌≤ℤ◌, le_z_yes}
 use Rattle.base.proofs.Bool.{or→}
-use Rattle.base.proofs.Branch.{if-ind}
+use Rattle.base.proofs.Branch.{if_ind}
 use Rattle.base.proofs.Integers.{zarith}
 use Rattle.rules.specs.Evaluation.{won, lost}
 use Rattle.rules.specs.Play.{no_move}
@@ -19,32 +19,32 @@ use Rattle.theory.specs.Game.{Game}
 use Rattle.theory.specs.PlainMinimax.{plain}
 use Rattle.theory.specs.Memory.{Tally, Memory, begin}
 use Rattle.theory.specs.OrderedSearch.{Allowance, Outcome, stopped, found}
-use Rattle.theory.specs.Deepening.{Completed, nothing_yet, one_deeper, SearchAnswer, decided, on-outcome, deepen, analyze}
+use Rattle.theory.specs.Deepening.{Completed, nothing_yet, one_deeper, SearchAnswer, decided, on_outcome, deepen, analyze}
 use Rattle.theory.specs.Variation.{FirstAttains, AttainsMinimax}
-use Rattle.theory.proofs.PlainMinimax.{Lawful, plain-range, stays-won-to, stays-lost-to}
-use Rattle.theory.proofs.Memory.{Off, off-begin}
-use Rattle.theory.proofs.Variation.{Led, Leads, line-ends}
-use Rattle.theory.proofs.OrderedSearch.{Gives, Exact, search-is-minimax}
+use Rattle.theory.proofs.PlainMinimax.{Lawful, plain_range, stays_won_to, stays_lost_to}
+use Rattle.theory.proofs.Memory.{Off, off_begin}
+use Rattle.theory.proofs.Variation.{Led, Leads, line_ends}
+use Rattle.theory.proofs.OrderedSearch.{Gives, Exact, search_is_minimax}
 
-pub on-outcome-gives : (P : ℤ → List ℕ → Memory → Type 0) (Q : SearchAnswer → Type 0) (o : Outcome)
+pub on_outcome_gives : (P : ℤ → List ℕ → Memory → Type 0) (Q : SearchAnswer → Type 0) (o : Outcome)
     (f : Memory → SearchAnswer) (g : ℤ → List ℕ → Memory → SearchAnswer) →
     Gives P o → ((s : Memory) → Q (f s)) → ((r : ℤ) (pv : List ℕ) (s : Memory) → P r pv s → Q (g r pv s)) →
-    Q (on-outcome o f g)
-unfolding on-outcome Gives
-on-outcome-gives P Q (stopped s) f g h i j = i s
-on-outcome-gives P Q (found r pv s) f g h i j = j r pv s h
+    Q (on_outcome o f g)
+unfolding on_outcome Gives
+on_outcome_gives P Q (stopped s) f g h i j = i s
+on_outcome_gives P Q (found r pv s) f g h i j = j r pv s h
 
 -- a score of 2^60 or beyond is won or lost
-decided-is : (r v : ℤ) → r ≡ v → lost ≤ℤ v → v ≤ℤ won → T (decided r) → (r ≡ won) ⊎ (r ≡ lost)
-decided-is r v e h k t =
+decided_is : (r v : ℤ) → r ≡ v → lost ≤ℤ v → v ≤ℤ won → T (decided r) → (r ≡ won) ⊎ (r ≡ lost)
+decided_is r v e h k t =
     elim (or→ (le_z r lost) (le_z won r) t) [
       | inl u ↦ inr (omega (zarith, le_z_yes {a = r} {b = lost} u))
       | inr u ↦ inl (omega (zarith, le_z_yes {a = won} {b = r} u))
     ]
 
-one-more-each : (w : Completed) → length w.stats ≡ w.depth → (r : ℤ) (pv : List ℕ) (t : Tally) →
+one_more_each : (w : Completed) → length w.stats ≡ w.depth → (r : ℤ) (pv : List ℕ) (t : Tally) →
     length (one_deeper w r pv t).stats ≡ suc w.depth
-one-more-each w e r pv t = simp length-append (omega arith)
+one_more_each w e r pv t = simp length-append (omega arith)
 
 module _ (G : Game) (L : Lawful G) (limit : ℕ) (p : G.Pos) (g : L.Good p) where
   -- one completed depth, after w
@@ -55,7 +55,7 @@ module _ (G : Game) (L : Lawful G) (limit : ℕ) (p : G.Pos) (g : L.Good p) wher
     begins x e f [] o h = h
     begins x e f (m ∷ l) o h = (
       h.0,
-      ap neg_ℤ (f (G.play p m) (L.good-play p g o m h.0) (sym (neg_ℤ-neg_ℤ (plain G w.depth (G.play p m)))
+      ap neg_ℤ (f (G.play p m) (L.good_play p g o m h.0) (sym (neg_ℤ-neg_ℤ (plain G w.depth (G.play p m)))
           ∙ ap neg_ℤ (h.1 ∙ e))) ∙ neg_ℤ-neg_ℤ x ∙ sym e,
     )
 
@@ -63,61 +63,61 @@ module _ (G : Game) (L : Lawful G) (limit : ℕ) (p : G.Pos) (g : L.Good p) wher
     right : (suc w.depth ≡ suc limit) ⊎ T (decided r) → (x : ℤ) → r ≡ x →
         (plain G (suc w.depth) p ≡ x → plain G (suc limit) p ≡ x) → ((q : G.Pos) → L.Good q →
         plain G w.depth q ≡ neg_ℤ x → plain G limit q ≡ neg_ℤ x) → AttainsMinimax G limit p (one_deeper w r pv t)
-    right deep x e f h = let z = line-ends G L (suc w.depth) p g pv r leads in record {
-      score-is = e ∙ sym (f (sym score ∙ e));
-      some-depth = omega arith;
+    right deep x e f h = let z = line_ends G L (suc w.depth) p g pv r leads in record {
+      score_is = e ∙ sym (f (sym score ∙ e));
+      some_depth = omega arith;
       no_deeper = omega arith;
       deep = deep;
-      stats-each = one-more-each w each r pv t;
+      stats_each = one_more_each w each r pv t;
       first = λ o. begins x e h pv o (leads.1 o);
       accepted = z.0;
       ends = z.1;
     }
 
-    right-at-limit : limit ≡ w.depth → AttainsMinimax G limit p (one_deeper w r pv t)
-    right-at-limit e =
+    right_at_limit : limit ≡ w.depth → AttainsMinimax G limit p (one_deeper w r pv t)
+    right_at_limit e =
         right (inl (omega arith)) r refl (λ h. subst (λ (d : ℕ). plain G (suc d) p ≡ r) (sym e) h)
         (λ q _ h. subst (λ (d : ℕ). plain G d q ≡ neg_ℤ r) (sym e) h)
 
     -- k depths sooner
-    right-if-decided : (k : ℕ) → limit ≡ k + w.depth → T (decided r) → AttainsMinimax G limit p (one_deeper w r pv t)
-    right-if-decided k e u =
-        let v = plain-range G L (suc w.depth) p g in
-        elim (decided-is r (plain G (suc w.depth) p) score v.0 v.1 u) [
-          | inl x ↦ right (inr u) won x (stays-won-to G L k (suc w.depth) (suc limit) p g (omega arith))
-              (λ q h. stays-lost-to G L k w.depth limit q h e)
-          | inr x ↦ right (inr u) lost x (stays-lost-to G L k (suc w.depth) (suc limit) p g (omega arith))
-              (λ q h. stays-won-to G L k w.depth limit q h e)
+    right_if_decided : (k : ℕ) → limit ≡ k + w.depth → T (decided r) → AttainsMinimax G limit p (one_deeper w r pv t)
+    right_if_decided k e u =
+        let v = plain_range G L (suc w.depth) p g in
+        elim (decided_is r (plain G (suc w.depth) p) score v.0 v.1 u) [
+          | inl x ↦ right (inr u) won x (stays_won_to G L k (suc w.depth) (suc limit) p g (omega arith))
+              (λ q h. stays_lost_to G L k w.depth limit q h e)
+          | inr x ↦ right (inr u) lost x (stays_lost_to G L k (suc w.depth) (suc limit) p g (omega arith))
+              (λ q h. stays_won_to G L k w.depth limit q h e)
         ]
 
   abbrev RightUnlessStopped : SearchAnswer → Type 0
-  RightUnlessStopped x = T (not x.is-stopped) → AttainsMinimax G limit p x.completed
+  RightUnlessStopped x = T (not x.is_stopped) → AttainsMinimax G limit p x.completed
 
   module _ (n : Allowance) where
-    deepen-step : (k : ℕ) (w : Completed) → limit ≡ k + w.depth → length w.stats ≡ w.depth → (s : Memory) → Off s →
+    deepen_step : (k : ℕ) (w : Completed) → limit ≡ k + w.depth → length w.stats ≡ w.depth → (s : Memory) → Off s →
         ((r : ℤ) (pv : List ℕ) (s' : Memory) → Exact G L (suc w.depth) p r pv s' →
         RightUnlessStopped (deepen G n k p (one_deeper w r pv s'.tally) s')) → RightUnlessStopped (deepen G n (suc k) p w s)
     unfolding deepen
-    deepen-step k w e each s o next =
-        on-outcome-gives (Exact G L (suc w.depth) p) RightUnlessStopped _ _ _
-        (search-is-minimax G L n (suc w.depth) p g (w.pv ++ (no_move ∷ [])) no_move (begin s) (off-begin s o)) (λ _ t. absurd t)
-        (λ r pv s' h. if-ind RightUnlessStopped (decided r) _ _ (λ t _. right-if-decided w (omega arith) each r pv s'.tally h.0
+    deepen_step k w e each s o next =
+        on_outcome_gives (Exact G L (suc w.depth) p) RightUnlessStopped _ _ _
+        (search_is_minimax G L n (suc w.depth) p g (w.pv ++ (no_move ∷ [])) no_move (begin s) (off_begin s o)) (λ _ t. absurd t)
+        (λ r pv s' h. if_ind RightUnlessStopped (decided r) _ _ (λ t _. right_if_decided w (omega arith) each r pv s'.tally h.0
         h.1 k e t) (λ _. next r pv s' h))
 
-    deepen-right : (k : ℕ) (w : Completed) → limit ≡ k + w.depth → length w.stats ≡ w.depth →
+    deepen_right : (k : ℕ) (w : Completed) → limit ≡ k + w.depth → length w.stats ≡ w.depth →
         (r : ℤ) (pv : List ℕ) (t : Tally) (s : Memory) → Exact G L (suc w.depth) p r pv s →
         RightUnlessStopped (deepen G n k p (one_deeper w r pv t) s)
     unfolding deepen
-    deepen-right zero w e each r pv t s h = λ _. right-at-limit w (omega arith) each r pv t h.0 h.1 (omega arith)
-    deepen-right (suc k) w e each r pv t s h = let each' = one-more-each w each r pv t in
-        deepen-step k (one_deeper w r pv t) (omega arith) each' s h.2
-        (λ r' line' s' h'. deepen-right k (one_deeper w r pv t) (omega arith) each' r' line' s'.tally s' h')
+    deepen_right zero w e each r pv t s h = λ _. right_at_limit w (omega arith) each r pv t h.0 h.1 (omega arith)
+    deepen_right (suc k) w e each r pv t s h = let each' = one_more_each w each r pv t in
+        deepen_step k (one_deeper w r pv t) (omega arith) each' s h.2
+        (λ r' line' s' h'. deepen_right k (one_deeper w r pv t) (omega arith) each' r' line' s'.tally s' h')
 
 -- the whole claim on a search: with the table off, any response tables, any allowance and any limit of 1 or more, an answer that is not
 -- marked as stopped is right
-pub analyze-right : (G : Game) (L : Lawful G) (n : Allowance) (k : ℕ) (p : G.Pos) → L.Good p → (s : Memory) → Off s →
-    T (not (analyze G n (suc k) p s).is-stopped) → AttainsMinimax G k p (analyze G n (suc k) p s).completed
+pub analyze_right : (G : Game) (L : Lawful G) (n : Allowance) (k : ℕ) (p : G.Pos) → L.Good p → (s : Memory) → Off s →
+    T (not (analyze G n (suc k) p s).is_stopped) → AttainsMinimax G k p (analyze G n (suc k) p s).completed
 unfolding analyze
-analyze-right G L n k p g s o =
-    deepen-step G L k p g n k nothing_yet (omega arith) refl s o (λ r pv s' h. deepen-right G L k p g n k nothing_yet (omega arith) refl r
+analyze_right G L n k p g s o =
+    deepen_step G L k p g n k nothing_yet (omega arith) refl s o (λ r pv s' h. deepen_right G L k p g n k nothing_yet (omega arith) refl r
     pv s'.tally s' h)

@@ -10,33 +10,33 @@ use lib.ListN.{replicate}
 use lib.IntN.{ℤ, neg_ℤ}
 use lib.Signed.{le_z, lt_z, ◌≤ℤ◌, ◌<ℤ◌, le_z_yes, lt_z_yes, lt_z_no}
 use Rattle.base.specs.Lists.{In}
-use Rattle.base.proofs.Branch.{if-ind}
-use Rattle.base.proofs.Integers.{hi, lo, zarith, ng, nle→, split, max-l, max-r, max-is}
+use Rattle.base.proofs.Branch.{if_ind}
+use Rattle.base.proofs.Integers.{hi, lo, zarith, ng, nle→, split, max_l, max_r, max_is}
 use Rattle.rules.specs.Evaluation.{won, lost}
 use Rattle.rules.specs.Play.{no_move}
 use Rattle.theory.specs.Game.{Game}
 use Rattle.theory.specs.PlainMinimax.{lowest, highest, best, plain, promises}
 use Rattle.theory.specs.Memory.{Memory, enter, leaf}
-use Rattle.theory.specs.OrderedSearch.{Allowance, has_room, Outcome, stopped, found, unless-stopped, entering, Probed, probe}
-use Rattle.theory.specs.OrderedSearch.{on-probe, with-stored, candidates, Search, over-moves, search}
-use Rattle.theory.proofs.PlainMinimaxBest.{best-same}
-use Rattle.theory.proofs.OrderedSearchCandidates.{candidates-accepted, candidates-all}
-use Rattle.theory.proofs.PlainMinimax.{Lawful, plain_over, plain-moves, plain-range}
-use Rattle.theory.proofs.Memory.{Off, off-enter, off-leaf, off-cut, probe-off, told-off}
+use Rattle.theory.specs.OrderedSearch.{Allowance, has_room, Outcome, stopped, found, unless_stopped, entering, Probed, probe}
+use Rattle.theory.specs.OrderedSearch.{on_probe, with_stored, candidates, Search, over_moves, search}
+use Rattle.theory.proofs.PlainMinimaxBest.{best_same}
+use Rattle.theory.proofs.OrderedSearchCandidates.{candidates_accepted, candidates_all}
+use Rattle.theory.proofs.PlainMinimax.{Lawful, plain_over, plain_moves, plain_range}
+use Rattle.theory.proofs.Memory.{Off, off_enter, off_leaf, off_cut, probe_off, told_off}
 use Rattle.theory.proofs.Variation.{Led, Leads}
 
 -- ---- r, found within the window from a to b, and the value v: below the upper edge r is no less than v, above the lower edge no more
 abbrev pub Bounds : ℤ → ℤ → ℤ → ℤ → Type 0
 Bounds a b r v = (r <ℤ b → v ≤ℤ r) × (a <ℤ r → r ≤ℤ v)
 
-bounds-neg : (a b r v : ℤ) → Bounds (neg_ℤ b) (neg_ℤ a) r v → Bounds a b (neg_ℤ r) (neg_ℤ v)
-bounds-neg a b r v h = (
+bounds_neg : (a b r v : ℤ) → Bounds (neg_ℤ b) (neg_ℤ a) r v → Bounds a b (neg_ℤ r) (neg_ℤ v)
+bounds_neg a b r v h = (
   (λ k. omega (zarith, ng r, ng v, h.1 (omega (zarith, ng r, ng b)))),
   (λ k. omega (zarith, ng r, ng v, h.0 (omega (zarith, ng r, ng a)))),
 )
 
-bounds-refl : (a b r : ℤ) → Bounds a b r r
-bounds-refl a b r = ((λ _. omega zarith), (λ _. omega zarith))
+bounds_refl : (a b r : ℤ) → Bounds a b r r
+bounds_refl a b r = ((λ _. omega zarith), (λ _. omega zarith))
 
 -- ---- what holds of a result, unless the search stopped
 unfoldable pub Gives : (ℤ → List ℕ → Memory → Type 0) → Outcome → Type 0
@@ -47,28 +47,28 @@ pub gives_found : (P : ℤ → List ℕ → Memory → Type 0) (r : ℤ) (l : Li
 unfolding Gives
 gives_found P r l s h = h
 
-pub gives-next : (P Q : ℤ → List ℕ → Memory → Type 0) (o : Outcome) (k : ℤ → List ℕ → Memory → Outcome) →
-    Gives P o → ((r : ℤ) (l : List ℕ) (s : Memory) → P r l s → Gives Q (k r l s)) → Gives Q (unless-stopped o k)
-unfolding unless-stopped Gives
-gives-next P Q (stopped s) k h f = tt
-gives-next P Q (found r l s) k h f = f r l s h
+pub gives_next : (P Q : ℤ → List ℕ → Memory → Type 0) (o : Outcome) (k : ℤ → List ℕ → Memory → Outcome) →
+    Gives P o → ((r : ℤ) (l : List ℕ) (s : Memory) → P r l s → Gives Q (k r l s)) → Gives Q (unless_stopped o k)
+unfolding unless_stopped Gives
+gives_next P Q (stopped s) k h f = tt
+gives_next P Q (found r l s) k h f = f r l s h
 
-gives-map : (P Q : ℤ → List ℕ → Memory → Type 0) (o : Outcome) → Gives P o →
+gives_map : (P Q : ℤ → List ℕ → Memory → Type 0) (o : Outcome) → Gives P o →
     ((r : ℤ) (l : List ℕ) (s : Memory) → P r l s → Q r l s) → Gives Q o
 unfolding Gives
-gives-map P Q (stopped s) h f = tt
-gives-map P Q (found r l s) h f = f r l s h
+gives_map P Q (stopped s) h f = tt
+gives_map P Q (found r l s) h f = f r l s h
 
-pub gives-entering : (P : ℤ → List ℕ → Memory → Type 0) (n : Allowance) (s : Memory) (k : Memory → Outcome) →
+pub gives_entering : (P : ℤ → List ℕ → Memory → Type 0) (n : Allowance) (s : Memory) (k : Memory → Outcome) →
     Gives P (k (enter s)) → Gives P (entering n s k)
 unfolding entering Gives
-gives-entering P n s k h = if-ind (Gives P) (has_room n s.count) _ _ (λ _. h) (λ _. tt)
+gives_entering P n s k h = if_ind (Gives P) (has_room n s.count) _ _ (λ _. h) (λ _. tt)
 
 -- a table that is off has nothing to say
-gives-probe : (P : ℤ → List ℕ → Memory → Type 0) (s : Memory) (key d : ℕ) (a b : ℤ) (f : ℤ → ℕ → Memory → Outcome)
-    (k : List ℕ → Memory → Outcome) → Off s → Gives P (k [] s) → Gives P (on-probe (probe s key d a b) f k)
-unfolding on-probe
-gives-probe P s key d a b f k o h = subst (λ (x : Probed). Gives P (on-probe x f k)) (sym (probe-off s key d a b o)) h
+gives_probe : (P : ℤ → List ℕ → Memory → Type 0) (s : Memory) (key d : ℕ) (a b : ℤ) (f : ℤ → ℕ → Memory → Outcome)
+    (k : List ℕ → Memory → Outcome) → Off s → Gives P (k [] s) → Gives P (on_probe (probe s key d a b) f k)
+unfolding on_probe
+gives_probe P s key d a b f k o h = subst (λ (x : Probed). Gives P (on_probe x f k)) (sym (probe_off s key d a b o)) h
 
 module _ (G : Game) where
   -- what the search gives at a position: its value within the window, and inside the window a variation
@@ -94,7 +94,7 @@ module _ (G : Game) where
 
     bounds : Bounds a b (neg_ℤ r) this
     unfolding this
-    bounds = bounds-neg a b r (plain G d (G.play p m)) below.0
+    bounds = bounds_neg a b r (plain G d (G.play p m)) below.0
 
     -- it reaches the upper edge
     left_cut : a <ℤ neg_ℤ r → b ≤ℤ neg_ℤ r → Left d p (m ∷ ms) a b old (neg_ℤ r) (m ∷ low)
@@ -102,7 +102,7 @@ module _ (G : Game) where
     left_cut h k = record {
       up = omega zarith;
       most = λ u. absurd (omega zarith);
-      least = λ u. omega (zarith, bounds.1 h, max-l this rest);
+      least = λ u. omega (zarith, bounds.1 h, max_l this rest);
       kept = λ u. absurd (omega zarith);
       led = λ _ u. absurd (omega zarith);
     }
@@ -113,23 +113,23 @@ module _ (G : Game) where
     unfolding best this rest
     left_not h k r' pv w = record {
       up = w.up;
-      most = λ u. max-is (λ z. z ≤ℤ r') this rest (omega (zarith, bounds.0 (omega zarith), w.up)) (w.most u);
-      least = λ u. omega (zarith, w.least u, max-r this rest);
+      most = λ u. max_is (λ z. z ≤ℤ r') this rest (omega (zarith, bounds.0 (omega zarith), w.up)) (w.most u);
+      least = λ u. omega (zarith, w.least u, max_r this rest);
       kept = w.kept;
       led = w.led;
     }
 
     -- it is better
-    left-better : a <ℤ neg_ℤ r → neg_ℤ r <ℤ b → In m (G.moves p) → (r' : ℤ) (pv : List ℕ) →
+    left_better : a <ℤ neg_ℤ r → neg_ℤ r <ℤ b → In m (G.moves p) → (r' : ℤ) (pv : List ℕ) →
         Left d p ms (neg_ℤ r) b (m ∷ low) r' pv → Left d p (m ∷ ms) a b old r' pv
     unfolding best this rest
-    left-better h k i r' pv w = record {
+    left_better h k i r' pv w = record {
       up = omega (zarith, w.up);
-      most = λ u. max-is (λ z. z ≤ℤ r') this rest (omega (zarith, bounds.0 k, w.up)) (w.most u);
+      most = λ u. max_is (λ z. z ≤ℤ r') this rest (omega (zarith, bounds.0 k, w.up)) (w.most u);
       least =
           λ u. elim (split (neg_ℤ r) r') [
-            | inl q ↦ omega (zarith, w.least q, max-r this rest)
-            | inr q ↦ omega (zarith, bounds.1 h, max-l this rest)
+            | inl q ↦ omega (zarith, w.least q, max_r this rest)
+            | inr q ↦ omega (zarith, bounds.1 h, max_l this rest)
           ];
       kept = λ u. absurd (omega (zarith, w.up));
       led = λ u v. elim (split (neg_ℤ r) r') [ inl q ↦ w.led q v | inr q ↦ here q ];
@@ -144,17 +144,17 @@ module _ (G : Game) where
                   (below.1 (omega (zarith, ng r, ng b)) (omega (zarith, ng r, ng a))),
             )
 
-  over-found : (d : ℕ) (p : G.Pos) (a b : ℤ) (pv : List ℕ) → T (G.over p) → Found (suc d) p a b (G.value p) pv
-  over-found d p a b pv t = (
-    subst (λ (z : ℤ). Bounds a b (G.value p) z) (sym (plain_over G (suc d) p t)) (bounds-refl a b (G.value p)),
+  over_found : (d : ℕ) (p : G.Pos) (a b : ℤ) (pv : List ℕ) → T (G.over p) → Found (suc d) p a b (G.value p) pv
+  over_found d p a b pv t = (
+    subst (λ (z : ℤ). Bounds a b (G.value p) z) (sym (plain_over G (suc d) p t)) (bounds_refl a b (G.value p)),
     (λ _ _. ((λ _. refl), (λ u. absurd (T_not (G.over p) u t)))),
   )
 
-  open-found : (d : ℕ) (p : G.Pos) (a b : ℤ) (old : List ℕ) (r : ℤ) (pv : List ℕ) (ms : List ℕ) → T (not (G.over p)) →
+  open_found : (d : ℕ) (p : G.Pos) (a b : ℤ) (old : List ℕ) (r : ℤ) (pv : List ℕ) (ms : List ℕ) → T (not (G.over p)) →
       ((m : ℕ) → In m ms → In m (G.moves p)) → ((m : ℕ) → In m (G.moves p) → In m ms) → Left d p ms a b old r pv →
       Found (suc d) p a b r pv
-  open-found d p a b old r pv ms t i j w = (
-    subst (λ (z : ℤ). Bounds a b r z) (best-same (promises G d p) ms (G.moves p) i j ∙ sym (plain-moves G d p t)) (w.most, w.least),
+  open_found d p a b old r pv ms t i j w = (
+    subst (λ (z : ℤ). Bounds a b r z) (best_same (promises G d p) ms (G.moves p) i j ∙ sym (plain_moves G d p t)) (w.most, w.least),
     (λ u v. ((λ o. absurd (T_not (G.over p) t o)), (λ _. w.led u v))),
   )
 
@@ -173,11 +173,11 @@ module _ (G : Game) where
         b ≤ℤ highest → Gives (FoundOff d p a b) (below p a b pv prev s)
 
     module _ (d : ℕ) (below : Search G) (finds : Finds d below) (p : G.Pos)
-        (good : (m : ℕ) → In m (G.moves p) → L.Good (G.play p m)) (b : ℤ) (b-high : b ≤ℤ highest) (prev : ℕ) where
-      moves-left : (ms : List ℕ) (a : ℤ) (pv low : List ℕ) (s : Memory) → Off s → lowest ≤ℤ a → a <ℤ b →
-          ((m : ℕ) → In m ms → In m (G.moves p)) → Gives (LeftOff d p ms a b pv) (over-moves G below p b prev ms a pv low s)
-      unfolding over-moves best hi lo
-      moves-left [] a pv low s o ha hb inn =
+        (good : (m : ℕ) → In m (G.moves p) → L.Good (G.play p m)) (b : ℤ) (b_high : b ≤ℤ highest) (prev : ℕ) where
+      moves_left : (ms : List ℕ) (a : ℤ) (pv low : List ℕ) (s : Memory) → Off s → lowest ≤ℤ a → a <ℤ b →
+          ((m : ℕ) → In m ms → In m (G.moves p)) → Gives (LeftOff d p ms a b pv) (over_moves G below p b prev ms a pv low s)
+      unfolding over_moves best hi lo
+      moves_left [] a pv low s o ha hb inn =
           gives_found (LeftOff d p [] a b pv) _ _ _ (
             record {
               up = omega zarith;
@@ -188,46 +188,46 @@ module _ (G : Game) where
             },
             o,
           )
-      moves-left (m ∷ ms) a pv low s o ha hb inn =
-          gives-next (FoundOff d (G.play p m) (neg_ℤ b) (neg_ℤ a)) (LeftOff d p (m ∷ ms) a b pv) _ _
+      moves_left (m ∷ ms) a pv low s o ha hb inn =
+          gives_next (FoundOff d (G.play p m) (neg_ℤ b) (neg_ℤ a)) (LeftOff d p (m ∷ ms) a b pv) _ _
           (finds (G.play p m) (neg_ℤ b) (neg_ℤ a) low m s (good m (inn m (inl refl))) o (omega (zarith, ng b))
           (omega (zarith, ng a, ng b)) (omega (zarith, ng a)))
-          (λ r low' s' h. if-ind (Gives (LeftOff d p (m ∷ ms) a b pv)) (lt_z a (neg_ℤ r)) _ _
-          (λ t. if-ind (Gives (LeftOff d p (m ∷ ms) a b pv)) (le_z b (neg_ℤ r)) _ _
+          (λ r low' s' h. if_ind (Gives (LeftOff d p (m ∷ ms) a b pv)) (lt_z a (neg_ℤ r)) _ _
+          (λ t. if_ind (Gives (LeftOff d p (m ∷ ms) a b pv)) (le_z b (neg_ℤ r)) _ _
           (λ u. gives_found (LeftOff d p (m ∷ ms) a b pv) _ _ _ (
             left_cut d p m ms a b pv r low' h.0 (lt_z_yes t) (le_z_yes u),
-            off-cut (G.turn p) s' prev m h.1,
+            off_cut (G.turn p) s' prev m h.1,
           ))
-          (λ u. gives-map (LeftOff d p ms (neg_ℤ r) b (m ∷ low')) (LeftOff d p (m ∷ ms) a b pv) _
-          (moves-left ms (neg_ℤ r) (m ∷ low') low' s' h.1 (omega (zarith, lt_z_yes {a = a} {b = neg_ℤ r} t)) (nle→ u)
+          (λ u. gives_map (LeftOff d p ms (neg_ℤ r) b (m ∷ low')) (LeftOff d p (m ∷ ms) a b pv) _
+          (moves_left ms (neg_ℤ r) (m ∷ low') low' s' h.1 (omega (zarith, lt_z_yes {a = a} {b = neg_ℤ r} t)) (nle→ u)
           (λ x j. inn x (inr j)))
-          (λ r' l' _ w. (left-better d p m ms a b pv r low' h.0 (lt_z_yes t) (nle→ u) (inn m (inl refl)) r' l' w.0, w.1))))
-          (λ t. gives-map (LeftOff d p ms a b pv) (LeftOff d p (m ∷ ms) a b pv) _
-          (moves-left ms a pv low' s' h.1 ha hb (λ x j. inn x (inr j)))
+          (λ r' l' _ w. (left_better d p m ms a b pv r low' h.0 (lt_z_yes t) (nle→ u) (inn m (inl refl)) r' l' w.0, w.1))))
+          (λ t. gives_map (LeftOff d p ms a b pv) (LeftOff d p (m ∷ ms) a b pv) _
+          (moves_left ms a pv low' s' h.1 ha hb (λ x j. inn x (inr j)))
           (λ r' l' _ w. (left_not d p m ms a b pv r low' h.0 hb (lt_z_no t) r' l' w.0, w.1))))
 
     -- with any allowance, previous move, variation and response tables
-    pub search-finds : (n : Allowance) (d : ℕ) → Finds d (search G n d)
+    pub search_finds : (n : Allowance) (d : ℕ) → Finds d (search G n d)
     unfolding search plain
-    search-finds n zero p a b pv prev s g o ha hb ht = gives-entering (FoundOff zero p a b) n s _
+    search_finds n zero p a b pv prev s g o ha hb ht = gives_entering (FoundOff zero p a b) n s _
         (gives_found (FoundOff zero p a b) (G.value p) pv (leaf (enter s))
-        ((bounds-refl a b (G.value p), λ _ _. refl), off-leaf (enter s) (off-enter s o)))
-    search-finds n (suc d) p a b pv prev s g o ha hb ht =
+        ((bounds_refl a b (G.value p), λ _ _. refl), off_leaf (enter s) (off_enter s o)))
+    search_finds n (suc d) p a b pv prev s g o ha hb ht =
         let s₁ = enter s in
         let ms = candidates G [] s₁ p prev pv in
-        gives-entering (FoundOff (suc d) p a b) n s _ (if-ind (Gives (FoundOff (suc d) p a b)) (G.over p) _ _
-        (λ t. gives_found (FoundOff (suc d) p a b) (G.value p) pv (leaf s₁) (over-found d p a b pv t, off-leaf s₁ (off-enter s o)))
-        (λ t. gives-probe (FoundOff (suc d) p a b) s₁ (G.key p) (suc d) a b _ _ (off-enter s o)
-        (gives-next (LeftOff d p ms a b pv) (FoundOff (suc d) p a b) _ _
-        (moves-left d (search G n d) (search-finds n d) p (L.good-play p g t) b ht prev ms a pv (replicate d no_move) s₁ (off-enter s o)
+        gives_entering (FoundOff (suc d) p a b) n s _ (if_ind (Gives (FoundOff (suc d) p a b)) (G.over p) _ _
+        (λ t. gives_found (FoundOff (suc d) p a b) (G.value p) pv (leaf s₁) (over_found d p a b pv t, off_leaf s₁ (off_enter s o)))
+        (λ t. gives_probe (FoundOff (suc d) p a b) s₁ (G.key p) (suc d) a b _ _ (off_enter s o)
+        (gives_next (LeftOff d p ms a b pv) (FoundOff (suc d) p a b) _ _
+        (moves_left d (search G n d) (search_finds n d) p (L.good_play p g t) b ht prev ms a pv (replicate d no_move) s₁ (off_enter s o)
         ha hb (listed t))
-        (λ r line' s₃ w. gives_found (FoundOff (suc d) p a b) r line' (with-stored s₃ (G.key p) (suc d) a b r line') (
-          open-found d p a b pv r line' ms t (listed t) (λ m i. candidates-all G [] s₁ p prev pv m ((L.listed p g t m).0 i) i) w.0,
-          subst Off (sym (told-off s₃ (G.key p) (suc d) a b r line' w.1)) w.1,
+        (λ r line' s₃ w. gives_found (FoundOff (suc d) p a b) r line' (with_stored s₃ (G.key p) (suc d) a b r line') (
+          open_found d p a b pv r line' ms t (listed t) (λ m i. candidates_all G [] s₁ p prev pv m ((L.listed p g t m).0 i) i) w.0,
+          subst Off (sym (told_off s₃ (G.key p) (suc d) a b r line' w.1)) w.1,
         )))))
       where
         listed : T (not (G.over p)) → (m : ℕ) → In m (candidates G [] (enter s) p prev pv) → In m (G.moves p)
-        listed t m i = (L.listed p g t m).1 (candidates-accepted G [] (enter s) p prev pv m i)
+        listed t m i = (L.listed p g t m).1 (candidates_accepted G [] (enter s) p prev pv m i)
 
     -- the score is plain minimax's value, the variation leads to it, and the table is off still
     abbrev pub Exact : ℕ → G.Pos → ℤ → List ℕ → Memory → Type 0
@@ -244,11 +244,11 @@ module _ (G : Game) where
 
     -- the search is plain minimax: within the root's window it gives, unless it is stopped, the value itself and a variation that attains
     -- it
-    pub search-is-minimax : (n : Allowance) (d : ℕ) (p : G.Pos) → L.Good p → (pv : List ℕ) (prev : ℕ) (s : Memory) → Off s →
+    pub search_is_minimax : (n : Allowance) (d : ℕ) (p : G.Pos) → L.Good p → (pv : List ℕ) (prev : ℕ) (s : Memory) → Off s →
         Gives (Exact d p) (search G n d p lowest highest pv prev s)
     unfolding hi lo
-    search-is-minimax n d p g pv prev s o =
-        gives-map (FoundOff d p lowest highest) (Exact d p) _ (search-finds n d p lowest highest pv prev s g o (omega zarith)
+    search_is_minimax n d p g pv prev s o =
+        gives_map (FoundOff d p lowest highest) (Exact d p) _ (search_finds n d p lowest highest pv prev s g o (omega zarith)
         (omega zarith) (omega zarith))
-        (λ r l s' h. let v = plain-range G L d p g in let w = settled r (plain G d p) v.0 v.1 h.0.0 in
+        (λ r l s' h. let v = plain_range G L d p g in let w = settled r (plain G d p) v.0 v.1 h.0.0 in
         (w.0, h.0.1 w.1 w.2, h.1))

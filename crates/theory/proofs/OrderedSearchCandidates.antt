@@ -6,9 +6,9 @@ use mathlib.Core.Logic.{◌⊎◌, inl, inr}
 use Prim.Native.Nat.{ℕ}
 use lib.Dec.{T, eqb, eqb→eq, eqb_refl, T_not, not_T}
 use Rattle.base.specs.Lists.{In, elem, unique}
-use Rattle.base.proofs.Bool.{→and, →or-l, →or-r}
-use Rattle.base.proofs.Branch.{if-ind}
-use Rattle.base.proofs.Lists.{elem_in, in-r}
+use Rattle.base.proofs.Bool.{→and, →or_l, →or_r}
+use Rattle.base.proofs.Branch.{if_ind}
+use Rattle.base.proofs.Lists.{elem_in, in_r}
 use Rattle.theory.specs.Game.{Game}
 use Rattle.theory.specs.Memory.{Memory, hints}
 use Rattle.theory.specs.OrderedSearch.{fresh, candidates}
@@ -19,8 +19,8 @@ module _ (ok : ℕ → Bool) where
   unfolding fresh elem
   fresh_in x seen [] = λ h. absurd h
   fresh_in x seen (m ∷ ms) =
-      if-ind (λ l. In x l → T (ok x) × T (not (elem x seen))) (elem m seen) _ _ (λ _ h. fresh_in x seen ms h)
-      (λ u. if-ind (λ l. In x l → T (ok x) × T (not (elem x seen))) (ok m) _ _
+      if_ind (λ l. In x l → T (ok x) × T (not (elem x seen))) (elem m seen) _ _ (λ _ h. fresh_in x seen ms h)
+      (λ u. if_ind (λ l. In x l → T (ok x) × T (not (elem x seen))) (ok m) _ _
       (λ t h. elim h [
         | inl e ↦ subst (λ (z : ℕ). T (ok z) × T (not (elem z seen))) (sym e) (t, u)
         | inr k ↦ later (fresh_in x (m ∷ seen) ms k)
@@ -28,7 +28,7 @@ module _ (ok : ℕ → Bool) where
       (λ _ h. later (fresh_in x (m ∷ seen) ms h)))
     where
       later : T (ok x) × T (not (eqb x m || elem x seen)) → T (ok x) × T (not (elem x seen))
-      later h = (h.0, not_T (elem x seen) (λ u. T_not (eqb x m || elem x seen) h.1 (→or-r (eqb x m) _ u)))
+      later h = (h.0, not_T (elem x seen) (λ u. T_not (eqb x m || elem x seen) h.1 (→or_r (eqb x m) _ u)))
 
   seen_next : (x m : ℕ) (seen : List ℕ) (c : Bool) → (T c → x ≡ m) → T (not (elem x seen)) →
       (x ≡ m) ⊎ T (not (c || elem x seen))
@@ -36,22 +36,22 @@ module _ (ok : ℕ → Bool) where
   seen_next x m seen false f n = inr n
 
   -- and all that passes and was not seen is left
-  pub fresh-all : (x : ℕ) (seen ms : List ℕ) → T (ok x) → T (not (elem x seen)) → In x ms → In x (fresh ok seen ms)
+  pub fresh_all : (x : ℕ) (seen ms : List ℕ) → T (ok x) → T (not (elem x seen)) → In x ms → In x (fresh ok seen ms)
   unfolding fresh elem
-  fresh-all x seen [] t n h = absurd h
-  fresh-all x seen (m ∷ ms) t n h =
-      if-ind (λ l. In x l) (elem m seen) _ _
+  fresh_all x seen [] t n h = absurd h
+  fresh_all x seen (m ∷ ms) t n h =
+      if_ind (λ l. In x l) (elem m seen) _ _
       (λ u. elim h [
         | inl e ↦ absurd (T_not (elem m seen) (subst (λ (z : ℕ). T (not (elem z seen))) e n) u)
-        | inr k ↦ fresh-all x seen ms t n k
+        | inr k ↦ fresh_all x seen ms t n k
       ])
-      (λ _. if-ind (λ l. In x l) (ok m) _ _
-      (λ _. elim next [ inl e ↦ inl e | inr n' ↦ elim h [ inl e ↦ inl e | inr k ↦ inr (fresh-all x (m ∷ seen) ms t n' k) ] ])
+      (λ _. if_ind (λ l. In x l) (ok m) _ _
+      (λ _. elim next [ inl e ↦ inl e | inr n' ↦ elim h [ inl e ↦ inl e | inr k ↦ inr (fresh_all x (m ∷ seen) ms t n' k) ] ])
       (λ u. elim next [
         | inl e ↦ absurd (wrong u e)
         | inr n' ↦ elim h [
           | inl e ↦ absurd (wrong u e)
-          | inr k ↦ fresh-all x (m ∷ seen) ms t n' k
+          | inr k ↦ fresh_all x (m ∷ seen) ms t n' k
         ]
       ]))
     where
@@ -62,35 +62,35 @@ module _ (ok : ℕ → Bool) where
       wrong u e = T_not (ok m) u (subst (λ (z : ℕ). T (ok z)) e t)
 
   -- each once
-  pub fresh-unique : (seen ms : List ℕ) → T (unique (fresh ok seen ms))
+  pub fresh_unique : (seen ms : List ℕ) → T (unique (fresh ok seen ms))
   unfolding fresh unique elem
-  fresh-unique seen [] = tt
-  fresh-unique seen (m ∷ ms) =
-      if-ind (λ l. T (unique l)) (elem m seen) _ _ (λ _. fresh-unique seen ms)
-      (λ _. if-ind (λ l. T (unique l)) (ok m) _ _
+  fresh_unique seen [] = tt
+  fresh_unique seen (m ∷ ms) =
+      if_ind (λ l. T (unique l)) (elem m seen) _ _ (λ _. fresh_unique seen ms)
+      (λ _. if_ind (λ l. T (unique l)) (ok m) _ _
       (λ _. →and (not (elem m rest)) _
       (not_T (elem m rest) (λ u. T_not (eqb m m || elem m seen) (fresh_in m (m ∷ seen) ms (elem_in m rest u)).1
-      (→or-l (eqb m m) _ (eqb_refl m)))) (fresh-unique (m ∷ seen) ms))
-      (λ _. fresh-unique (m ∷ seen) ms))
+      (→or_l (eqb m m) _ (eqb_refl m)))) (fresh_unique (m ∷ seen) ms))
+      (λ _. fresh_unique (m ∷ seen) ms))
     where
       rest : List ℕ
       rest = fresh ok (m ∷ seen) ms
 
 module _ (G : Game) (first : List ℕ) (s : Memory) (p : G.Pos) (prev : ℕ) (pv : List ℕ) where
   -- each candidate is accepted
-  pub candidates-accepted : (m : ℕ) → In m (candidates G first s p prev pv) → T (G.accepts p m)
+  pub candidates_accepted : (m : ℕ) → In m (candidates G first s p prev pv) → T (G.accepts p m)
   unfolding candidates
-  candidates-accepted m i = (fresh_in (G.accepts p) m [] (first ++ (hints (G.turn p) s prev pv ++ G.moves p)) i).0
+  candidates_accepted m i = (fresh_in (G.accepts p) m [] (first ++ (hints (G.turn p) s prev pv ++ G.moves p)) i).0
 
   -- each accepted move of the list is a candidate
-  pub candidates-all : (m : ℕ) → T (G.accepts p m) → In m (G.moves p) → In m (candidates G first s p prev pv)
+  pub candidates_all : (m : ℕ) → T (G.accepts p m) → In m (G.moves p) → In m (candidates G first s p prev pv)
   unfolding candidates elem
-  candidates-all m t i =
+  candidates_all m t i =
       let hinted = hints (G.turn p) s prev pv in
-      fresh-all (G.accepts p) m [] (first ++ (hinted ++ G.moves p)) t tt
-      (in-r m first (hinted ++ G.moves p) (in-r m hinted (G.moves p) i))
+      fresh_all (G.accepts p) m [] (first ++ (hinted ++ G.moves p)) t tt
+      (in_r m first (hinted ++ G.moves p) (in_r m hinted (G.moves p) i))
 
   -- and none stands there twice
-  pub candidates-once : T (unique (candidates G first s p prev pv))
+  pub candidates_once : T (unique (candidates G first s p prev pv))
   unfolding candidates
-  candidates-once = fresh-unique (G.accepts p) [] (first ++ (hints (G.turn p) s prev pv ++ G.moves p))
+  candidates_once = fresh_unique (G.accepts p) [] (first ++ (hints (G.turn p) s prev pv ++ G.moves p))

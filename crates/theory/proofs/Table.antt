@@ -7,7 +7,7 @@ use Prim.Native.Nat.{ℕ}
 use lib.IntN.{ℤ, pos, negsuc}
 use Rattle.base.specs.Branch.{if◌then◌else◌}
 use Rattle.theory.specs.PlainMinimax.{lowest, highest}
-use Rattle.theory.specs.Table.{Entry, from-word, entry_of, off, begins, look_up, store, suffices, bound_of}
+use Rattle.theory.specs.Table.{Entry, from_word, entry_of, off, begins, look_up, store, suffices, bound_of}
 
 abbrev entry : ℤ → ℕ → ℕ → ℕ → Entry
 entry v d b m = record { value = v; depth = d; bound = b; move = m }
@@ -24,11 +24,11 @@ abbrev nine : List ℕ
 nine = 0 ∷ 0 ∷ 0 ∷ 9 ∷ 5 ∷ 1114117 ∷ []
 
 unfoldable looked : List ℕ → ℕ → Option Entry
-unfolding look_up off begins entry_of from-word if◌then◌else◌
+unfolding look_up off begins entry_of from_word if◌then◌else◌
 looked = look_up
 
 unfoldable stored : List ℕ → ℕ → Entry → List ℕ
-unfolding store off begins entry_of from-word if◌then◌else◌
+unfolding store off begins entry_of from_word if◌then◌else◌
 stored = store
 
 -- an entry is written to its slot, and read again
@@ -37,15 +37,15 @@ unfolding stored looked
 entry_kept = (refl, refl)
 
 -- it is not taken for another position's of the same slot, nor for one of another slot
-entry-of-its-own : (looked seven 9 ≡ none) × (looked seven 8 ≡ none) × (looked zeros 0 ≡ none)
+entry_of_its_own : (looked seven 9 ≡ none) × (looked seven 8 ≡ none) × (looked zeros 0 ≡ none)
 unfolding looked
-entry-of-its-own = (refl, refl, refl)
+entry_of_its_own = (refl, refl, refl)
 
 -- a deeper one replaces it, whichever position it is of; one as deep or shallower does not
-deeper-replaces : (stored seven 9 (entry (pos 5) 5 0 0x11) ≡ nine) × (stored seven 9 (entry (pos 5) 4 0 0x11) ≡ seven) ×
+deeper_replaces : (stored seven 9 (entry (pos 5) 5 0 0x11) ≡ nine) × (stored seven 9 (entry (pos 5) 4 0 0x11) ≡ seven) ×
     (stored seven 7 (entry (pos 5) 4 0 0x11) ≡ seven) × (stored seven 7 (entry (pos 5) 3 0 0x11) ≡ seven)
 unfolding stored
-deeper-replaces = (refl, refl, refl, refl)
+deeper_replaces = (refl, refl, refl, refl)
 
 -- with fewer than three words nothing is read or written
 too_short : (looked (7 ∷ 5 ∷ []) 7 ≡ none) × (stored (7 ∷ 5 ∷ []) 7 (entry (pos 5) 4 0 0x11) ≡ 7 ∷ 5 ∷ []) ×
@@ -54,19 +54,19 @@ unfolding looked stored
 too_short = (refl, refl, refl)
 
 unfoldable read : ℕ → ℕ → Option Entry
-unfolding entry_of from-word if◌then◌else◌
+unfolding entry_of from_word if◌then◌else◌
 read = entry_of
 
 -- an entry is absent with depth 0 or 82, bound 3, or a bit beyond the move
-absent-rest : (read 5 4456704 ≡ none) × (read 5 4456786 ≡ none) × (read 5 4457220 ≡ none) × (read 5 16777476 ≡ none) ×
+absent_rest : (read 5 4456704 ≡ none) × (read 5 4456786 ≡ none) × (read 5 4457220 ≡ none) × (read 5 16777476 ≡ none) ×
     (read 5 9223372036859232516 ≡ none)
 unfolding read
-absent-rest = (refl, refl, refl, refl, refl)
+absent_rest = (refl, refl, refl, refl, refl)
 
 -- or a value of 2^60 + 2 or more, or -2^60 - 2 or less
-absent-value : (read 1152921504606846978 4456708 ≡ none) × (read 17293822569102704638 4456708 ≡ none)
+absent_value : (read 1152921504606846978 4456708 ≡ none) × (read 17293822569102704638 4456708 ≡ none)
 unfolding read
-absent-value = (refl, refl)
+absent_value = (refl, refl)
 
 -- it is there at each edge of these
 present : (read 5 4456785 ≡ some (entry (pos 5) 81 1 0x44)) × (read 5 4456964 ≡ some (entry (pos 5) 4 2 0x44)) ×
@@ -76,9 +76,9 @@ unfolding read
 present = (refl, refl, refl, refl, refl)
 
 -- an absent entry is replaced by any
-absent-replaced : stored (0 ∷ 0 ∷ 0 ∷ 7 ∷ 5 ∷ 4456786 ∷ []) 7 (entry (negsuc 2) 4 1 0x44) ≡ seven
+absent_replaced : stored (0 ∷ 0 ∷ 0 ∷ 7 ∷ 5 ∷ 4456786 ∷ []) 7 (entry (negsuc 2) 4 1 0x44) ≡ seven
 unfolding stored
-absent-replaced = refl
+absent_replaced = refl
 
 -- Exact suffices at its depth or less, AtLeast if it reaches the upper edge, AtMost if it does not exceed the lower one
 sufficing : (suffices (entry (pos 5) 4 0 0) 4 (pos 0) (pos 9) ≡ true) × (suffices (entry (pos 5) 4 0 0) 5 (pos 0) (pos 9) ≡ false) ×

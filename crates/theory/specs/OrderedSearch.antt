@@ -7,7 +7,7 @@ use Rattle.base.specs.Lists.{elem}
 use Rattle.rules.specs.Play.{no_move}
 use Rattle.theory.specs.Game.{Game}
 use Rattle.theory.specs.Table.{Entry, look_up, store, suffices, bound_of}
-use Rattle.theory.specs.Memory.{Memory, with-table, enter, leaf, hit, answered, cut, hints}
+use Rattle.theory.specs.Memory.{Memory, with_table, enter, leaf, hit, answered, cut, hints}
 
 -- ---- how many positions may be entered, over all depths
 pub data Allowance : Type 0 where
@@ -23,9 +23,9 @@ pub data Outcome : Type 0 where
   stopped : Memory → Outcome
   found : ℤ → List ℕ → Memory → Outcome
 
-unfoldable pub unless-stopped : Outcome → (ℤ → List ℕ → Memory → Outcome) → Outcome
-unless-stopped (stopped s) k = stopped s
-unless-stopped (found r l s) k = k r l s
+unfoldable pub unless_stopped : Outcome → (ℤ → List ℕ → Memory → Outcome) → Outcome
+unless_stopped (stopped s) k = stopped s
+unless_stopped (found r l s) k = k r l s
 
 -- one position more is counted and searched, or, where none is left of the allowance, the search stops
 unfoldable pub entering : Allowance → Memory → (Memory → Outcome) → Outcome
@@ -44,14 +44,14 @@ probed s depth a b (some e) =
 abbrev pub probe : Memory → ℕ → ℕ → ℤ → ℤ → Probed
 probe s key depth a b = probed s depth a b (look_up s.table key)
 
-unfoldable pub on-probe : Probed → (ℤ → ℕ → Memory → Outcome) → (List ℕ → Memory → Outcome) → Outcome
-on-probe (known v m s) f g = f v m s
-on-probe (missed ms s) f g = g ms s
+unfoldable pub on_probe : Probed → (ℤ → ℕ → Memory → Outcome) → (List ℕ → Memory → Outcome) → Outcome
+on_probe (known v m s) f g = f v m s
+on_probe (missed ms s) f g = g ms s
 
 -- the memory after storing the score r and the variation at a depth and within the window
-unfoldable pub with-stored : Memory → ℕ → ℕ → ℤ → ℤ → ℤ → List ℕ → Memory
-with-stored s key depth a b r pv =
-    with-table s (store s.table key (record { value = r; depth = depth; bound = bound_of a b r; move = get_or pv 0 no_move }))
+unfoldable pub with_stored : Memory → ℕ → ℕ → ℤ → ℤ → ℤ → List ℕ → Memory
+with_stored s key depth a b r pv =
+    with_table s (store s.table key (record { value = r; depth = depth; bound = bound_of a b r; move = get_or pv 0 no_move }))
 
 -- a table's answer sets the variation's first place alone
 unfoldable pub set_first : ℕ → List ℕ → List ℕ
@@ -76,22 +76,22 @@ module _ (G : Game) where
 
   -- over the moves left: a is the lower edge by now, pv the variation, and low the variation of the position below, which its moves share.
   -- A better score raises the lower edge, and the variation is its move and the variation below; at the upper edge the moves left are cut
-  unfoldable pub over-moves : Search → G.Pos → ℤ → ℕ → List ℕ → ℤ → List ℕ → List ℕ → Memory → Outcome
-  over-moves below p b prev [] a pv low s = found a pv s
-  over-moves below p b prev (m ∷ ms) a pv low s =
-      unless-stopped (below (G.play p m) (neg_ℤ b) (neg_ℤ a) low m s) (λ r low' s'.
+  unfoldable pub over_moves : Search → G.Pos → ℤ → ℕ → List ℕ → ℤ → List ℕ → List ℕ → Memory → Outcome
+  over_moves below p b prev [] a pv low s = found a pv s
+  over_moves below p b prev (m ∷ ms) a pv low s =
+      unless_stopped (below (G.play p m) (neg_ℤ b) (neg_ℤ a) low m s) (λ r low' s'.
       if lt_z a (neg_ℤ r)
       then (λ _. if le_z b (neg_ℤ r)
       then (λ _. found (neg_ℤ r) (m ∷ low') (cut (G.turn p) s' prev m))
-      else λ _. over-moves below p b prev ms (neg_ℤ r) (m ∷ low') low' s')
-      else λ _. over-moves below p b prev ms a pv low' s')
+      else λ _. over_moves below p b prev ms (neg_ℤ r) (m ∷ low') low' s')
+      else λ _. over_moves below p b prev ms a pv low' s')
 
   -- to a depth. The variation has as many places as the depth; those that nothing was found for stay as given
   unfoldable pub search : Allowance → ℕ → Search
   search n zero p a b pv prev s = entering n s (λ s₁. found (G.value p) pv (leaf s₁))
   search n (suc d) p a b pv prev s = entering n s (λ s₁.
       if G.over p then (λ _. found (G.value p) pv (leaf s₁)) else
-      λ _. on-probe (probe s₁ (G.key p) (suc d) a b)
+      λ _. on_probe (probe s₁ (G.key p) (suc d) a b)
       (λ v m s₂. found v (set_first m pv) s₂)
-      (λ first s₂. unless-stopped (over-moves (search n d) p b prev (candidates first s₂ p prev pv) a pv (replicate d no_move) s₂)
-      (λ r pv' s₃. found r pv' (with-stored s₃ (G.key p) (suc d) a b r pv'))))
+      (λ first s₂. unless_stopped (over_moves (search n d) p b prev (candidates first s₂ p prev pv) a pv (replicate d no_move) s₂)
+      (λ r pv' s₃. found r pv' (with_stored s₃ (G.key p) (suc d) a b r pv'))))

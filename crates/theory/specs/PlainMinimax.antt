@@ -1,7 +1,7 @@
 -- Plain minimax: a leaf's value is its evaluation, any other position's the greatest of its moves' values as the other side sees them.
 use Rattle.std.specs.Prelude.{List, [], ◌∷◌, ℕ, zero, suc, ℤ, pos, negsuc, neg_ℤ}
 use Rattle.base.specs.Branch.{if◌then◌else◌}
-use Rattle.base.specs.Integers.{maxZ}
+use Rattle.base.specs.Integers.{max_z}
 use Rattle.theory.specs.Game.{Game}
 
 -- the edges of the root's window: -2^60 - 1 and 2^60 + 1
@@ -14,7 +14,7 @@ highest = pos 1152921504606846977
 -- the best over a list; the lowest where there is none
 unfoldable pub best : (ℕ → ℤ) → List ℕ → ℤ
 best f [] = lowest
-best f (m ∷ ms) = maxZ (f m) (best f ms)
+best f (m ∷ ms) = max_z (f m) (best f ms)
 
 module _ (G : Game) where
   unfoldable pub plain : ℕ → G.Pos → ℤ

@@ -15,8 +15,8 @@ pub record Entry : Type 0 where
 
 -- ---- words
 -- two's complement
-unfoldable pub from-word : ℕ → ℤ
-from-word w = if ltb w 0x8000_0000_0000_0000 then (λ _. pos w) else λ _. negsuc (0xffff_ffff_ffff_ffff - w)
+unfoldable pub from_word : ℕ → ℤ
+from_word w = if ltb w 0x8000_0000_0000_0000 then (λ _. pos w) else λ _. negsuc (0xffff_ffff_ffff_ffff - w)
 
 abbrev pub to_word : ℤ → ℕ
 to_word (pos n) = n
@@ -28,7 +28,7 @@ rest_of e = e.depth + 256 * e.bound + 65536 * e.move
 -- what two words say, if they are an entry: a depth that can be asked, a bound, a move, a value within the root's window, and nothing above
 unfoldable pub entry_of : ℕ → ℕ → Option Entry
 entry_of value rest =
-    let v = from-word value in
+    let v = from_word value in
     let depth = rest % 256 in
     let bound = rest / 256 % 256 in
     let move = rest / 65536 in
@@ -65,14 +65,14 @@ store words h e =
     else λ _. words
 
 -- ---- what an entry is good for
-abbrev pub bound-suffices : ℕ → ℤ → ℤ → ℤ → Bool
-bound-suffices zero v a b = true
-bound-suffices (suc zero) v a b = le_z b v
-bound-suffices (suc (suc n)) v a b = le_z v a
+abbrev pub bound_suffices : ℕ → ℤ → ℤ → ℤ → Bool
+bound_suffices zero v a b = true
+bound_suffices (suc zero) v a b = le_z b v
+bound_suffices (suc (suc n)) v a b = le_z v a
 
 -- it answers for the window from a to b at a depth
 unfoldable pub suffices : Entry → ℕ → ℤ → ℤ → Bool
-suffices e depth a b = leb depth e.depth && bound-suffices e.bound e.value a b
+suffices e depth a b = leb depth e.depth && bound_suffices e.bound e.value a b
 
 -- what a score within the window from a to b is: AtMost if it did not rise, AtLeast if it reached the upper edge, else Exact
 unfoldable pub bound_of : ℤ → ℤ → ℤ → ℕ

@@ -16,17 +16,17 @@ pub record Playout (P : Type 0) : Type 0 where
 
 module _ (G : Game) where
   -- a variation that is too short for its depth is accepted only if the game is over by then
-  unfoldable pub play-out : ℕ → G.Pos → List ℕ → Playout G.Pos
-  play-out zero p pv = record { accepted = true; end = p; odd = false }
-  play-out (suc d) p [] = record { accepted = G.over p; end = p; odd = false }
-  play-out (suc d) p (m ∷ pv) =
+  unfoldable pub play_out : ℕ → G.Pos → List ℕ → Playout G.Pos
+  play_out zero p pv = record { accepted = true; end = p; odd = false }
+  play_out (suc d) p [] = record { accepted = G.over p; end = p; odd = false }
+  play_out (suc d) p (m ∷ pv) =
       if G.over p then (λ _. record { accepted = true; end = p; odd = false }) else
-      λ _. let w = play-out d (G.play p m) pv in
+      λ _. let w = play_out d (G.play p m) pv in
       record { accepted = G.accepts p m && w.accepted; end = w.end; odd = not w.odd }
 
   -- the value at its end, as the side that is to move at its start sees it
   unfoldable pub ends_on : ℕ → G.Pos → List ℕ → ℤ
-  ends_on d p pv = let w = play-out d p pv in cond w.odd (neg_ℤ (G.value w.end)) (G.value w.end)
+  ends_on d p pv = let w = play_out d p pv in cond w.odd (neg_ℤ (G.value w.end)) (G.value w.end)
 
   -- the variation begins with a move of the list, and plain minimax to d after it, negated, is r
   abbrev pub FirstAttains : ℕ → G.Pos → List ℕ → ℤ → Type 0
@@ -35,13 +35,13 @@ module _ (G : Game) where
 
   -- the claim on a search to a limit of n + 1, which came to w
   pub record AttainsMinimax (n : ℕ) (p : G.Pos) (w : Completed) : Type 0 where
-    pub score-is : w.score ≡ plain G (suc n) p
-    pub some-depth : 1 ≤ w.depth
+    pub score_is : w.score ≡ plain G (suc n) p
+    pub some_depth : 1 ≤ w.depth
     pub no_deeper : w.depth ≤ suc n
     -- the limit is reached, or the score ended the search sooner
     pub deep : (w.depth ≡ suc n) ⊎ T (decided w.score)
     -- one for each completed depth
-    pub stats-each : length w.stats ≡ w.depth
+    pub stats_each : length w.stats ≡ w.depth
     pub first : T (not (G.over p)) → FirstAttains n p w.pv w.score
-    pub accepted : T (play-out w.depth p w.pv).accepted
+    pub accepted : T (play_out w.depth p w.pv).accepted
     pub ends : w.score ≡ ends_on w.depth p w.pv

@@ -1,1 +1,2 @@
 // No code: the search over any game of two sides, as definitions, and their laws.
+#![tactic(auto)]

@@ -11,50 +11,50 @@ use lib.Signed.{lt_z}
 use borrow.Author.Tests.{ltb-true, ltb-false, le-ltb, eq-eqb}
 use Rattle.io.specs.Counts.{clamp_len}
 use Rattle.text.specs.Bytes.{quoted}
-use Rattle.line_buffer.specs.Buffer.{buffer-of}
+use Rattle.line_buffer.specs.Buffer.{buffer_of}
 use Rattle.line_buffer.specs.Taking.{buffered}
 use Rattle.answer_text.specs.declared.AnswerText.{AnswerText}
-use Rattle.answer_text.specs.AnswerBytes.{no_text, text-of-bytes, written-bytes}
-use Rattle.answer_text.proofs.AnswerBytes.{text-room}
+use Rattle.answer_text.specs.AnswerBytes.{no_text, text_of_bytes, written_bytes}
+use Rattle.answer_text.proofs.AnswerBytes.{text_room}
 use Rattle.program_reads.specs.declared.Program.{Program}
-use Rattle.program_reads.specs.Lines.{Split, split, with_byte, split-bytes, last_line, answers, input_of}
+use Rattle.program_reads.specs.Lines.{Split, split, with_byte, split_bytes, last_line, answers, input_of}
 use Rattle.program_reads.specs.Promises.{fed}
-use Rattle.program_reads.proofs.Lines.{split-append}
-use Rattle.program_reads.proofs.Promises.{Holds, new-holds, last_written, fed-holds}
-use Rattle.program_reads.proofs.Feeding.{last-room}
+use Rattle.program_reads.proofs.Lines.{split_append}
+use Rattle.program_reads.proofs.Promises.{Holds, new_holds, last_written, fed_holds}
+use Rattle.program_reads.proofs.Feeding.{last_room}
 use Rattle.ultimattt.specs.declared.ProgramRun.{ProgramRun}
 use Rattle.ultimattt.specs.declared.Progress.{Progress}
 use Rattle.ultimattt.specs.declared.Progress.TheVariants.{Reading, InputEnded, ReadFailed, WriteFailed}
-use Rattle.ultimattt.specs.Runs.{ReadStep, read-bytes, new-run, after-feeding, after-bytes, after_read, AfterFeeding, AfterRead}
-use Rattle.ultimattt.specs.Runs.{is-reading, goes_on, RunsTo, stops, reads, SomeRun, last-of-run, told-of-run, Concluded}
+use Rattle.ultimattt.specs.Runs.{ReadStep, read_bytes, new_run, after_feeding, after_bytes, after_read, AfterFeeding, AfterRead}
+use Rattle.ultimattt.specs.Runs.{is_reading, goes_on, RunsTo, stops, reads, SomeRun, last_of_run, told_of_run, Concluded}
 
 -- ---- one read
-pub fed-whole : (p q : Program) (bytes : List ℕ) → q ≡ fed p bytes → AfterFeeding p bytes (record { program = q; progress = Reading })
-fed-whole p q bytes e = (true, rw e, λ _. refl)
+pub fed_whole : (p q : Program) (bytes : List ℕ) → q ≡ fed p bytes → AfterFeeding p bytes (record { program = q; progress = Reading })
+fed_whole p q bytes e = (true, rw e, λ _. refl)
 
-pub not-fed : (p : Program) (bytes : List ℕ) → (buffered p.line bytes).found ≡ true →
+pub not_fed : (p : Program) (bytes : List ℕ) → (buffered p.line bytes).found ≡ true →
     AfterFeeding p bytes (record { program = p; progress = WriteFailed })
-not-fed p bytes f = (false, refl, λ e. absurd (true≢false (sym f ∙ e)))
+not_fed p bytes f = (false, refl, λ e. absurd (true≢false (sym f ∙ e)))
 
 -- z is the number that the code tests
 module _ (p : Program) (buffer : List ℕ) (got z : ℤ) (same : z ≡ got) where
-  pub read-failed : lt_z z (pos 0) ≡ true → AfterRead p buffer got (record { program = p; progress = ReadFailed })
+  pub read_failed : lt_z z (pos 0) ≡ true → AfterRead p buffer got (record { program = p; progress = ReadFailed })
   unfolding after_read
-  read-failed e = (true, rw (← same, e), λ _. refl)
+  read_failed e = (true, rw (← same, e), λ _. refl)
 
   module _ (good : lt_z z (pos 0) ≡ false) (n : ℕ) (counted : n ≡ clamp_len z (length buffer)) where
-    pub input-ended : n ≡ 0 → AfterRead p buffer got (record { program = p; progress = InputEnded })
+    pub input_ended : n ≡ 0 → AfterRead p buffer got (record { program = p; progress = InputEnded })
     unfolding after_read
-    input-ended e = (true, rw (← same, good, ← counted, e), λ _. refl)
+    input_ended e = (true, rw (← same, good, ← counted, e), λ _. refl)
 
-    by_bytes : (bytes : List ℕ) (r : ProgramRun) (written : Bool) → 0 < length bytes → r ≡ after-feeding p bytes written →
-        r ≡ after-bytes p bytes written
+    by_bytes : (bytes : List ℕ) (r : ProgramRun) (written : Bool) → 0 < length bytes → r ≡ after_feeding p bytes written →
+        r ≡ after_bytes p bytes written
     by_bytes [] r written h e = absurd (omega arith)
     by_bytes (b ∷ bs) r written h e = e
 
-    pub bytes-fed : (r : ProgramRun) → 0 < length (take n buffer) → AfterFeeding p (take n buffer) r → AfterRead p buffer got r
+    pub bytes_fed : (r : ProgramRun) → 0 < length (take n buffer) → AfterFeeding p (take n buffer) r → AfterRead p buffer got r
     unfolding after_read
-    bytes-fed r h f = (f.0, rw (← same, good, ← counted) (by_bytes (take n buffer) r f.0 h f.1), rw (← same, ← counted) f.2)
+    bytes_fed r h f = (f.0, rw (← same, good, ← counted) (by_bytes (take n buffer) r f.0 h f.1), rw (← same, ← counted) f.2)
 
 -- ---- all reads
 -- however a run goes on from r, it is one from b
@@ -62,67 +62,67 @@ abbrev pub LeadsFrom : ProgramRun → ProgramRun → Type 0
 LeadsFrom b r = (steps : List ReadStep) (s : ProgramRun) → RunsTo r steps s → SomeRun b s
 
 module _ (b : ProgramRun) where
-  pub leads-from-itself : LeadsFrom b b
-  leads-from-itself steps s h = (steps, h)
+  pub leads_from_itself : LeadsFrom b b
+  leads_from_itself steps s h = (steps, h)
 
-  pub one-read-more : (r s : ProgramRun) (buffer : List ℕ) (got : ℤ) (go : Bool) → go ≡ goes_on r → go ≡ true →
+  pub one_read_more : (r s : ProgramRun) (buffer : List ℕ) (got : ℤ) (go : Bool) → go ≡ goes_on r → go ≡ true →
       AfterRead r.program buffer got s → LeadsFrom b r → LeadsFrom b s
-  one-read-more r s buffer got go e f a way steps t h = way (_ ∷ steps) t (reads (sym e ∙ f) a.2 (rw a.1 at h))
+  one_read_more r s buffer got go e f a way steps t h = way (_ ∷ steps) t (reads (sym e ∙ f) a.2 (rw a.1 at h))
 
-  pub at-its-end : (r : ProgramRun) (go : Bool) → go ≡ goes_on r → go ≡ false → LeadsFrom b r → SomeRun b r
-  at-its-end r go e f way = way [] r (stops (sym e ∙ f))
+  pub at_its_end : (r : ProgramRun) (go : Bool) → go ≡ goes_on r → go ≡ false → LeadsFrom b r → SomeRun b r
+  at_its_end r go e f way = way [] r (stops (sym e ∙ f))
 
-  pub begun-new : (r : ProgramRun) → b ≡ new-run → SomeRun b r → SomeRun new-run r
-  begun-new r e h = rw e at h
+  pub begun_new : (r : ProgramRun) → b ≡ new_run → SomeRun b r → SomeRun new_run r
+  begun_new r e h = rw e at h
 
 -- each read brings the end nearer
-abbrev pub turns-left : ProgramRun → ℕ
-turns-left r = cond (goes_on r) r.program.reads 0
+abbrev pub turns_left : ProgramRun → ℕ
+turns_left r = cond (goes_on r) r.program.reads 0
 
 at_most : (c : Bool) (n : ℕ) → cond c n 0 ≤ n
 at_most true n = omega arith
 at_most false n = omega arith
 
-one-turn-less : (p : Program) (a : ReadStep) → turns-left (after_read p a) ≤ p.reads - 1
+one_turn_less : (p : Program) (a : ReadStep) → turns_left (after_read p a) ≤ p.reads - 1
 unfolding after_read
-one-turn-less p a = go (lt_z a.got (pos 0)) (read-bytes a) a.written
+one_turn_less p a = go (lt_z a.got (pos 0)) (read_bytes a) a.written
   where
     go : (failed : Bool) (bytes : List ℕ) (written : Bool) →
-        turns-left (cond failed (record { program = p; progress = ReadFailed }) (after-bytes p bytes written)) ≤ p.reads - 1
+        turns_left (cond failed (record { program = p; progress = ReadFailed }) (after_bytes p bytes written)) ≤ p.reads - 1
     go true bytes written = omega arith
     go false [] written = omega arith
     go false (b ∷ bs) true = at_most (ltb 0 (p.reads - 1)) (p.reads - 1)
     go false (b ∷ bs) false = omega arith
 
-reads-left : (r : ProgramRun) → goes_on r ≡ true → 0 < r.program.reads
-reads-left r e = ltb-true 0 r.program.reads (go (is-reading r.progress) e)
+reads_left : (r : ProgramRun) → goes_on r ≡ true → 0 < r.program.reads
+reads_left r e = ltb-true 0 r.program.reads (go (is_reading r.progress) e)
   where
     go : (c : Bool) → (c && ltb 0 r.program.reads) ≡ true → ltb 0 r.program.reads ≡ true
     go true f = f
     go false f = absurd (true≢false (sym f))
 
-pub turns-fall : (r s : ProgramRun) (buffer : List ℕ) (got : ℤ) (go : Bool) → go ≡ goes_on r → go ≡ true →
-    AfterRead r.program buffer got s → turns-left s < turns-left r
-turns-fall r s buffer got go e f a =
+pub turns_fall : (r s : ProgramRun) (buffer : List ℕ) (got : ℤ) (go : Bool) → go ≡ goes_on r → go ≡ true →
+    AfterRead r.program buffer got s → turns_left s < turns_left r
+turns_fall r s buffer got go e f a =
     let on : goes_on r ≡ true = sym e ∙ f in
-    rw (a.1, on) (omega (arith, one-turn-less r.program (record { got = got; buffer = buffer; written = a.0 }), reads-left r on))
+    rw (a.1, on) (omega (arith, one_turn_less r.program (record { got = got; buffer = buffer; written = a.0 }), reads_left r on))
 
 -- ---- how a read leaves a run, by what was returned
 abbrev pub ReturnedFor : Progress → ReadStep → Type 0
-ReturnedFor InputEnded a = (lt_z a.got (pos 0) ≡ false) × (read-bytes a ≡ [])
+ReturnedFor InputEnded a = (lt_z a.got (pos 0) ≡ false) × (read_bytes a ≡ [])
 ReturnedFor ReadFailed a = lt_z a.got (pos 0) ≡ true
-ReturnedFor WriteFailed a = (lt_z a.got (pos 0) ≡ false) × (read-bytes a ≡ [] → ⊥) × (a.written ≡ false)
-ReturnedFor Reading a = (lt_z a.got (pos 0) ≡ false) × (read-bytes a ≡ [] → ⊥) × (a.written ≡ true)
+ReturnedFor WriteFailed a = (lt_z a.got (pos 0) ≡ false) × (read_bytes a ≡ [] → ⊥) × (a.written ≡ false)
+ReturnedFor Reading a = (lt_z a.got (pos 0) ≡ false) × (read_bytes a ≡ [] → ⊥) × (a.written ≡ true)
 
-pub returned-for : (p : Program) (a : ReadStep) → ReturnedFor (after_read p a).progress a
+pub returned_for : (p : Program) (a : ReadStep) → ReturnedFor (after_read p a).progress a
 unfolding after_read
-returned-for p a = go (lt_z a.got (pos 0)) refl (read-bytes a) refl a.written refl
+returned_for p a = go (lt_z a.got (pos 0)) refl (read_bytes a) refl a.written refl
   where
-    cons : (b : ℕ) (bs : List ℕ) → read-bytes a ≡ b ∷ bs → read-bytes a ≡ [] → ⊥
+    cons : (b : ℕ) (bs : List ℕ) → read_bytes a ≡ b ∷ bs → read_bytes a ≡ [] → ⊥
     cons b bs e f = let z : 1 ≤ 0 = subst (λ (l : List ℕ). 1 ≤ length l) (sym e ∙ f) (omega arith) in omega arith
 
-    go : (c : Bool) → lt_z a.got (pos 0) ≡ c → (bs : List ℕ) → read-bytes a ≡ bs → (w : Bool) → a.written ≡ w →
-        ReturnedFor (cond c (record { program = p; progress = ReadFailed }) (after-bytes p bs w)).progress a
+    go : (c : Bool) → lt_z a.got (pos 0) ≡ c → (bs : List ℕ) → read_bytes a ≡ bs → (w : Bool) → a.written ≡ w →
+        ReturnedFor (cond c (record { program = p; progress = ReadFailed }) (after_bytes p bs w)).progress a
     go true e bs f w g = e
     go false e [] f w g = (e, f)
     go false e (b ∷ bs) f true g = (e, cons b bs f, g)
@@ -130,16 +130,16 @@ returned-for p a = go (lt_z a.got (pos 0)) refl (read-bytes a) refl a.written re
 
 -- the bytes of a read are as many as it returned, the first of the buffer; a failed one gave none
 module _ (a : ReadStep) (n : ℕ) where
-  pub bytes-returned : a.got ≡ pos n → n ≤ length a.buffer → read-bytes a ≡ take n a.buffer
-  bytes-returned e h =
+  pub bytes_returned : a.got ≡ pos n → n ≤ length a.buffer → read_bytes a ≡ take n a.buffer
+  bytes_returned e h =
       let all : clamp_len (pos n) (length a.buffer) ≡ n = omega arith in rw e (ap (λ (k : ℕ). take k a.buffer) all)
 
-  pub none-returned : a.got ≡ negsuc n → read-bytes a ≡ []
-  none-returned e = rw e
+  pub none_returned : a.got ≡ negsuc n → read_bytes a ≡ []
+  none_returned e = rw e
 
 -- a run has read at least once
-pub not-at-once : (s : ProgramRun) → RunsTo new-run [] s → ⊥
-not-at-once s (stops e) = true≢false e
+pub not_at_once : (s : ProgramRun) → RunsTo new_run [] s → ⊥
+not_at_once s (stops e) = true≢false e
 
 -- ---- its end
 -- one that does not go on ends where it is
@@ -148,33 +148,33 @@ stays r s _ e (stops f) = refl
 stays r s _ e (reads f n h) = absurd (true≢false (sym f ∙ e))
 
 -- the line that a program holds goes on with what came
-line-held : (p : Program) (line : List ℕ) (a : ReadStep) (s : ProgramRun) (more : List ReadStep) → Holds p line →
+line_held : (p : Program) (line : List ℕ) (a : ReadStep) (s : ProgramRun) (more : List ReadStep) → Holds p line →
     RunsTo (after_read p a) more s → (s.progress ≡ WriteFailed → ⊥) →
-    Holds (after_read p a).program (split-bytes line (read-bytes a)).rest
+    Holds (after_read p a).program (split_bytes line (read_bytes a)).rest
 unfolding after_read split
-line-held p line a s more h = go a.got (read-bytes a) a.written refl
+line_held p line a s more h = go a.got (read_bytes a) a.written refl
   where
     go : (got : ℤ) (bytes : List ℕ) (written : Bool) → bytes ≡ take (clamp_len got (length a.buffer)) a.buffer →
-        RunsTo (cond (lt_z got (pos 0)) (record { program = p; progress = ReadFailed }) (after-bytes p bytes written)) more s →
+        RunsTo (cond (lt_z got (pos 0)) (record { program = p; progress = ReadFailed }) (after_bytes p bytes written)) more s →
         (s.progress ≡ WriteFailed → ⊥) →
-        Holds (cond (lt_z got (pos 0)) (record { program = p; progress = ReadFailed }) (after-bytes p bytes written)).program
-        (split-bytes line bytes).rest
+        Holds (cond (lt_z got (pos 0)) (record { program = p; progress = ReadFailed }) (after_bytes p bytes written)).program
+        (split_bytes line bytes).rest
     go (negsuc n) bytes written e w k = rw e h
     go (pos n) [] written e w k = rw (le-ltb n 0 (omega arith)) h
-    go (pos n) (b ∷ bs) true e w k = rw (le-ltb n 0 (omega arith)) (fed-holds p (b ∷ bs) line h)
+    go (pos n) (b ∷ bs) true e w k = rw (le-ltb n 0 (omega arith)) (fed_holds p (b ∷ bs) line h)
     go (pos n) (b ∷ bs) false e w k =
         let v = rw (le-ltb n 0 (omega arith)) at w in
         absurd (k (ap (λ (r : ProgramRun). r.progress) (stays _ s more refl v)))
 
 -- where a run still reads at its end, a read before it was fed
-one-read-fewer : (p : Program) (a : ReadStep) (s : ProgramRun) (more : List ReadStep) → RunsTo (after_read p a) more s →
+one_read_fewer : (p : Program) (a : ReadStep) (s : ProgramRun) (more : List ReadStep) → RunsTo (after_read p a) more s →
     s.progress ≡ Reading → (after_read p a).program.reads ≡ p.reads - 1
 unfolding after_read
-one-read-fewer p a s more w q = go (lt_z a.got (pos 0)) (read-bytes a) a.written w
+one_read_fewer p a s more w q = go (lt_z a.got (pos 0)) (read_bytes a) a.written w
   where
     go : (failed : Bool) (bytes : List ℕ) (written : Bool) →
-        RunsTo (cond failed (record { program = p; progress = ReadFailed }) (after-bytes p bytes written)) more s →
-        (cond failed (record { program = p; progress = ReadFailed }) (after-bytes p bytes written)).program.reads ≡ p.reads - 1
+        RunsTo (cond failed (record { program = p; progress = ReadFailed }) (after_bytes p bytes written)) more s →
+        (cond failed (record { program = p; progress = ReadFailed }) (after_bytes p bytes written)).program.reads ≡ p.reads - 1
     go true bytes written w = absurd (true≢false (cc (sym q ∙ ap (λ (r : ProgramRun). r.progress) (stays _ s more refl w))))
     go false [] written w = absurd (true≢false (cc (sym q ∙ ap (λ (r : ProgramRun). r.progress) (stays _ s more refl w))))
     go false (b ∷ bs) true w = refl
@@ -183,84 +183,84 @@ one-read-fewer p a s more w q = go (lt_z a.got (pos 0)) (read-bytes a) a.written
 module _ (s : ProgramRun) (good : s.progress ≡ WriteFailed → ⊥) where
   -- unless a write failed, the program at the end holds the line that goes on after all that came
   pub run_holds : (r : ProgramRun) (steps : List ReadStep) (line : List ℕ) → Holds r.program line → RunsTo r steps s →
-      Holds s.program (split-bytes line (input_of (map read-bytes steps))).rest
+      Holds s.program (split_bytes line (input_of (map read_bytes steps))).rest
   unfolding split
   run_holds r _ line h (stops e) = h
   run_holds r (a ∷ more) line h (reads e n w) =
-      run_holds (after_read r.program a) more (split-bytes line (read-bytes a)).rest (line-held r.program line a s more h w good) w
-      ∙ sym (ap (λ (x : Split (List ℕ)). buffer-of x.rest)
-      (split-append with_byte [] line (read-bytes a) (input_of (map read-bytes more))))
+      run_holds (after_read r.program a) more (split_bytes line (read_bytes a)).rest (line_held r.program line a s more h w good) w
+      ∙ sym (ap (λ (x : Split (List ℕ)). buffer_of x.rest)
+      (split_append with_byte [] line (read_bytes a) (input_of (map read_bytes more))))
 
 -- where the input ended, the last text is the answer to the last line of all that came
-pub last-line-answered : (s : ProgramRun) (steps : List ReadStep) → RunsTo new-run steps s → s.progress ≡ InputEnded →
-    written-bytes (last-of-run s.progress s.program)
-    ≡ answers (last_line (split-bytes [] (input_of (map read-bytes steps))).rest)
-last-line-answered s steps w e =
-    ap (λ (x : Progress). written-bytes (last-of-run x s.program)) e
-    ∙ last_written (split-bytes [] (input_of (map read-bytes steps))).rest s.program.line
-    (run_holds s (λ f. let z : InputEnded ≡ WriteFailed = sym e ∙ f in different z) new-run steps [] new-holds w)
+pub last_line_answered : (s : ProgramRun) (steps : List ReadStep) → RunsTo new_run steps s → s.progress ≡ InputEnded →
+    written_bytes (last_of_run s.progress s.program)
+    ≡ answers (last_line (split_bytes [] (input_of (map read_bytes steps))).rest)
+last_line_answered s steps w e =
+    ap (λ (x : Progress). written_bytes (last_of_run x s.program)) e
+    ∙ last_written (split_bytes [] (input_of (map read_bytes steps))).rest s.program.line
+    (run_holds s (λ f. let z : InputEnded ≡ WriteFailed = sym e ∙ f in different z) new_run steps [] new_holds w)
   where
     different : InputEnded ≡ WriteFailed → ⊥
     different z = true≢false (cc z)
 
 -- no text but where the input ended
-pub no-last-text : (x : Progress) (p : Program) → (x ≡ InputEnded → ⊥) → last-of-run x p ≡ no_text
-no-last-text InputEnded p n = absurd (n refl)
-no-last-text Reading p n = refl
-no-last-text ReadFailed p n = refl
-no-last-text WriteFailed p n = refl
+pub no_last_text : (x : Progress) (p : Program) → (x ≡ InputEnded → ⊥) → last_of_run x p ≡ no_text
+no_last_text InputEnded p n = absurd (n refl)
+no_last_text Reading p n = refl
+no_last_text ReadFailed p n = refl
+no_last_text WriteFailed p n = refl
 
 -- an input without a byte
-pub empty-run : RunsTo new-run (record { got = pos 0; buffer = []; written = true } ∷ [])
-    (record { program = new-run.program; progress = InputEnded })
+pub empty_run : RunsTo new_run (record { got = pos 0; buffer = []; written = true } ∷ [])
+    (record { program = new_run.program; progress = InputEnded })
 unfolding after_read
-empty-run = reads refl (λ _. refl) (stops refl)
+empty_run = reads refl (λ _. refl) (stops refl)
 
 -- nothing is told only where the input ended and the last text was written
-pub told-nothing : (x : Progress) (w : Bool) → told-of-run x w ≡ [] → (x ≡ InputEnded) × (w ≡ true)
+pub told_nothing : (x : Progress) (w : Bool) → told_of_run x w ≡ [] → (x ≡ InputEnded) × (w ≡ true)
 unfolding quoted
-told-nothing InputEnded true e = (refl, refl)
-told-nothing InputEnded false e = absurd (omega (arith, ap (λ (l : List ℕ). length l) e))
-told-nothing Reading w e = absurd (omega (arith, ap (λ (l : List ℕ). length l) e))
-told-nothing ReadFailed w e = absurd (omega (arith, ap (λ (l : List ℕ). length l) e))
-told-nothing WriteFailed w e = absurd (omega (arith, ap (λ (l : List ℕ). length l) e))
+told_nothing InputEnded true e = (refl, refl)
+told_nothing InputEnded false e = absurd (omega (arith, ap (λ (l : List ℕ). length l) e))
+told_nothing Reading w e = absurd (omega (arith, ap (λ (l : List ℕ). length l) e))
+told_nothing ReadFailed w e = absurd (omega (arith, ap (λ (l : List ℕ). length l) e))
+told_nothing WriteFailed w e = absurd (omega (arith, ap (λ (l : List ℕ). length l) e))
 
 -- what is told begins with what failed
 module _ (w : Bool) where
-  pub told-of-reading : take 25 (told-of-run ReadFailed w) ≡ quoted "ultimattt: reading failed"
+  pub told_of_reading : take 25 (told_of_run ReadFailed w) ≡ quoted "ultimattt: reading failed"
   unfolding quoted
-  told-of-reading = refl
+  told_of_reading = refl
 
-  pub told-of-writing : take 25 (told-of-run WriteFailed w) ≡ quoted "ultimattt: writing failed"
+  pub told_of_writing : take 25 (told_of_run WriteFailed w) ≡ quoted "ultimattt: writing failed"
   unfolding quoted
-  told-of-writing = refl
+  told_of_writing = refl
 
 -- one that still reads has used all reads up
-reads-counted : (r s : ProgramRun) (steps : List ReadStep) → RunsTo r steps s → s.progress ≡ Reading → r.program.reads ≡ length steps
-reads-counted r s _ (stops e) q = none_left r.progress q e
+reads_counted : (r s : ProgramRun) (steps : List ReadStep) → RunsTo r steps s → s.progress ≡ Reading → r.program.reads ≡ length steps
+reads_counted r s _ (stops e) q = none_left r.progress q e
   where
-    none_left : (x : Progress) → x ≡ Reading → (is-reading x && ltb 0 r.program.reads) ≡ false → r.program.reads ≡ 0
+    none_left : (x : Progress) → x ≡ Reading → (is_reading x && ltb 0 r.program.reads) ≡ false → r.program.reads ≡ 0
     none_left Reading f g = omega (arith, ltb-false 0 r.program.reads g)
     none_left InputEnded f g = absurd (true≢false (cc f))
     none_left ReadFailed f g = absurd (true≢false (cc f))
     none_left WriteFailed f g = absurd (true≢false (cc f))
-reads-counted r s (a ∷ more) (reads e n w) q =
-    let k = reads-counted (after_read r.program a) s more w q in
-    omega (arith, k, reads-left r e, one-read-fewer r.program a s more w q)
+reads_counted r s (a ∷ more) (reads e n w) q =
+    let k = reads_counted (after_read r.program a) s more w q in
+    omega (arith, k, reads_left r e, one_read_fewer r.program a s more w q)
 
-pub reads-used-up : (s : ProgramRun) (steps : List ReadStep) → RunsTo new-run steps s → s.progress ≡ Reading →
+pub reads_used_up : (s : ProgramRun) (steps : List ReadStep) → RunsTo new_run steps s → s.progress ≡ Reading →
     length steps ≡ 18446744073709551615
-reads-used-up s steps w q = sym (reads-counted new-run s steps w q)
+reads_used_up s steps w q = sym (reads_counted new_run s steps w q)
 
 -- ---- what is written and told at the end
-pub concluded : (r : ProgramRun) (x y : AnswerText) (n : ℕ) (w : Bool) → x ≡ last-of-run r.progress r.program →
-    n ≡ min x.len 224 → y ≡ text-of-bytes (told-of-run r.progress (w || eqb n 0)) → Concluded r (record { text = x; told = y })
+pub concluded : (r : ProgramRun) (x y : AnswerText) (n : ℕ) (w : Bool) → x ≡ last_of_run r.progress r.program →
+    n ≡ min x.len 224 → y ≡ text_of_bytes (told_of_run r.progress (w || eqb n 0)) → Concluded r (record { text = x; told = y })
 concluded r x y n w e k f =
     (w || eqb n 0, λ i. record { text = e i; told = f i }, λ z. rw (eq-eqb n 0 (omega (arith, k, z))) (or-true w))
 
 -- the last text stands in a row of 224 bytes
-pub last-of-run-room : (x : Progress) (p : Program) (o : AnswerText) → o ≡ last-of-run x p → length o.bytes ≡ 224
-last-of-run-room InputEnded p o e = last-room p.line o e
-last-of-run-room Reading p o e = text-room o [] e
-last-of-run-room ReadFailed p o e = text-room o [] e
-last-of-run-room WriteFailed p o e = text-room o [] e
+pub last_of_run_room : (x : Progress) (p : Program) (o : AnswerText) → o ≡ last_of_run x p → length o.bytes ≡ 224
+last_of_run_room InputEnded p o e = last_room p.line o e
+last_of_run_room Reading p o e = text_room o [] e
+last_of_run_room ReadFailed p o e = text_room o [] e
+last_of_run_room WriteFailed p o e = text_room o [] e

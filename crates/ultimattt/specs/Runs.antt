@@ -4,10 +4,10 @@ use Rattle.std.specs.Int.Signed.{lt_z}
 use Rattle.io.specs.Counts.{clamp_len}
 use Rattle.text.specs.Bytes.{message}
 use Rattle.answer_text.specs.declared.AnswerText.{AnswerText}
-use Rattle.answer_text.specs.AnswerBytes.{no_text, text-of-bytes}
+use Rattle.answer_text.specs.AnswerBytes.{no_text, text_of_bytes}
 use Rattle.line_buffer.specs.Taking.{buffered}
 use Rattle.program_reads.specs.declared.Program.{Program}
-use Rattle.program_reads.specs.Promises.{new-program, last-answer, fed}
+use Rattle.program_reads.specs.Promises.{new_program, last_answer, fed}
 use Rattle.ultimattt.specs.declared.ProgramRun.{ProgramRun}
 use Rattle.ultimattt.specs.declared.RunEnd.{RunEnd}
 use Rattle.ultimattt.specs.declared.Progress.{Progress}
@@ -21,27 +21,27 @@ pub record ReadStep : Type 0 where
   pub written : Bool
 
 -- the bytes that came
-abbrev pub read-bytes : ReadStep → List ℕ
-read-bytes a = take (clamp_len a.got (length a.buffer)) a.buffer
+abbrev pub read_bytes : ReadStep → List ℕ
+read_bytes a = take (clamp_len a.got (length a.buffer)) a.buffer
 
 -- ---- a read
-abbrev pub new-run : ProgramRun
-new-run = record { program = new-program; progress = Reading }
+abbrev pub new_run : ProgramRun
+new_run = record { program = new_program; progress = Reading }
 
 -- the bytes are fed whole, or not at all where not all answers could be written
-abbrev pub after-feeding : Program → List ℕ → Bool → ProgramRun
-after-feeding p bytes true = record { program = fed p bytes; progress = Reading }
-after-feeding p bytes false = record { program = p; progress = WriteFailed }
+abbrev pub after_feeding : Program → List ℕ → Bool → ProgramRun
+after_feeding p bytes true = record { program = fed p bytes; progress = Reading }
+after_feeding p bytes false = record { program = p; progress = WriteFailed }
 
 -- where no byte came the input has ended
-abbrev pub after-bytes : Program → List ℕ → Bool → ProgramRun
-after-bytes p [] written = record { program = p; progress = InputEnded }
-after-bytes p (b ∷ bs) written = after-feeding p (b ∷ bs) written
+abbrev pub after_bytes : Program → List ℕ → Bool → ProgramRun
+after_bytes p [] written = record { program = p; progress = InputEnded }
+after_bytes p (b ∷ bs) written = after_feeding p (b ∷ bs) written
 
 -- the run after one read more
 unfoldable pub after_read : Program → ReadStep → ProgramRun
 after_read p a =
-    cond (lt_z a.got (pos 0)) (record { program = p; progress = ReadFailed }) (after-bytes p (read-bytes a) a.written)
+    cond (lt_z a.got (pos 0)) (record { program = p; progress = ReadFailed }) (after_bytes p (read_bytes a) a.written)
 
 -- where no line ends nothing is to be written, so no write fails
 abbrev pub WrittenIfNoLineEnds : Program → List ℕ → Bool → Type 0
@@ -49,29 +49,29 @@ WrittenIfNoLineEnds p bytes written = (buffered p.line bytes).found ≡ false �
 
 -- for some return of the writes
 abbrev pub AfterFeeding : Program → List ℕ → ProgramRun → Type 0
-AfterFeeding p bytes r = (written : Bool) × (r ≡ after-feeding p bytes written) × WrittenIfNoLineEnds p bytes written
+AfterFeeding p bytes r = (written : Bool) × (r ≡ after_feeding p bytes written) × WrittenIfNoLineEnds p bytes written
 
 abbrev pub AfterRead : Program → List ℕ → ℤ → ProgramRun → Type 0
 AfterRead p buffer got r = (written : Bool) × (r ≡ after_read p (record { got = got; buffer = buffer; written = written })) ×
-    WrittenIfNoLineEnds p (read-bytes (record { got = got; buffer = buffer; written = written })) written
+    WrittenIfNoLineEnds p (read_bytes (record { got = got; buffer = buffer; written = written })) written
 
 -- ---- all reads
 -- neither ended nor failed
-abbrev pub is-reading : Progress → Bool
-is-reading Reading = true
-is-reading InputEnded = false
-is-reading ReadFailed = false
-is-reading WriteFailed = false
+abbrev pub is_reading : Progress → Bool
+is_reading Reading = true
+is_reading InputEnded = false
+is_reading ReadFailed = false
+is_reading WriteFailed = false
 
 -- one more read comes
 abbrev pub goes_on : ProgramRun → Bool
-goes_on r = is-reading r.progress && ltb 0 r.program.reads
+goes_on r = is_reading r.progress && ltb 0 r.program.reads
 
 -- from a run, read by read, to the run at its end
 pub data RunsTo : ProgramRun → List ReadStep → ProgramRun → Type 0 where
   stops : {r : ProgramRun} → goes_on r ≡ false → RunsTo r [] r
   reads : {r s : ProgramRun} {a : ReadStep} {more : List ReadStep} → goes_on r ≡ true →
-      WrittenIfNoLineEnds r.program (read-bytes a) a.written → RunsTo (after_read r.program a) more s → RunsTo r (a ∷ more) s
+      WrittenIfNoLineEnds r.program (read_bytes a) a.written → RunsTo (after_read r.program a) more s → RunsTo r (a ∷ more) s
 
 -- for some returns of `read` and of the writes
 abbrev pub SomeRun : ProgramRun → ProgramRun → Type 0
@@ -79,24 +79,24 @@ SomeRun begun r = (steps : List ReadStep) × RunsTo begun steps r
 
 -- ---- its end
 -- what is written then
-abbrev pub last-of-run : Progress → Program → AnswerText
-last-of-run InputEnded p = last-answer p.line
-last-of-run Reading p = no_text
-last-of-run ReadFailed p = no_text
-last-of-run WriteFailed p = no_text
+abbrev pub last_of_run : Progress → Program → AnswerText
+last_of_run InputEnded p = last_answer p.line
+last_of_run Reading p = no_text
+last_of_run ReadFailed p = no_text
+last_of_run WriteFailed p = no_text
 
 -- what is told on standard error, by whether the last text was written; a run that still reads has used its reads up
-abbrev pub told-of-run : Progress → Bool → List ℕ
-told-of-run InputEnded true = []
-told-of-run InputEnded false = message "ultimattt: writing failed, the last answer is missing"
-told-of-run Reading written = message "ultimattt: too many reads, the rest of the input is not answered"
-told-of-run ReadFailed written = message "ultimattt: reading failed, what came of the last line is not answered"
-told-of-run WriteFailed written = message "ultimattt: writing failed, answers are missing"
+abbrev pub told_of_run : Progress → Bool → List ℕ
+told_of_run InputEnded true = []
+told_of_run InputEnded false = message "ultimattt: writing failed, the last answer is missing"
+told_of_run Reading written = message "ultimattt: too many reads, the rest of the input is not answered"
+told_of_run ReadFailed written = message "ultimattt: reading failed, what came of the last line is not answered"
+told_of_run WriteFailed written = message "ultimattt: writing failed, answers are missing"
 
 abbrev pub run_end : ProgramRun → Bool → RunEnd
 run_end r written = record {
-  text = last-of-run r.progress r.program;
-  told = text-of-bytes (told-of-run r.progress written);
+  text = last_of_run r.progress r.program;
+  told = text_of_bytes (told_of_run r.progress written);
 }
 
 -- for some return of the write, if there is anything to write

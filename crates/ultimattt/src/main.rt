@@ -1,14 +1,16 @@
 // For each line `position depth` of standard input a line with its answer. There may be any number of lines, of any length.
+#![tactic(auto)]
+
 ghost use Rattle.std.specs.Prelude.{◌≡◌};
-ghost use Rattle.answer_text.specs.AnswerBytes.{text-of-bytes};
-ghost use Rattle.ultimattt.specs.Runs.{new-run, goes_on, AfterFeeding, AfterRead, SomeRun, last-of-run, told-of-run, Concluded};
+ghost use Rattle.answer_text.specs.AnswerBytes.{text_of_bytes};
+ghost use Rattle.ultimattt.specs.Runs.{new_run, goes_on, AfterFeeding, AfterRead, SomeRun, last_of_run, told_of_run, Concluded};
 
 use answer_text::AnswerText;
 use libc::{STDERR_FILENO, STDIN_FILENO, STDOUT_FILENO};
 use program_reads::Program;
 
 // How a run stands after its reads.
-#[derive(Drop)]
+#[derive(Clone, Copy)]
 enum Progress {
     Reading,
     InputEnded,
@@ -17,14 +19,14 @@ enum Progress {
 }
 
 // A run so far: the program after all reads whose answers could be written, and how the run stands.
-#[derive(Drop)]
+#[derive(Clone, Copy)]
 struct ProgramRun {
     program: Program,
     progress: Progress,
 }
 
 // What is to be written at the end of a run, and what is to be told on standard error.
-#[derive(Drop)]
+#[derive(Clone, Copy)]
 struct RunEnd {
     text: AnswerText,
     told: AnswerText,
@@ -57,7 +59,7 @@ fn feed(begun: Program, bytes: &[u8]) -> ProgramRun
 
 impl ProgramRun {
     fn new() -> ProgramRun
-        ensures { result ≡ new-run }
+        ensures { result ≡ new_run }
     {
         let program = Program::new();
         ProgramRun {
@@ -103,7 +105,7 @@ impl ProgramRun {
 
     // The answer to the last line, if the input ended.
     fn last(self) -> AnswerText
-        ensures { result ≡ last-of-run self.progress self.program }
+        ensures { result ≡ last_of_run self.progress self.program }
     {
         let program = self.program;
         let progress = self.progress;
@@ -119,7 +121,7 @@ impl ProgramRun {
 impl Progress {
     // What is told on standard error. `written`: the last answer could be written.
     fn told(self, written: bool) -> AnswerText
-        ensures { result ≡ text-of-bytes (told-of-run self written) }
+        ensures { result ≡ text_of_bytes (told_of_run self written) }
     {
         let said = AnswerText::new();
         match self {
@@ -158,7 +160,7 @@ fn answer_from(begun: ProgramRun) -> ProgramRun
 
 // Answers standard input.
 fn answer_input() -> ProgramRun
-    ensures { SomeRun new-run result }
+    ensures { SomeRun new_run result }
 {
     answer_from(ProgramRun::new())
 }

@@ -1,5 +1,5 @@
 -- Each call's promise, of what it gave.
-use Rattle.demands.proofs.Demand2.{demand-2}
+use Rattle.demands.proofs.Demand2.{demand_2}
 use borrow.Author.Rules.{rules}
 use Rattle.demands.proofs.answers_after.Statement.{statement}
 use Rattle.demands.proofs.answers_after.Tie as tie
@@ -82,8 +82,8 @@ equivalent-requires-2 c κs = search rules
 same_length : tie.Need-same-length
 same_length c =
     let rendered = c.before.before.before.before.before.before.before.before.before.before.before.before in
-    let move-parsed = rendered.before.before.before.before.before.before.before.before in
-    move-parsed.before.before.before.before.analyze.auto.1.1.1.0
+    let move_parsed = rendered.before.before.before.before.before.before.before.before in
+    move_parsed.before.before.before.before.analyze.auto.1.1.1.0
 
 returns : tie.Need-returns
 returns c =
@@ -92,55 +92,55 @@ returns c =
     let opened = first.before in
     let bounded = opened.before in
     let judged = bounded.before in
-    let status-given = judged.before in
-    let valued = status-given.before in
+    let status_given = judged.before in
+    let valued = status_given.before in
     let keyed = valued.before in
     let made = keyed.before in
     let counted = made.before in
     let listed = counted.before in
     let cursor = listed.before in
     let rendered = cursor.before in
-    let looked-board = rendered.before in
-    let looked-cell = looked-board.before in
-    let over = looked-cell.before in
+    let looked_board = rendered.before in
+    let looked_cell = looked_board.before in
+    let over = looked_cell.before in
     let state = over.before in
-    let next-board = state.before in
-    let turn = next-board.before in
-    let move-rendered = turn.before in
-    let move-parsed = move-rendered.before in
-    let analysed = move-parsed.before in
+    let next_board = state.before in
+    let turn = next_board.before in
+    let move_rendered = turn.before in
+    let move_parsed = move_rendered.before in
+    let analysed = move_parsed.before in
     let searched = analysed.before.before.before in
     let played = searched.before.before in
     let parsed = played.before.before in
     let a = parsed.before.before.before.before.before.args in
-    demand-2 a.text.now a.moves.now a.m a.board a.cell a.other a.memory a.config a.words.now
+    demand_2 a.text.now a.moves.now a.m a.board a.cell a.other a.memory a.config a.words.now
     searched.analyze.new.1.1.1.0 _ (record {
       parsed = parsed.parse.ensures;
-      move-parsed = move-parsed.parse-move.ensures;
-      move-rendered = move-rendered.render-move.ensures;
+      move_parsed = move_parsed.parse-move.ensures;
+      move_rendered = move_rendered.render-move.ensures;
       played = played.play-all.ensures;
       turn = turn.player.ensures;
-      next-board = next-board.board-to-play.ensures;
+      next_board = next_board.board-to-play.ensures;
       state = state.game-state.ensures;
       over = over.game-over.ensures;
-      looked-cell = looked-cell.at.ensures;
-      looked-board = looked-board.board-state.ensures;
+      looked_cell = looked_cell.at.ensures;
+      looked_board = looked_board.board-state.ensures;
       rendered = rendered.render.ensures;
       cursor = cursor.all-moves.result;
-      cursor-is = cursor.all-moves.ensures;
+      cursor_is = cursor.all-moves.ensures;
       listed = listed.list-moves.ensures;
       counted = counted.legal-moves.ensures;
-      tried-one = made.make-move.ensures;
+      tried_one = made.make-move.ensures;
       keyed = keyed.zobrist.ensures;
       valued = valued.evaluate.ensures;
       analysed = analysed.new.ensures;
-      status-given = status-given.status.ensures;
-      judged = judged.evaluate-move.ensures;
+      status_given = status_given.status.ensures;
+      judged = judged.evaluate_move.ensures;
       searched = searched.analyze.ensures;
-      bounded = bounded.bound-depth.ensures;
-      opened = opened.open-boards.ensures;
-      compared-first = first.equivalent.ensures;
-      compared-second = second.equivalent2.ensures;
+      bounded = bounded.bound_depth.ensures;
+      opened = opened.open_boards.ensures;
+      compared_first = first.equivalent.ensures;
+      compared_second = second.equivalent2.ensures;
     })
 
 pub answers-after-spec : {M : Type 1} → statement M

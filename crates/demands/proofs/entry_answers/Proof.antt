@@ -1,5 +1,5 @@
 -- Each call's promise, of what it gave.
-use Rattle.demands.proofs.Demand1.{demand-1}
+use Rattle.demands.proofs.Demand1.{demand_1}
 use borrow.Author.Rules.{rules}
 use Rattle.demands.proofs.entry_answers.Statement.{statement}
 use Rattle.demands.proofs.entry_answers.Tie as tie
@@ -53,30 +53,30 @@ returns c =
     let analysed = judged.before in
     let valued = analysed.before in
     let built = valued.before in
-    let looked-board = built.before in
-    let looked-cell = looked-board.before in
-    let tried = looked-cell.before in
-    let move-parsed = tried.before in
-    let parsed = move-parsed.before in
+    let looked_board = built.before in
+    let looked_cell = looked_board.before in
+    let tried = looked_cell.before in
+    let move_parsed = tried.before in
+    let parsed = move_parsed.before in
     let held = parsed.before in
     let empty = held.before in
     let a = empty.before.before.before.before.before.args in
-    demand-1 a.text.now a.line.now a.game a.m a.board a.cell a.memory a.config a.words.now
+    demand_1 a.text.now a.line.now a.game a.m a.board a.cell a.memory a.config a.words.now
     searched.analyze.new.1.1.1.0 _ (record {
       parsed = parsed.parse.ensures;
-      move-parsed = move-parsed.parse-move.ensures;
+      move_parsed = move_parsed.parse-move.ensures;
       tried = tried.make-move.ensures;
-      looked-cell = looked-cell.at.ensures;
-      looked-board = looked-board.board-state.ensures;
+      looked_cell = looked_cell.at.ensures;
+      looked_board = looked_board.board-state.ensures;
       built = built.from-coords.ensures;
       valued = valued.evaluate.ensures;
       analysed = analysed.new2.ensures;
-      judged = judged.evaluate-move.ensures;
+      judged = judged.evaluate_move.ensures;
       searched = searched.analyze.ensures;
       empty = empty.new.result;
-      empty-is = empty.new.ensures;
+      empty_is = empty.new.ensures;
       held = held.push-all.result;
-      held-is = held.push-all.ensures;
+      held_is = held.push-all.ensures;
       answered = c.answer.ensures;
     })
 

@@ -1,5 +1,5 @@
 -- The claims hold of what `evaluate` promises of both.
-use Rattle.demands.proofs.Evaluations.{evaluation-claims}
+use Rattle.demands.proofs.Evaluations.{evaluation_claims}
 use borrow.Author.Rules.{rules}
 use Rattle.demands.proofs.evaluate_sides.Statement.{statement}
 use Rattle.demands.proofs.evaluate_sides.Tie as tie
@@ -15,7 +15,7 @@ evaluate-requires-2 c κs = search rules
 
 returns : tie.Need-returns
 returns c =
-    evaluation-claims _ _ _ _ _ _ c.before.other-to-move.ensures c.before.before.evaluate.ensures c.evaluate2.ensures
+    evaluation_claims _ _ _ _ _ _ c.before.other_to_move.ensures c.before.before.evaluate.ensures c.evaluate2.ensures
 
 pub evaluate-sides-spec : {M : Type 1} → statement M
 evaluate-sides-spec = tie.close (tie.spec evaluate-requires other-to-move-requires evaluate-requires-2 returns)

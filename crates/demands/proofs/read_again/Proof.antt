@@ -1,8 +1,8 @@
 -- What is rendered reads as the game.
 use mathlib.Core.Path.{ap, ◌∙◌}
 use Rattle.game.specs.declared.Game.{Game}
-use Rattle.game.specs.After.{games-after}
-use Rattle.demands.proofs.Demand2.{reads-again}
+use Rattle.game.specs.After.{games_after}
+use Rattle.demands.proofs.Demand2.{reads_again}
 use borrow.Author.Rules.{rules}
 use Rattle.demands.proofs.read_again.Statement.{statement}
 use Rattle.demands.proofs.read_again.Tie as tie
@@ -28,8 +28,8 @@ returns c =
     let play = render.before in
     let new = play.before in
     let ms = new.before.before.args.moves.now in
-    let g-is = play.play-all.ensures ∙ ap (λ (g : Game). games-after g ms) new.new.ensures in
-    reads-again ms play.play-all.result render.render.result c.parse.result g-is render.render.ensures c.parse.ensures
+    let g_is = play.play-all.ensures ∙ ap (λ (g : Game). games_after g ms) new.new.ensures in
+    reads_again ms play.play-all.result render.render.result c.parse.result g_is render.render.ensures c.parse.ensures
 
 pub read-again-spec : {M : Type 1} → statement M
 read-again-spec =

@@ -1,5 +1,5 @@
 -- The claims hold of every report that the promise of `analyze` allows.
-use Rattle.demands.proofs.Searches.{search-claims}
+use Rattle.demands.proofs.Searches.{search_claims}
 use borrow.Author.Rules.{rules}
 use Rattle.demands.proofs.search.Statement.{statement}
 use Rattle.demands.proofs.search.Tie as tie
@@ -14,7 +14,7 @@ returns : tie.Need-returns
 returns c =
     let analyze = c.before.before in
     let s = analyze.before.before.before in
-    search-claims s.args.memory s.args.game s.args.config s.args.words.now analyze.analyze.result
+    search_claims s.args.memory s.args.game s.args.config s.args.words.now analyze.analyze.result
     analyze.analyze.new.1.1.1.0 analyze.analyze.ensures
 
 pub search-spec : {M : Type 1} → statement M

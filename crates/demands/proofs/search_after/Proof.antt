@@ -3,9 +3,9 @@ use mathlib.Core.Path.{◌≡◌, ap, ◌∙◌, subst}
 use mathlib.Core.List.{List, []}
 use Prim.Native.Nat.{ℕ}
 use Rattle.game.specs.declared.Game.{Game}
-use Rattle.game.specs.After.{games-after}
-use Rattle.minimax.specs.Report.{report-of, reported-of}
-use Rattle.demands.proofs.Demand3.{none-long, demand-3}
+use Rattle.game.specs.After.{games_after}
+use Rattle.minimax.specs.Report.{report_of, reported_of}
+use Rattle.demands.proofs.Demand3.{none_long, demand_3}
 use borrow.Author.Rules.{rules}
 use Rattle.demands.proofs.search_after.Statement.{statement}
 use Rattle.demands.proofs.search_after.Tie as tie
@@ -34,11 +34,11 @@ returns c =
     let s = new.before.before in
     let g = play.play-all.result in
     let r = analyze.analyze.result in
-    let none = none-long analyze.analyze.new.1.1.1.0 analyze.analyze.auto.1.1.1.0 in
-    let g-is = play.play-all.ensures ∙ ap (λ (k : Game). games-after k s.args.moves.now) new.new.ensures in
-    let whole = subst (λ (ws : List ℕ). report-of r ws ≡ reported-of s.args.memory g s.args.config []) none
+    let none = none_long analyze.analyze.new.1.1.1.0 analyze.analyze.auto.1.1.1.0 in
+    let g_is = play.play-all.ensures ∙ ap (λ (k : Game). games_after k s.args.moves.now) new.new.ensures in
+    let whole = subst (λ (ws : List ℕ). report_of r ws ≡ reported_of s.args.memory g s.args.config []) none
     analyze.analyze.ensures in
-    demand-3 s.args.moves.now s.args.memory s.args.config g _ r g-is analysis.new2.ensures whole
+    demand_3 s.args.moves.now s.args.memory s.args.config g _ r g_is analysis.new2.ensures whole
 
 pub search-after-spec : {M : Type 1} → statement M
 search-after-spec =

@@ -6,22 +6,22 @@ use native.Mathlib.Omega.{arith}
 use lib.ListN.{get_or, drop}
 use Rattle.base.specs.Bits.{bit}
 use Rattle.base.specs.Lists.{any, all}
-use Rattle.base.proofs.Bits.{digit-test}
+use Rattle.base.proofs.Bits.{digit_test}
 use Rattle.rules.specs.Board.{nine}
-use Rattle.rules.specs.Position.{Position, free-cell}
-use Rattle.rules.proofs.Board.{nine-at}
-use Rattle.game.specs.Meaning.{position-of}
-use Rattle.endgame.proofs.PartsLoop.{any_found, any-missed}
+use Rattle.rules.specs.Position.{Position, free_cell}
+use Rattle.rules.proofs.Board.{nine_at}
+use Rattle.game.specs.Meaning.{position_of}
+use Rattle.endgame.proofs.PartsLoop.{any_found, any_missed}
 use borrow.Author.Rules.{rules}
 use Rattle.endgame.proofs.any_sends_to.Statement.{statement}
 use Rattle.endgame.proofs.any_sends_to.Tie as tie
 
 abbrev sends : Position → ℕ → ℕ → ℕ → Bool
-sends p dests want i = bit dests i && all (λ c. not (free-cell p i c) || bit want c) nine
+sends p dests want i = bit dests i && all (λ c. not (free_cell p i c) || bit want c) nine
 
 abbrev invariant-loop : tie.invariant-loop
 invariant-loop pos dests want i₀ i =
-    (i ≤ 9) × (any (sends (position-of pos) dests want) (drop i nine) ≡ any (sends (position-of pos) dests want) nine)
+    (i ≤ 9) × (any (sends (position_of pos) dests want) (drop i nine) ≡ any (sends (position_of pos) dests want) nine)
 
 abbrev decreases-loop : tie.decreases-loop
 decreases-loop pos dests want i₀ i = 9 - i
@@ -43,12 +43,12 @@ both-requires c κs = search rules
 
 -- what the turn's test says of its board
 tested : (c : tie.After-both invariant-loop decreases-loop) (r : Bool) → c.both.result ≡ r → let a =
-    c.before.before.before.before.args in sends (position-of a.pos) a.dests a.want
+    c.before.before.before.before.args in sends (position_of a.pos) a.dests a.want
     (get_or nine c.before.before.before.loop.i 0) ≡ r
 tested c r e =
     let a = c.before.before.before.before.args in
-    ap (sends (position-of a.pos) a.dests a.want) (nine-at _ c.before.before.loop-test.true)
-    ∙ sym (c.both.ensures ∙ ap₂ ◌&&◌ (digit-test a.dests c.before.before.before.loop.i) c.before.sends-to.ensures)
+    ap (sends (position_of a.pos) a.dests a.want) (nine_at _ c.before.before.loop-test.true)
+    ∙ sym (c.both.ensures ∙ ap₂ ◌&&◌ (digit_test a.dests c.before.before.before.loop.i) c.before.sends-to.ensures)
     ∙ e
 
 returns : tie.Need-returns invariant-loop decreases-loop
@@ -68,7 +68,7 @@ loop-again c =
     let at-loop-test = c.before.before.before in
     let at-loop = at-loop-test.before in (
       search rules,
-      any-missed _ nine 0 at-loop.loop.i at-loop-test.loop-test.true _ at-loop.loop.invariant.1
+      any_missed _ nine 0 at-loop.loop.i at-loop-test.loop-test.true _ at-loop.loop.invariant.1
           (tested c.before _ c.if1.false),
     )
 

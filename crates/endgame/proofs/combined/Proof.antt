@@ -2,11 +2,11 @@
 use mathlib.Core.Path.{◌≡◌, sym, ap, ◌∙◌}
 use mathlib.Core.Option.{some}
 use Rattle.rules.specs.declared.Player.TheVariants.{X, O}
-use Rattle.rules.specs.Status.{draw-or-other}
+use Rattle.rules.specs.Status.{draw_or_other}
 use Rattle.rules.specs.Endgame.{combine}
 use Rattle.status.specs.declared.Read.TheVariants.{Set as IsSet}
 use Rattle.status.specs.Sets.{read_of}
-use Rattle.endgame.proofs.MeansStatuses.{set-read, never-none}
+use Rattle.endgame.proofs.MeansStatuses.{set_read, never_none}
 use borrow.Author.Rules.{rules}
 use Rattle.endgame.proofs.combined.Statement.{statement}
 use Rattle.endgame.proofs.combined.Tie as tie
@@ -39,16 +39,16 @@ unproven-requires c κs = search rules
 read : (c : tie.After-limited2) → let a =
     c.before.before.before.before.before.args in c.limited2.result ≡ read_of (combine a.who a.wins a.loses a.x a.o)
 unfolding combine
-read c = c.limited2.ensures.narrowed (draw-or-other O) _ c.before.draw-or-x.ensures
-    (c.before.before.limited.ensures.narrowed (draw-or-other X) (some _) c.before.before.before.draw-or-o.ensures
+read c = c.limited2.ensures.narrowed (draw_or_other O) _ c.before.draw-or-x.ensures
+    (c.before.before.limited.ensures.narrowed (draw_or_other X) (some _) c.before.before.before.draw-or-o.ensures
     (ap IsSet c.before.before.before.before.proven-of.ensures))
 
 returns : tie.Need-returns
-returns c = set-read _ _ (sym c.before.without-o.given.1 ∙ read c.before.before.before)
+returns c = set_read _ _ (sym c.before.without-o.given.1 ∙ read c.before.before.before)
 
 returns-2 : tie.Need-returns-2
 returns-2 c =
-    absurd (never-none _ c.before.before.before.before.before.before.before.before.requires
+    absurd (never_none _ c.before.before.before.before.before.before.before.before.requires
     (sym c.before.enum_told.given.1 ∙ read c.before.before.before))
 
 pub combined-spec : {M : Type 1} → statement M

@@ -4,11 +4,11 @@ use native.Mathlib.Omega.{arith}
 use lib.Bits.{bit_and}
 use lib.Count.{trailing_le}
 use borrow.Author.Tests.{not-true, not-false}
-use Rattle.game.specs.Meaning.{position-of}
+use Rattle.game.specs.Meaning.{position_of}
 use Rattle.lines.proofs.Masks.{mask_at}
-use Rattle.endgame.proofs.PartsSets.{set-lt, set-bit}
-use Rattle.endgame.proofs.PartsLacking.{any-lacks}
-use Rattle.endgame.proofs.PartsCritical.{line-lacks-none, line-found, line-missed}
+use Rattle.endgame.proofs.PartsSets.{set_lt, set_bit}
+use Rattle.endgame.proofs.PartsLacking.{any_lacks}
+use Rattle.endgame.proofs.PartsCritical.{line_lacks_none, line_found, line_missed}
 use borrow.Author.Rules.{rules}
 use Rattle.endgame.proofs.critical_board.Statement.{statement}
 use Rattle.endgame.proofs.critical_board.Tie as tie
@@ -21,15 +21,15 @@ playerbits-requires c κs = search rules
 
 is-critical-requires : tie.Need-is-critical-requires
 is-critical-requires c κs =
-    (set-lt _ _ c.playerbits.ensures, set-lt _ _ c.before.openbits.ensures, c.before.before.before.before.requires)
+    (set_lt _ _ c.playerbits.ensures, set_lt _ _ c.before.openbits.ensures, c.before.before.before.before.requires)
 
 returns : tie.Need-returns
 returns c =
     let at-playerbits = c.before.before in
     let at-openbits = at-playerbits.before in
     let start = at-openbits.before.before.before in
-    let p = position-of start.args.pos in
-    line-lacks-none p _ _ _ _ start.requires at-playerbits.playerbits.ensures at-openbits.openbits.ensures _
+    let p = position_of start.args.pos in
+    line_lacks_none p _ _ _ _ start.requires at-playerbits.playerbits.ensures at-openbits.openbits.ensures _
     c.before.is-critical.ensures
     (not-true _ c.if1.true)
 
@@ -54,7 +54,7 @@ free-squares-requires : tie.Need-free-squares-requires
 free-squares-requires c κs = search rules
 
 has-critical-requires : tie.Need-has-critical-requires
-has-critical-requires c κs = (set-lt _ _ c.before.playerbits2.ensures, set-lt _ _ c.free-squares.ensures)
+has-critical-requires c κs = (set_lt _ _ c.before.playerbits2.ensures, set_lt _ _ c.free-squares.ensures)
 
 returns-2 : tie.Need-returns-2
 returns-2 c =
@@ -65,12 +65,12 @@ returns-2 c =
     let at-playerbits = at-is-critical.before in
     let at-openbits = at-playerbits.before in
     let start = at-openbits.before.before.before in
-    let p = position-of start.args.pos in
-    line-found p _ _ _ _ start.requires at-playerbits.playerbits.ensures at-openbits.openbits.ensures _
+    let p = position_of start.args.pos in
+    line_found p _ _ _ _ start.requires at-playerbits.playerbits.ensures at-openbits.openbits.ensures _
     at-is-critical.is-critical.ensures
     (not-false _ at-if1.if1.false) _
-    (c.before.has-critical.ensures ∙ any-lacks _ _ _ _ (set-bit _ _ at-playerbits2.playerbits2.ensures)
-    (set-bit _ _ at-free-squares.free-squares.ensures))
+    (c.before.has_critical.ensures ∙ any_lacks _ _ _ _ (set_bit _ _ at-playerbits2.playerbits2.ensures)
+    (set_bit _ _ at-free-squares.free-squares.ensures))
     c.if2.true
 
 returns-3 : tie.Need-returns-3
@@ -82,12 +82,12 @@ returns-3 c =
     let at-playerbits = at-is-critical.before in
     let at-openbits = at-playerbits.before in
     let start = at-openbits.before.before.before in
-    let p = position-of start.args.pos in
-    line-missed p _ _ _ _ start.requires at-playerbits.playerbits.ensures at-openbits.openbits.ensures _
+    let p = position_of start.args.pos in
+    line_missed p _ _ _ _ start.requires at-playerbits.playerbits.ensures at-openbits.openbits.ensures _
     at-is-critical.is-critical.ensures
     (not-false _ at-if1.if1.false) _
-    (c.before.has-critical.ensures ∙ any-lacks _ _ _ _ (set-bit _ _ at-playerbits2.playerbits2.ensures)
-    (set-bit _ _ at-free-squares.free-squares.ensures))
+    (c.before.has_critical.ensures ∙ any_lacks _ _ _ _ (set_bit _ _ at-playerbits2.playerbits2.ensures)
+    (set_bit _ _ at-free-squares.free-squares.ensures))
     c.if2.false
 
 pub critical-board-spec : {M : Type 1} → statement M

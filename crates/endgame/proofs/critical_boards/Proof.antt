@@ -7,16 +7,16 @@ use Rattle.base.specs.Bits.{digits}
 use Rattle.base.specs.Lists.{any}
 use Rattle.rules.specs.Board.{lines}
 use Rattle.rules.proofs.Sound.{sound→}
-use Rattle.game.specs.Meaning.{position-of}
-use Rattle.endgame.specs.Parts.{critical-by}
-use Rattle.endgame.proofs.PartsCritical.{all_lines, no_lines, one-line-more}
+use Rattle.game.specs.Meaning.{position_of}
+use Rattle.endgame.specs.Parts.{critical_by}
+use Rattle.endgame.proofs.PartsCritical.{all_lines, no_lines, one_line_more}
 use borrow.Author.Rules.{rules}
 use Rattle.endgame.proofs.critical_boards.Statement.{statement}
 use Rattle.endgame.proofs.critical_boards.Tie as tie
 
 abbrev invariant-loop : tie.invariant-loop
 invariant-loop pos who out₀ i₀ out i =
-    (i ≤ 8) × (out ≡ digits (λ b. any (λ l. critical-by (position-of pos) who l b) (take i lines)) 9)
+    (i ≤ 8) × (out ≡ digits (λ b. any (λ l. critical_by (position_of pos) who l b) (take i lines)) 9)
 
 abbrev decreases-loop : tie.decreases-loop
 decreases-loop pos who out₀ i₀ out i = 8 - i
@@ -36,14 +36,14 @@ loop-less c = search rules
 loop-again : tie.Need-loop-preserved invariant-loop decreases-loop
 loop-again c = (
   search rules,
-  one-line-more (position-of c.before.before.before.args.pos) _ _ _ _ c.before.loop-test.true
+  one_line_more (position_of c.before.before.before.args.pos) _ _ _ _ c.before.loop-test.true
       c.before.before.loop.invariant.1 c.critical-board.ensures,
 )
 
 returns : tie.Need-returns invariant-loop decreases-loop
 returns c =
     let e : c.before.loop.i ≡ 8 = omega arith in rw e at c.before.loop.invariant.1
-    ∙ all_lines (position-of c.before.before.args.pos) (sound→ (position-of c.before.before.args.pos)
+    ∙ all_lines (position_of c.before.before.args.pos) (sound→ (position_of c.before.before.args.pos)
     c.before.before.requires) _
 
 pub critical-boards-spec : {M : Type 1} → statement M

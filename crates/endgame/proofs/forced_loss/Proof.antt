@@ -1,17 +1,17 @@
--- The cases of `forced-loss`; a due board over 8 is in no set and reads as empty.
+-- The cases of `forced_loss`; a due board over 8 is in no set and reads as empty.
 use mathlib.Core.Path.{sym, ◌∙◌}
 use mathlib.Core.Bool.{true, false}
 use borrow.Author.Tests.{eq-eqb, ne_eqb}
-use Rattle.game.specs.Meaning.{position-of}
-use Rattle.endgame.proofs.PartsSets.{set-lt}
-use Rattle.endgame.proofs.PartsAttack.{set-critical, some-critical, sends-suit, no-threat, not-forced, blockable, all-lose}
+use Rattle.game.specs.Meaning.{position_of}
+use Rattle.endgame.proofs.PartsSets.{set_lt}
+use Rattle.endgame.proofs.PartsAttack.{set_critical, some_critical, sends_suit, no_threat, not_forced, blockable, all_lose}
 use borrow.Author.Rules.{rules}
 use Rattle.endgame.proofs.forced_loss.Statement.{statement}
 use Rattle.endgame.proofs.forced_loss.Tie as tie
 
 returns : tie.Need-returns
 returns c =
-    no-threat (position-of c.before.args.pos) (some-critical (position-of c.before.args.pos) _ _ c.before.requires.1 true
+    no_threat (position_of c.before.args.pos) (some_critical (position_of c.before.args.pos) _ _ c.before.requires.1 true
     (eq-eqb _ _ c.if1.true))
 
 board-to-play-requires : tie.Need-board-to-play-requires
@@ -28,15 +28,15 @@ returns-2 c =
     let at-board-to-play = c.before.before in
     let at-if1 = at-board-to-play.before in
     let start = at-if1.before in
-    let p = position-of start.args.pos in
-    not-forced p (some-critical p _ _ start.requires.1 false (ne_eqb _ _ at-if1.if1.false))
+    let p = position_of start.args.pos in
+    not_forced p (some_critical p _ _ start.requires.1 false (ne_eqb _ _ at-if1.if1.false))
     (sym at-board-to-play.board-to-play.ensures ∙ c.enum_told.given.1)
 
 cast-board : tie.Need-overflow-cast-board
 cast-board c = search rules
 
 holds-requires : tie.Need-holds-requires
-holds-requires c κs = set-lt _ _ c.before.before.before.before.before.requires.1
+holds-requires c κs = set_lt _ _ c.before.before.before.before.before.requires.1
 
 returns-3 : tie.Need-returns-3
 returns-3 c =
@@ -44,10 +44,10 @@ returns-3 c =
     let at-board-to-play = at_next.before.before in
     let at-if1 = at-board-to-play.before in
     let start = at-if1.before in
-    let p = position-of start.args.pos in
-    blockable p (some-critical p _ _ start.requires.1 false (ne_eqb _ _ at-if1.if1.false)) _
+    let p = position_of start.args.pos in
+    blockable p (some_critical p _ _ start.requires.1 false (ne_eqb _ _ at-if1.if1.false)) _
     (sym at-board-to-play.board-to-play.ensures ∙ at_next.next.given.1)
-    (sym (set-critical p _ _ start.requires.1 start.requires.0 _) ∙ sym c.before.holds.ensures ∙ c.if2.true)
+    (sym (set_critical p _ _ start.requires.1 start.requires.0 _) ∙ sym c.before.holds.ensures ∙ c.if2.true)
 
 donebits-requires : tie.Need-donebits-requires
 donebits-requires c κs = search rules
@@ -63,12 +63,12 @@ returns-4 c =
     let at-board-to-play = at_next.before.before in
     let at-if1 = at-board-to-play.before in
     let start = at-if1.before in
-    let p = position-of start.args.pos in
+    let p = position_of start.args.pos in
     c.sends-to.ensures
-    ∙ sends-suit p _ _ start.requires.1 _ c.before.donebits.ensures _
-    ∙ all-lose p (some-critical p _ _ start.requires.1 false (ne_eqb _ _ at-if1.if1.false)) _
+    ∙ sends_suit p _ _ start.requires.1 _ c.before.donebits.ensures _
+    ∙ all_lose p (some_critical p _ _ start.requires.1 false (ne_eqb _ _ at-if1.if1.false)) _
     (sym at-board-to-play.board-to-play.ensures ∙ at_next.next.given.1)
-    (sym (set-critical p _ _ start.requires.1 start.requires.0 _) ∙ sym at-holds.holds.ensures ∙ at-if2.if2.false)
+    (sym (set_critical p _ _ start.requires.1 start.requires.0 _) ∙ sym at-holds.holds.ensures ∙ at-if2.if2.false)
 
 pub forced-loss-spec : {M : Type 1} → statement M
 forced-loss-spec =

@@ -6,15 +6,15 @@ use lib.ListN.{drop}
 use Rattle.base.specs.Bits.{bit}
 use Rattle.base.specs.Lists.{any}
 use Rattle.rules.specs.Board.{lines}
-use Rattle.endgame.specs.Parts.{lacks-one}
-use Rattle.endgame.proofs.PartsLoop.{any_found, any-missed}
+use Rattle.endgame.specs.Parts.{lacks_one}
+use Rattle.endgame.proofs.PartsLoop.{any_found, any_missed}
 use borrow.Author.Rules.{rules}
 use Rattle.endgame.proofs.has_critical.Statement.{statement}
 use Rattle.endgame.proofs.has_critical.Tie as tie
 
 abbrev invariant-loop : tie.invariant-loop
 invariant-loop player empty i₀ i =
-    (i ≤ 8) × (any (lacks-one (bit player) (bit empty)) (drop i lines) ≡ any (lacks-one (bit player) (bit empty)) lines)
+    (i ≤ 8) × (any (lacks_one (bit player) (bit empty)) (drop i lines) ≡ any (lacks_one (bit player) (bit empty)) lines)
 
 abbrev decreases-loop : tie.decreases-loop
 decreases-loop player empty i₀ i = 8 - i
@@ -43,7 +43,7 @@ loop-again c =
     let at-loop-test = c.before.before in
     let at-loop = at-loop-test.before in (
       search rules,
-      any-missed _ lines _ at-loop.loop.i at-loop-test.loop-test.true _ at-loop.loop.invariant.1
+      any_missed _ lines _ at-loop.loop.i at-loop-test.loop-test.true _ at-loop.loop.invariant.1
           (sym c.before.is-critical.ensures ∙ c.if1.false),
     )
 

@@ -2,9 +2,9 @@
 use mathlib.Core.Path.{sym, refl, ◌∙◌}
 use borrow.Author.Tests.{eq-eqb, ne_eqb, not-true, not-false}
 use Rattle.lines.proofs.Masks.{line_known}
-use Rattle.game.specs.Meaning.{position-of}
+use Rattle.game.specs.Meaning.{position_of}
 use Rattle.endgame.proofs.PartsSets.{none_in}
-use Rattle.endgame.proofs.PartsSound.{live-closed, live-full, live-line-x, live-line-o}
+use Rattle.endgame.proofs.PartsSound.{live_closed, live_full, live_line_x, live_line_o}
 use borrow.Author.Rules.{rules}
 use Rattle.endgame.proofs.is_live.Statement.{statement}
 use Rattle.endgame.proofs.is_live.Tie as tie
@@ -14,8 +14,8 @@ in-play-requires c κs = search rules
 
 returns : tie.Need-returns
 returns c =
-    live-closed (position-of c.before.before.before.before.args.pos) _
-    (sym c.before.in-play.ensures ∙ not-true _ c.if1.true)
+    live_closed (position_of c.before.before.before.before.args.pos) _
+    (sym c.before.in_play.ensures ∙ not-true _ c.if1.true)
 
 free-squares-requires : tie.Need-free-squares-requires
 free-squares-requires c κs = search rules
@@ -25,8 +25,8 @@ returns-2 c =
     let at-if1 = c.before.before in
     let at-in-play = at-if1.before in
     let start = at-in-play.before.before.before in
-    let p = position-of start.args.pos in
-    live-full p _ (sym at-in-play.in-play.ensures ∙ not-false _ at-if1.if1.false)
+    let p = position_of start.args.pos in
+    live_full p _ (sym at-in-play.in_play.ensures ∙ not-false _ at-if1.if1.false)
     (not-true _ (sym (none_in _ _ c.before.free-squares.ensures) ∙ eq-eqb _ _ c.if2.true))
 
 xbits-requires : tie.Need-xbits-requires
@@ -43,10 +43,10 @@ returns-3 c =
     let at-if1 = at-free-squares.before in
     let at-in-play = at-if1.before in
     let start = at-in-play.before.before.before in
-    let p = position-of start.args.pos in
-    live-line-x p _ (sym at-in-play.in-play.ensures ∙ not-false _ at-if1.if1.false)
+    let p = position_of start.args.pos in
+    live_line_x p _ (sym at-in-play.in_play.ensures ∙ not-false _ at-if1.if1.false)
     (not-false _ (sym (none_in _ _ at-free-squares.free-squares.ensures) ∙ ne_eqb _ _ at-if2.if2.false))
-    (line_known _ _ _ _ at-xbits.xbits.ensures c.before.has-line.ensures c.if3.true)
+    (line_known _ _ _ _ at-xbits.xbits.ensures c.before.has_line.ensures c.if3.true)
 
 obits-requires : tie.Need-obits-requires
 obits-requires c κs = search rules
@@ -64,10 +64,10 @@ returns-4 c =
     let at-if1 = at-free-squares.before in
     let at-in-play = at-if1.before in
     let start = at-in-play.before.before.before in
-    let p = position-of start.args.pos in
-    live-line-o p _ (sym at-in-play.in-play.ensures ∙ not-false _ at-if1.if1.false)
+    let p = position_of start.args.pos in
+    live_line_o p _ (sym at-in-play.in_play.ensures ∙ not-false _ at-if1.if1.false)
     (not-false _ (sym (none_in _ _ at-free-squares.free-squares.ensures) ∙ ne_eqb _ _ at-if2.if2.false))
-    (line_known _ _ _ _ at-xbits.xbits.ensures at-has-line.has-line.ensures at-if3.if3.false) _
+    (line_known _ _ _ _ at-xbits.xbits.ensures at-has-line.has_line.ensures at-if3.if3.false) _
     (line_known _ _ _ _ c.before.obits.ensures c.has-line2.ensures refl)
 
 pub is-live-spec : {M : Type 1} → statement M

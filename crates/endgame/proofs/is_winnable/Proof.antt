@@ -17,7 +17,7 @@ has-line-requires c κs = search rules
 
 returns : tie.Need-returns
 unfolding winnable
-returns c = c.has-line.ensures ∙ joined_line _ _ _ _ c.before.before.playerbits.ensures c.before.openbits.ensures
+returns c = c.has_line.ensures ∙ joined_line _ _ _ _ c.before.before.playerbits.ensures c.before.openbits.ensures
 
 pub is-winnable-spec : {M : Type 1} → statement M
 is-winnable-spec =

@@ -1,17 +1,17 @@
--- The cases of `prove-attacker`; a due board over 8 is in no set and reads as empty.
+-- The cases of `prove_attacker`; a due board over 8 is in no set and reads as empty.
 use mathlib.Core.Path.{sym, ◌∙◌}
 use mathlib.Core.Bool.{true, false}
 use borrow.Author.Tests.{eq-eqb, ne_eqb}
-use Rattle.game.specs.Meaning.{position-of}
-use Rattle.endgame.proofs.PartsSets.{set-lt}
-use Rattle.endgame.proofs.PartsAttack.{set-critical, some-critical, no-attack, attack-free, attack-here, attack-by-lure, lures}
+use Rattle.game.specs.Meaning.{position_of}
+use Rattle.endgame.proofs.PartsSets.{set_lt}
+use Rattle.endgame.proofs.PartsAttack.{set_critical, some_critical, no_attack, attack_free, attack_here, attack_by_lure, lures}
 use borrow.Author.Rules.{rules}
 use Rattle.endgame.proofs.prove_attacker.Statement.{statement}
 use Rattle.endgame.proofs.prove_attacker.Tie as tie
 
 returns : tie.Need-returns
 returns c =
-    no-attack (position-of c.before.args.pos) (some-critical (position-of c.before.args.pos) _ _ c.before.requires.1 true
+    no_attack (position_of c.before.args.pos) (some_critical (position_of c.before.args.pos) _ _ c.before.requires.1 true
     (eq-eqb _ _ c.if1.true))
 
 board-to-play-requires : tie.Need-board-to-play-requires
@@ -28,15 +28,15 @@ returns-2 c =
     let at-board-to-play = c.before.before in
     let at-if1 = at-board-to-play.before in
     let start = at-if1.before in
-    let p = position-of start.args.pos in
-    attack-free p (some-critical p _ _ start.requires.1 false (ne_eqb _ _ at-if1.if1.false))
+    let p = position_of start.args.pos in
+    attack_free p (some_critical p _ _ start.requires.1 false (ne_eqb _ _ at-if1.if1.false))
     (sym at-board-to-play.board-to-play.ensures ∙ c.enum_told.given.1)
 
 cast-board : tie.Need-overflow-cast-board
 cast-board c = search rules
 
 holds-requires : tie.Need-holds-requires
-holds-requires c κs = set-lt _ _ c.before.before.before.before.before.requires.1
+holds-requires c κs = set_lt _ _ c.before.before.before.before.before.requires.1
 
 returns-3 : tie.Need-returns-3
 returns-3 c =
@@ -44,10 +44,10 @@ returns-3 c =
     let at-board-to-play = at_next.before.before in
     let at-if1 = at-board-to-play.before in
     let start = at-if1.before in
-    let p = position-of start.args.pos in
-    attack-here p (some-critical p _ _ start.requires.1 false (ne_eqb _ _ at-if1.if1.false)) _
+    let p = position_of start.args.pos in
+    attack_here p (some_critical p _ _ start.requires.1 false (ne_eqb _ _ at-if1.if1.false)) _
     (sym at-board-to-play.board-to-play.ensures ∙ at_next.next.given.1)
-    (sym (set-critical p _ _ start.requires.1 start.requires.0 _) ∙ sym c.before.holds.ensures ∙ c.if2.true)
+    (sym (set_critical p _ _ start.requires.1 start.requires.0 _) ∙ sym c.before.holds.ensures ∙ c.if2.true)
 
 dests-of-requires : tie.Need-dests-of-requires
 dests-of-requires c κs = search rules
@@ -67,12 +67,12 @@ returns-4 c =
     let at-board-to-play = at_next.before.before in
     let at-if1 = at-board-to-play.before in
     let start = at-if1.before in
-    let p = position-of start.args.pos in
+    let p = position_of start.args.pos in
     c.any-sends-to.ensures
     ∙ lures p _ _ _ _ _ _ start.requires.1 start.requires.2 c.before.donebits.ensures at-dests-of.dests-of.ensures
-    ∙ attack-by-lure p (some-critical p _ _ start.requires.1 false (ne_eqb _ _ at-if1.if1.false)) _
+    ∙ attack_by_lure p (some_critical p _ _ start.requires.1 false (ne_eqb _ _ at-if1.if1.false)) _
     (sym at-board-to-play.board-to-play.ensures ∙ at_next.next.given.1)
-    (sym (set-critical p _ _ start.requires.1 start.requires.0 _) ∙ sym at-holds.holds.ensures ∙ at-if2.if2.false)
+    (sym (set_critical p _ _ start.requires.1 start.requires.0 _) ∙ sym at-holds.holds.ensures ∙ at-if2.if2.false)
 
 pub prove-attacker-spec : {M : Type 1} → statement M
 prove-attacker-spec =

@@ -1,7 +1,7 @@
 -- The three cases of `proven`.
 use mathlib.Core.Path.{ap, ◌∙◌}
-use Rattle.status.specs.Sets.{status-of}
-use Rattle.endgame.proofs.MeansStatuses.{proven-won, proven-lost, proven-open}
+use Rattle.status.specs.Sets.{status_of}
+use Rattle.endgame.proofs.MeansStatuses.{proven_won, proven_lost, proven_open}
 use borrow.Author.Rules.{rules}
 use Rattle.endgame.proofs.proven_of.Statement.{statement}
 use Rattle.endgame.proofs.proven_of.Tie as tie
@@ -10,7 +10,7 @@ for-player-requires : tie.Need-for-player-requires
 for-player-requires c κs = search rules
 
 returns : tie.Need-returns
-returns c = c.for-player.ensures ∙ ap status-of (proven-won _ _ _ c.before.if1.true)
+returns c = c.for_player.ensures ∙ ap status_of (proven_won _ _ _ c.before.if1.true)
 
 other-requires : tie.Need-other-requires
 other-requires c κs = search rules
@@ -20,14 +20,14 @@ for-player-requires-2 c κs = search rules
 
 returns-2 : tie.Need-returns-2
 returns-2 c =
-    rw c.before.other.ensures at c.for-player2.ensures ∙ ap status-of
-    (proven-lost _ _ _ c.before.before.before.if1.false c.before.before.if2.true)
+    rw c.before.other.ensures at c.for-player2.ensures ∙ ap status_of
+    (proven_lost _ _ _ c.before.before.before.if1.false c.before.before.if2.true)
 
 unproven-requires : tie.Need-unproven-requires
 unproven-requires c κs = search rules
 
 returns-3 : tie.Need-returns-3
-returns-3 c = c.unproven.ensures ∙ ap status-of (proven-open _ _ _ c.before.before.if1.false c.before.if2.false)
+returns-3 c = c.unproven.ensures ∙ ap status_of (proven_open _ _ _ c.before.before.if1.false c.before.if2.false)
 
 pub proven-of-spec : {M : Type 1} → statement M
 proven-of-spec =

@@ -1,6 +1,6 @@
 -- The states are of one kind, and of one side where they are won.
 use borrow.Author.Rules.{rules}
-use Rattle.game.proofs.MeaningSides.{same-won}
+use Rattle.game.proofs.MeaningSides.{same_won}
 use Rattle.game.proofs.same_state.Statement.{statement}
 use Rattle.game.proofs.same_state.Tie as tie
 
@@ -72,7 +72,7 @@ returns-8 c = search rules
 
 returns-9 : tie.Need-returns-9
 returns-9 c =
-    same-won _ _ _ _ _ _ c.before.before.before.before.before.before.a.given.1 c.before.before.before.b.given.1
+    same_won _ _ _ _ _ _ c.before.before.before.before.before.before.a.given.1 c.before.before.before.b.given.1
     c.before.as-bit.ensures c.as-bit2.ensures
 
 pub same-state-spec : {M : Type 1} → statement M

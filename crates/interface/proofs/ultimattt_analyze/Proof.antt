@@ -3,9 +3,9 @@ use mathlib.Core.Path.{sym, ap, ◌∙◌}
 use denote.Floats.{passes}
 use borrow.Author.Tests.{not-true, not-false}
 use Rattle.game.specs.declared.Game.{Game}
-use Rattle.game.specs.After.{games-after}
-use Rattle.interface.proofs.Calls.{analyzes-none, analyzes-few-settings, analyzes-no-draws, analyzes-few-answers}
-use Rattle.interface.proofs.Calls.{analyzes-no-report, analyzes-well}
+use Rattle.game.specs.After.{games_after}
+use Rattle.interface.proofs.Calls.{analyzes_none, analyzes_few_settings, analyzes_no_draws, analyzes_few_answers}
+use Rattle.interface.proofs.Calls.{analyzes_no_report, analyzes_well}
 use borrow.Author.Rules.{rules}
 use Rattle.interface.proofs.ultimattt_analyze.Statement.{statement}
 use Rattle.interface.proofs.ultimattt_analyze.Tie as tie
@@ -17,16 +17,16 @@ returns : tie.Need-returns
 returns c =
     let is = c.before in
     let s = is.before.before.before.before.before.before.before.args in
-    analyzes-none s.position.now s.moves.now s.settings.now s.responses.now s.words.now s.report.now
-    (sym is.is-position.ensures ∙ not-true _ c.if1.true)
+    analyzes_none s.position.now s.moves.now s.settings.now s.responses.now s.words.now s.report.now
+    (sym is.is_position.ensures ∙ not-true _ c.if1.true)
 
 returns-2 : tie.Need-returns-2
 returns-2 c =
     let i1 = c.before in
     let is = i1.before in
     let s = is.before.before.before.before.before.before.before.args in
-    analyzes-few-settings s.position.now s.moves.now s.settings.now s.responses.now s.words.now s.report.now
-    (sym is.is-position.ensures ∙ not-false _ i1.if1.false) c.if2.true
+    analyzes_few_settings s.position.now s.moves.now s.settings.now s.responses.now s.words.now s.report.now
+    (sym is.is_position.ensures ∙ not-false _ i1.if1.false) c.if2.true
 
 shared-slice-read-if3 : tie.Need-shared-slice-read-if3
 shared-slice-read-if3 c = search rules
@@ -37,8 +37,8 @@ returns-3 c =
     let i1 = i2.before in
     let is = i1.before in
     let s = is.before.before.before.before.before.before.before.args in
-    analyzes-no-draws s.position.now s.moves.now s.settings.now s.responses.now s.words.now s.report.now
-    (sym is.is-position.ensures ∙ not-false _ i1.if1.false) i2.if2.false c.if3.true
+    analyzes_no_draws s.position.now s.moves.now s.settings.now s.responses.now s.words.now s.report.now
+    (sym is.is_position.ensures ∙ not-false _ i1.if1.false) i2.if2.false c.if3.true
 
 returns-4 : tie.Need-returns-4
 returns-4 c =
@@ -47,8 +47,8 @@ returns-4 c =
     let i1 = i2.before in
     let is = i1.before in
     let s = is.before.before.before.before.before.before.before.args in
-    analyzes-few-answers s.position.now s.moves.now s.settings.now s.responses.now s.words.now s.report.now
-    (sym is.is-position.ensures ∙ not-false _ i1.if1.false) i2.if2.false i3.if3.false c.if4.true
+    analyzes_few_answers s.position.now s.moves.now s.settings.now s.responses.now s.words.now s.report.now
+    (sym is.is_position.ensures ∙ not-false _ i1.if1.false) i2.if2.false i3.if3.false c.if4.true
 
 returns-5 : tie.Need-returns-5
 returns-5 c =
@@ -58,13 +58,13 @@ returns-5 c =
     let i1 = i2.before in
     let is = i1.before in
     let s = is.before.before.before.before.before.before.before.args in
-    analyzes-no-report s.position.now s.moves.now s.settings.now s.responses.now s.words.now s.report.now
-    (sym is.is-position.ensures ∙ not-false _ i1.if1.false) i2.if2.false i3.if3.false i4.if4.false c.if5.true
+    analyzes_no_report s.position.now s.moves.now s.settings.now s.responses.now s.words.now s.report.now
+    (sym is.is_position.ensures ∙ not-false _ i1.if1.false) i2.if2.false i3.if3.false i4.if4.false c.if5.true
 
 game-from-requires : tie.Need-game-from-requires
 game-from-requires c κs =
     let i1 = c.before.before.before.before.before in
-    passes _ (sym i1.before.is-position.ensures ∙ not-false _ i1.if1.false)
+    passes _ (sym i1.before.is_position.ensures ∙ not-false _ i1.if1.false)
 
 play-all-requires : tie.Need-play-all-requires
 play-all-requires c κs = search rules
@@ -117,10 +117,10 @@ returns-6 c =
     let i1 = i2.before in
     let is = i1.before in
     let s = is.before.before.before.before.before.before.before.args in
-    analyzes-well s.position.now s.moves.now s.settings.now s.responses.now s.words.now s.report.now
-    (sym is.is-position.ensures ∙ not-false _ i1.if1.false) i2.if2.false i3.if3.false i4.if4.false i5.if5.false
-    play.play-all.result (play.play-all.ensures ∙ ap (λ (g : Game). games-after g s.moves.now) game.game-from.ensures)
-    config.config-from.result config.config-from.ensures memory.memory.result memory.memory.ensures
+    analyzes_well s.position.now s.moves.now s.settings.now s.responses.now s.words.now s.report.now
+    (sym is.is_position.ensures ∙ not-false _ i1.if1.false) i2.if2.false i3.if3.false i4.if4.false i5.if5.false
+    play.play-all.result (play.play-all.ensures ∙ ap (λ (g : Game). games_after g s.moves.now) game.game_from.ensures)
+    config.config_from.result config.config_from.ensures memory.memory.result memory.memory.ensures
     search.analyze.result search.analyze.new.1.1.1.0 search.analyze.ensures
     new.new.result new.new.ensures _ _ _ kept.put-memory.ensures put.put.ensures c.number.ensures
 

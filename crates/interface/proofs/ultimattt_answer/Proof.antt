@@ -1,6 +1,6 @@
 -- The held line's answer, if it fits.
 use native.Mathlib.Omega.{arith}
-use Rattle.interface.proofs.Calls.{room, taken-length, answers-written, answers-kept}
+use Rattle.interface.proofs.Calls.{room, taken_length, answers_written, answers_kept}
 use borrow.Author.Rules.{rules}
 use Rattle.interface.proofs.ultimattt_answer.Statement.{statement}
 use Rattle.interface.proofs.ultimattt_answer.Tie as tie
@@ -32,7 +32,7 @@ slice-aggregate-put-bytes c =
     let at-answer = at-written.before in
     let at_held = at-answer.before in
     let at_new = at_held.before in
-    taken-length at_new.before.before.before.args.line.now _ at_new.new.ensures _ at_held.push-all.ensures
+    taken_length at_new.before.before.before.args.line.now _ at_new.new.ensures _ at_held.push-all.ensures
     _ at-answer.answer.ensures _ at-written.written.ensures
 
 put-bytes-requires : tie.Need-put-bytes-requires
@@ -43,7 +43,7 @@ put-bytes-requires c κs =
     let at_new = at_held.before in
     omega (
       arith,
-      taken-length at_new.before.before.before.args.line.now _ at_new.new.ensures _ at_held.push-all.ensures
+      taken_length at_new.before.before.before.args.line.now _ at_new.new.ensures _ at_held.push-all.ensures
           _ at-answer.answer.ensures _ at-written.written.ensures,
       c.before.before.if1.true,
     )
@@ -58,7 +58,7 @@ returns c =
     let at_held = at-answer.before in
     let at_new = at_held.before in
     let a = at_new.before.before.before.args in
-    answers-written a.line.now _ at_new.new.ensures _ at_held.push-all.ensures _ at-answer.answer.ensures
+    answers_written a.line.now _ at_new.new.ensures _ at_held.push-all.ensures _ at-answer.answer.ensures
     _ at-written.written.ensures
     a.out.now _ c.before.before.before.before.before.if1.true c.before.before.put-bytes.ensures
 
@@ -69,7 +69,7 @@ returns-2 c =
     let at_held = at-answer.before in
     let at_new = at_held.before in
     let a = at_new.before.before.before.args in
-    answers-kept a.line.now _ at_new.new.ensures _ at_held.push-all.ensures _ at-answer.answer.ensures
+    answers_kept a.line.now _ at_new.new.ensures _ at_held.push-all.ensures _ at-answer.answer.ensures
     _ at-written.written.ensures
     a.out.now c.if1.false
 

@@ -7,7 +7,7 @@ use denote.Floats.{passes}
 use mir.Facts.{to_z-of_z}
 use borrow.Author.Tests.{not-true, not-false}
 use Rattle.theory.specs.Table.{to_word}
-use Rattle.interface.proofs.Calls.{evaluates-none, evaluates-no-draws, evaluates-few-weights, evaluates-no-score, evaluates-well}
+use Rattle.interface.proofs.Calls.{evaluates_none, evaluates_no_draws, evaluates_few_weights, evaluates_no_score, evaluates_well}
 use borrow.Author.Rules.{rules}
 use Rattle.interface.proofs.ultimattt_evaluate.Statement.{statement}
 use Rattle.interface.proofs.ultimattt_evaluate.Tie as tie
@@ -19,16 +19,16 @@ returns : tie.Need-returns
 returns c =
     let is = c.before in
     let s = is.before.before.before.before.args in
-    evaluates-none s.position.now s.draw-winner s.weights.now s.score.now
-    (sym is.is-position.ensures ∙ not-true _ c.if1.true)
+    evaluates_none s.position.now s.draw-winner s.weights.now s.score.now
+    (sym is.is_position.ensures ∙ not-true _ c.if1.true)
 
 returns-2 : tie.Need-returns-2
 returns-2 c =
     let i1 = c.before in
     let is = i1.before in
     let s = is.before.before.before.before.args in
-    evaluates-no-draws s.position.now s.draw-winner s.weights.now s.score.now
-    (sym is.is-position.ensures ∙ not-false _ i1.if1.false) c.if2.true
+    evaluates_no_draws s.position.now s.draw-winner s.weights.now s.score.now
+    (sym is.is_position.ensures ∙ not-false _ i1.if1.false) c.if2.true
 
 returns-3 : tie.Need-returns-3
 returns-3 c =
@@ -36,8 +36,8 @@ returns-3 c =
     let i1 = i2.before in
     let is = i1.before in
     let s = is.before.before.before.before.args in
-    evaluates-few-weights s.position.now s.draw-winner s.weights.now s.score.now
-    (sym is.is-position.ensures ∙ not-false _ i1.if1.false) i2.if2.false c.if3.true
+    evaluates_few_weights s.position.now s.draw-winner s.weights.now s.score.now
+    (sym is.is_position.ensures ∙ not-false _ i1.if1.false) i2.if2.false c.if3.true
 
 returns-4 : tie.Need-returns-4
 returns-4 c =
@@ -46,13 +46,13 @@ returns-4 c =
     let i1 = i2.before in
     let is = i1.before in
     let s = is.before.before.before.before.args in
-    evaluates-no-score s.position.now s.draw-winner s.weights.now s.score.now
-    (sym is.is-position.ensures ∙ not-false _ i1.if1.false) i2.if2.false i3.if3.false c.if4.true
+    evaluates_no_score s.position.now s.draw-winner s.weights.now s.score.now
+    (sym is.is_position.ensures ∙ not-false _ i1.if1.false) i2.if2.false i3.if3.false c.if4.true
 
 game-from-requires : tie.Need-game-from-requires
 game-from-requires c κs =
     let i1 = c.before.before.before in
-    passes _ (sym i1.before.is-position.ensures ∙ not-false _ i1.if1.false)
+    passes _ (sym i1.before.is_position.ensures ∙ not-false _ i1.if1.false)
 
 draws-from-requires : tie.Need-draws-from-requires
 draws-from-requires c κs = search rules
@@ -92,10 +92,10 @@ returns-5 c =
     let i1 = i2.before in
     let is = i1.before in
     let s = is.before.before.before.before.args in
-    evaluates-well s.position.now s.draw-winner s.weights.now s.score.now
-    (sym is.is-position.ensures ∙ not-false _ i1.if1.false) i2.if2.false i3.if3.false i4.if4.false
-    game.game-from.result game.game-from.ensures draws.draws-from.result draws.draws-from.ensures
-    weights.weights-from.result weights.weights-from.ensures value.evaluate.result value.evaluate.ensures
+    evaluates_well s.position.now s.draw-winner s.weights.now s.score.now
+    (sym is.is_position.ensures ∙ not-false _ i1.if1.false) i2.if2.false i3.if3.false i4.if4.false
+    game.game_from.result game.game_from.ensures draws.draws_from.result draws.draws_from.ensures
+    weights.weights_from.result weights.weights_from.ensures value.evaluate.result value.evaluate.ensures
     _ _ (put.put.ensures ∙ ap (λ (z : ℕ). sets s.score.now 0 (z ∷ [])) (word.to_word.ensures ∙ ap to_word
     (to_z-of_z {z = value.evaluate.result.value} (record { sfits = word.before.struct_told.given.1.0.1 })))) c.number.ensures
 

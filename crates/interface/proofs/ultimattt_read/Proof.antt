@@ -1,7 +1,7 @@
 -- What was read, if there is room.
 use mathlib.Core.Path.{ap, ◌∙◌}
 use lib.Seq.{sets}
-use Rattle.interface.proofs.Calls.{reads_short, reads-no-place, reads-well}
+use Rattle.interface.proofs.Calls.{reads_short, reads_no_place, reads_well}
 use borrow.Author.Rules.{rules}
 use Rattle.interface.proofs.ultimattt_read.Statement.{statement}
 use Rattle.interface.proofs.ultimattt_read.Tie as tie
@@ -14,7 +14,7 @@ returns c =
 returns-2 : tie.Need-returns-2
 returns-2 c =
     let s = c.before.before.before.before.before.args in
-    reads-no-place s.text.now s.position.now s.place.now c.before.if1.false c.if2.true
+    reads_no_place s.text.now s.position.now s.place.now c.before.if1.false c.if2.true
 
 parse-requires : tie.Need-parse-requires
 parse-requires c κs = search rules
@@ -49,7 +49,7 @@ returns-3 c =
     let i2 = parse.before in
     let i1 = i2.before in
     let s = i1.before.before.before.before.args in
-    reads-well s.text.now s.position.now s.place.now _ _ _ _ parse.parse.ensures i1.if1.false i2.if2.false
+    reads_well s.text.now s.position.now s.place.now _ _ _ _ parse.parse.ensures i1.if1.false i2.if2.false
     put.put.ensures (written.put2.ensures ∙ ap (sets s.place.now 0) place.place.ensures) c.number.ensures
 
 pub ultimattt-read-spec : {M : Type 1} → statement M

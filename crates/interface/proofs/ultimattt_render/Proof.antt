@@ -2,7 +2,7 @@
 use mathlib.Core.Path.{sym, ◌∙◌}
 use denote.Floats.{passes}
 use borrow.Author.Tests.{not-true, not-false}
-use Rattle.interface.proofs.Calls.{renders-none, renders-short, renders-well}
+use Rattle.interface.proofs.Calls.{renders_none, renders_short, renders_well}
 use borrow.Author.Rules.{rules}
 use Rattle.interface.proofs.ultimattt_render.Statement.{statement}
 use Rattle.interface.proofs.ultimattt_render.Tie as tie
@@ -12,17 +12,17 @@ is-position-requires c κs = search rules
 
 returns : tie.Need-returns
 returns c =
-    renders-none c.before.before.before.before.args.position.now c.before.before.before.before.args.out.now
-    (sym c.before.is-position.ensures ∙ not-true _ c.if1.true)
+    renders_none c.before.before.before.before.args.position.now c.before.before.before.before.args.out.now
+    (sym c.before.is_position.ensures ∙ not-true _ c.if1.true)
 
 returns-2 : tie.Need-returns-2
 returns-2 c =
-    renders-short c.before.before.before.before.before.args.position.now
-    c.before.before.before.before.before.args.out.now (sym c.before.before.is-position.ensures
+    renders_short c.before.before.before.before.before.args.position.now
+    c.before.before.before.before.before.args.out.now (sym c.before.before.is_position.ensures
     ∙ not-false _ c.before.if1.false) c.if2.true
 
 game-from-requires : tie.Need-game-from-requires
-game-from-requires c κs = passes _ (sym c.before.before.before.is-position.ensures ∙ not-false _ c.before.before.if1.false)
+game-from-requires c κs = passes _ (sym c.before.before.before.is_position.ensures ∙ not-false _ c.before.before.if1.false)
 
 render-requires : tie.Need-render-requires
 render-requires c κs = search rules
@@ -43,8 +43,8 @@ returns-3 c =
     let at-is-position = at-if1.before in
     let start = at-is-position.before.before.before in
     let s = start.args in
-    renders-well s.position.now s.out.now _ _ _ (sym at-is-position.is-position.ensures ∙ not-false _ at-if1.if1.false)
-    at-if2.if2.false c.before.before.before.before.before.game-from.ensures
+    renders_well s.position.now s.out.now _ _ _ (sym at-is-position.is_position.ensures ∙ not-false _ at-if1.if1.false)
+    at-if2.if2.false c.before.before.before.before.before.game_from.ensures
     c.before.before.before.before.render.ensures c.before.before.put-bytes.ensures
 
 pub ultimattt-render-spec : {M : Type 1} → statement M

@@ -1,7 +1,7 @@
 -- Each arm gives the key that stands at its number; past the end of the list there is none.
 use borrow.Author.Rules.{rules}
-use Rattle.rules.specs.Keys.{o-board-keys}
-use Rattle.keys.proofs.KeysPast.{rest-reads-none}
+use Rattle.rules.specs.Keys.{o_board_keys}
+use Rattle.keys.proofs.KeysPast.{rest_reads_none}
 use Rattle.keys.proofs.board_o.Statement.{statement}
 use Rattle.keys.proofs.board_o.Tie as tie
 
@@ -33,7 +33,7 @@ returns-9 : tie.Need-returns-9
 returns-9 c = search rules
 
 returns-10 : tie.Need-returns-10
-returns-10 c = rest-reads-none o-board-keys _ c.match.rest
+returns-10 c = rest_reads_none o_board_keys _ c.match.rest
 
 pub board-o-spec : {M : Type 1} → statement M
 board-o-spec =

@@ -1,5 +1,5 @@
 use borrow.Author.Rules.{rules}
-use Rattle.rules.specs.Hash.{board-key}
+use Rattle.rules.specs.Hash.{board_key}
 use Rattle.keys.proofs.for_board.Statement.{statement}
 use Rattle.keys.proofs.for_board.Tie as tie
 use Rattle.keys.proofs.for_board.Reads as reads
@@ -33,19 +33,19 @@ board-o-requires : tie.Need-board-o-requires
 board-o-requires c κs = search rules
 
 returns : tie.Need-returns
-unfolding board-key
+unfolding board_key
 returns c = search rules
 
 returns-2 : tie.Need-returns-2
-unfolding board-key
+unfolding board_key
 returns-2 c = search rules
 
 returns-3 : tie.Need-returns-3
-unfolding board-key
+unfolding board_key
 returns-3 c = search rules
 
 returns-4 : tie.Need-returns-4
-unfolding board-key
+unfolding board_key
 returns-4 c = search rules
 
 pub for-board-spec : {M : Type 1} → statement M

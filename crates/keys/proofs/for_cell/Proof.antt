@@ -3,16 +3,16 @@ use mathlib.Core.Path.{◌∙◌, sym, ap}
 use native.Mathlib.Omega.{arith}
 use borrow.Author.Rules.{rules}
 use Rattle.rules.specs.declared.CellState.{CellState}
-use Rattle.rules.specs.Hash.{cell-key}
-use Rattle.keys.proofs.KeysRange.{key-in-range, no-key-out-of-range}
+use Rattle.rules.specs.Hash.{cell_key}
+use Rattle.keys.proofs.KeysRange.{key_in_range, no_key_out_of_range}
 use Rattle.keys.proofs.for_cell.Statement.{statement}
 use Rattle.keys.proofs.for_cell.Tie as tie
 
 returns : tie.Need-returns
-returns c = no-key-out-of-range _ _ _ (λ h k. omega arith)
+returns c = no_key_out_of_range _ _ _ (λ h k. omega arith)
 
 returns-2 : tie.Need-returns-2
-returns-2 c = no-key-out-of-range _ _ _ (λ h k. omega arith)
+returns-2 c = no_key_out_of_range _ _ _ (λ h k. omega arith)
 
 enum_told : tie.Need-enum-told
 enum_told c = search rules
@@ -30,16 +30,16 @@ for-square-requires : tie.Need-for-square-requires
 for-square-requires c κs = search rules
 
 returns-3 : tie.Need-returns-3
-unfolding cell-key
-returns-3 c = search rules ∙ key-in-range _ _ _ (omega arith) (omega arith)
+unfolding cell_key
+returns-3 c = search rules ∙ key_in_range _ _ _ (omega arith) (omega arith)
 
 returns-4 : tie.Need-returns-4
-unfolding cell-key
+unfolding cell_key
 returns-4 c =
     let a = c.before.before.before.before.before.before.args in
     c.for-square.ensures
-    ∙ sym (ap (λ (s : CellState). cell-key a.board a.square s) c.before.before.cell.given.1)
-    ∙ key-in-range _ _ _ (omega arith) (omega arith)
+    ∙ sym (ap (λ (s : CellState). cell_key a.board a.square s) c.before.before.cell.given.1)
+    ∙ key_in_range _ _ _ (omega arith) (omega arith)
 
 pub for-cell-spec : {M : Type 1} → statement M
 for-cell-spec =

@@ -1,7 +1,7 @@
 -- Each arm gives the key that stands at its number; past the end of the list there is none.
 use borrow.Author.Rules.{rules}
-use Rattle.rules.specs.Keys.{o-cell-keys}
-use Rattle.keys.proofs.KeysPast.{rest-reads-none}
+use Rattle.rules.specs.Keys.{o_cell_keys}
+use Rattle.keys.proofs.KeysPast.{rest_reads_none}
 use Rattle.keys.proofs.square_o.Statement.{statement}
 use Rattle.keys.proofs.square_o.Tie as tie
 
@@ -249,7 +249,7 @@ returns-81 : tie.Need-returns-81
 returns-81 c = search rules
 
 returns-82 : tie.Need-returns-82
-returns-82 c = rest-reads-none o-cell-keys _ c.match.rest
+returns-82 c = rest_reads_none o_cell_keys _ c.match.rest
 
 pub square-o-spec : {M : Type 1} → statement M
 square-o-spec =

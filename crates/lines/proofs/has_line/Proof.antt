@@ -5,20 +5,20 @@ use native.Mathlib.Omega.{arith}
 use lib.ListN.{drop}
 use borrow.Author.Rules.{rules}
 use Rattle.base.specs.Lists.{any}
-use Rattle.rules.specs.Board.{has-line}
+use Rattle.rules.specs.Board.{has_line}
 use Rattle.lines.specs.Masks.{masks}
-use Rattle.lines.proofs.Masks.{covers, mask-line, mask-found, mask-missed}
+use Rattle.lines.proofs.Masks.{covers, mask_line, mask_found, mask_missed}
 use Rattle.lines.proofs.has_line.Statement.{statement}
 use Rattle.lines.proofs.has_line.Tie as tie
 
 abbrev invariant-loop : tie.invariant-loop
-invariant-loop bits i₀ i = (i ≤ 8) × (any (covers bits) (drop i masks) ≡ has-line (Rattle.base.specs.Bits.bit bits))
+invariant-loop bits i₀ i = (i ≤ 8) × (any (covers bits) (drop i masks) ≡ has_line (Rattle.base.specs.Bits.bit bits))
 
 abbrev decreases-loop : tie.decreases-loop
 decreases-loop bits i₀ i = 8 - i
 
 loop-holds : tie.Need-loop-init invariant-loop decreases-loop
-loop-holds c = (search rules, mask-line _)
+loop-holds c = (search rules, mask_line _)
 
 mul-m : tie.Need-overflow-mul-m invariant-loop decreases-loop
 mul-m c = search rules
@@ -28,7 +28,7 @@ array-read-m c = search rules
 
 returns : tie.Need-returns invariant-loop decreases-loop
 returns c =
-    mask-found c.before.before.before.args.bits c.before.before.loop.i _ c.before.loop-test.true
+    mask_found c.before.before.before.args.bits c.before.before.loop.i _ c.before.loop-test.true
     c.before.before.loop.invariant.1 c.if1.true
 
 add-i : tie.Need-overflow-add-i invariant-loop decreases-loop
@@ -40,7 +40,7 @@ loop-less c = search rules
 loop-again : tie.Need-loop-preserved invariant-loop decreases-loop
 loop-again c = (
   search rules,
-  mask-missed c.before.before.before.args.bits c.before.before.loop.i _ c.before.loop-test.true
+  mask_missed c.before.before.before.args.bits c.before.before.loop.i _ c.before.loop-test.true
       c.before.before.loop.invariant.1 c.if1.false,
 )
 

@@ -1,21 +1,21 @@
 -- The three marks of a cell, and no other byte.
 use mathlib.Core.Path.{sym}
 use Rattle.notation.proofs.PartsMarks.{no_cell}
-use Rattle.text.specs.Reading.{side-of, cell-mark}
+use Rattle.text.specs.Reading.{side_of, cell_mark}
 use Rattle.base.specs.Branch.{if◌then◌else◌}
 use Rattle.notation.proofs.cell_mark_of.Statement.{statement}
 use Rattle.notation.proofs.cell_mark_of.Tie as tie
 
 returns : tie.Need-returns
-unfolding cell-mark side-of if◌then◌else◌
+unfolding cell_mark side_of if◌then◌else◌
 returns c = rw c.match.keys1
 
 returns-2 : tie.Need-returns-2
-unfolding cell-mark side-of if◌then◌else◌
+unfolding cell_mark side_of if◌then◌else◌
 returns-2 c = rw c.match.keys2
 
 returns-3 : tie.Need-returns-3
-unfolding cell-mark side-of if◌then◌else◌
+unfolding cell_mark side_of if◌then◌else◌
 returns-3 c = rw c.match.keys3
 
 returns-4 : tie.Need-returns-4

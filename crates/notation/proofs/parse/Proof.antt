@@ -1,7 +1,7 @@
 -- Each way out is an answer of reading.
 use mathlib.Core.Path.{sym}
 use lib.Seq.{length-take-le}
-use Rattle.notation.proofs.ParsedAnswers.{parses-too-long, parses-one, parses-two, parses-four, parses-three}
+use Rattle.notation.proofs.ParsedAnswers.{parses_too_long, parses_one, parses_two, parses_four, parses_three}
 use borrow.Author.Rules.{rules}
 use native.Mathlib.Omega.{arith}
 use Rattle.notation.proofs.parse.Statement.{statement}
@@ -11,7 +11,7 @@ refuse-requires : tie.Need-refuse-requires
 refuse-requires c κs = search rules
 
 returns : tie.Need-returns
-returns c = parses-too-long _ _ c.before.if1.true c.refuse.ensures
+returns c = parses_too_long _ _ c.before.if1.true c.refuse.ensures
 
 find-requires : tie.Need-find-requires
 find-requires c κs = search rules
@@ -21,7 +21,7 @@ refuse-requires-2 c κs = search rules
 
 returns-2 : tie.Need-returns-2
 returns-2 c =
-    parses-one _ _ c.before.before.before.if1.false _ c.before.before.find.ensures c.before.if2.true c.refuse2.ensures
+    parses_one _ _ c.before.before.before.if1.false _ c.before.before.find.ensures c.before.if2.true c.refuse2.ensures
 
 add-overall : tie.Need-overflow-add-overall
 add-overall c = search rules
@@ -34,7 +34,7 @@ refuse-requires-3 c κs = search rules
 
 returns-3 : tie.Need-returns-3
 returns-3 c =
-    parses-two _ _ c.before.before.before.before.before.if1.false _ _ c.before.before.before.before.find.ensures
+    parses_two _ _ c.before.before.before.before.before.if1.false _ _ c.before.before.before.before.find.ensures
     (omega (arith, c.before.before.before.before.find.ensures.high, c.before.before.before.if2.false))
     c.before.before.find2.ensures c.before.if3.true c.refuse3.ensures
 
@@ -53,7 +53,7 @@ returns-4 c =
     let at-find2 = at-find3.before.before in
     let at-find = at-find2.before.before in
     let at-if1 = at-find.before in
-    parses-four _ _ at-if1.if1.false _ _ _ at-find.find.ensures at-find2.find2.ensures
+    parses_four _ _ at-if1.if1.false _ _ _ at-find.find.ensures at-find2.find2.ensures
     (omega (arith, at-find2.find2.ensures.high, at-find3.before.if3.false)) at-find3.find3.ensures
     (omega (arith, at-find3.find3.ensures.high, c.before.if4.true)) c.refuse4.ensures
 
@@ -88,7 +88,7 @@ returns-5 c =
     let at-find2 = at-if3.before in
     let at-find = at-find2.before.before in
     let at-if1 = at-find.before in
-    parses-three _ _ at-if1.if1.false _ _ _ at-find.find.ensures at-find2.find2.ensures
+    parses_three _ _ at-if1.if1.false _ _ _ at-find.find.ensures at-find2.find2.ensures
     (omega (arith, at-find2.find2.ensures.high, at-if3.if3.false)) at-find3.find3.ensures
     (omega (arith, at-find3.find3.ensures.high, c.before.before.before.before.if4.false)) c.parse-sections.ensures
 

@@ -2,14 +2,14 @@
 use mathlib.Core.Path.{refl}
 use lib.ListN.{get_or}
 use Rattle.text.proofs.MoveText.{Lettered}
-use Rattle.notation.proofs.ParsedMoves.{not-two, first-bad, first-lettered, second-bad, second-lettered, both-good}
+use Rattle.notation.proofs.ParsedMoves.{not_two, first_bad, first_lettered, second_bad, second_lettered, both_good}
 use borrow.Author.Rules.{rules}
 use native.Mathlib.Omega.{arith}
 use Rattle.notation.proofs.parse_move.Statement.{statement}
 use Rattle.notation.proofs.parse_move.Tie as tie
 
 returns : tie.Need-returns
-returns c = not-two _ c.if1.true
+returns c = not_two _ c.if1.true
 
 shared-slice-read-board : tie.Need-shared-slice-read-board
 shared-slice-read-board c = search rules
@@ -21,14 +21,14 @@ parse-coord-requires : tie.Need-parse-coord-requires
 parse-coord-requires c κs = search rules
 
 returns-2 : tie.Need-returns-2
-returns-2 c = first-bad _ c.before.before.before.before.if1.false _ c.before.parse-coord.ensures c.if2.true
+returns-2 c = first_bad _ c.before.before.before.before.if1.false _ c.before.parse-coord.ensures c.if2.true
 
 parse-coord-requires-2 : tie.Need-parse-coord-requires-2
 parse-coord-requires-2 c κs = search rules
 
 returns-3 : tie.Need-returns-3
 returns-3 c =
-    second-bad _ c.before.before.before.before.before.before.if1.false _ c.before.before.before.parse-coord.ensures
+    second_bad _ c.before.before.before.before.before.before.if1.false _ c.before.before.before.parse-coord.ensures
     c.before.before.if2.false _ c.before.parse-coord2.ensures c.if3.true
 
 letters : (c : tie.Else3) → Lettered (get_or c.before.before.before.before.before.before.before.before.args.text.now 0 0) ×
@@ -38,8 +38,8 @@ letters c =
     let at-parse-coord = at-if2.before in
     let at-if1 = at-parse-coord.before.before.before in
     let start = at-if1.before.before in (
-      first-lettered start.args.text.now at-if1.if1.false _ at-parse-coord.parse-coord.ensures at-if2.if2.false,
-      second-lettered start.args.text.now at-if1.if1.false _ at-parse-coord.parse-coord.ensures at-if2.if2.false _
+      first_lettered start.args.text.now at-if1.if1.false _ at-parse-coord.parse-coord.ensures at-if2.if2.false,
+      second_lettered start.args.text.now at-if1.if1.false _ at-parse-coord.parse-coord.ensures at-if2.if2.false _
           c.before.parse-coord2.ensures c.if3.false,
     )
 
@@ -57,7 +57,7 @@ add-t19 c = omega (arith, letters c)
 
 returns-4 : tie.Need-returns-4
 returns-4 c =
-    both-good _ c.before.before.before.before.before.before.if1.false _ c.before.before.before.parse-coord.ensures
+    both_good _ c.before.before.before.before.before.before.if1.false _ c.before.before.before.parse-coord.ensures
     c.before.before.if2.false _ c.before.parse-coord2.ensures _ c.if3.false refl
 
 pub parse-move-spec : {M : Type 1} → statement M

@@ -2,8 +2,8 @@
 use mathlib.Core.Path.{◌≡◌, sym, ap, ◌∙◌}
 use Prim.Native.Nat.{◌≤◌, ◌-◌}
 use Rattle.rules.specs.declared.NextBoard.{NextBoard}
-use Rattle.notation.specs.Parts.{mark-said, next-board-or}
-use Rattle.notation.proofs.PartsOverall.{MarksUpTo, none-marked, bad-found, one-marked, all-marked}
+use Rattle.notation.specs.Parts.{mark_said, next_board_or}
+use Rattle.notation.proofs.PartsOverall.{MarksUpTo, none_marked, bad_found, one_marked, all_marked}
 use borrow.Author.Rules.{rules}
 use native.Mathlib.Omega.{arith}
 use Rattle.notation.proofs.parse_overall.Statement.{statement}
@@ -16,7 +16,7 @@ abbrev decreases-loop : tie.decreases-loop
 decreases-loop overall states₀ next₀ i₀ states next i = 9 - i
 
 loop-holds : tie.Need-loop-init invariant-loop decreases-loop
-loop-holds c = (search rules, none-marked _)
+loop-holds c = (search rules, none_marked _)
 
 shared-slice-read-byte : tie.Need-shared-slice-read-byte invariant-loop decreases-loop
 shared-slice-read-byte c = search rules
@@ -32,9 +32,9 @@ enum_told c = search rules
 
 returns : tie.Need-returns invariant-loop decreases-loop
 returns c =
-    let l = c.before.before.before.before.before.loop in bad-found _ _ _ _
+    let l = c.before.before.before.before.before.loop in bad_found _ _ _ _
     c.before.before.before.before.before.before.before.requires l.invariant.1 c.before.before.before.before.loop-test.true
-    (sym c.before.before.mark_of.ensures ∙ ap mark-said c.enum_told.given.1)
+    (sym c.before.before.mark_of.ensures ∙ ap mark_said c.enum_told.given.1)
 
 set-requires : tie.Need-set-requires invariant-loop decreases-loop
 set-requires c κs = search rules
@@ -56,15 +56,15 @@ loop-again c =
     let q = c.before.before.before.before.before.before in
     let l = q.before.before.before.loop in (
       omega arith,
-      rw c.before.before.set.ensures (one-marked _ _ _ _ q.before.before.before.before.before.requires l.invariant.1
+      rw c.before.before.set.ensures (one_marked _ _ _ _ q.before.before.before.before.before.requires l.invariant.1
           q.before.before.loop-test.true _ (sym q.mark_of.ensures
-          ∙ ap mark-said c.before.before.before.before.state.given.1) _
-          (c.either.ensures ∙ ap (λ (d : NextBoard). next-board-or d l.next) c.before.next_of.ensures)),
+          ∙ ap mark_said c.before.before.before.before.state.given.1) _
+          (c.either.ensures ∙ ap (λ (d : NextBoard). next_board_or d l.next) c.before.next_of.ensures)),
     )
 
 returns-2 : tie.Need-returns-2 invariant-loop decreases-loop
 returns-2 c =
-    let l = c.before.loop in let e : l.i ≡ 9 = omega arith in all-marked _ _ _ c.before.before.before.requires (rw e at l.invariant.1)
+    let l = c.before.loop in let e : l.i ≡ 9 = omega arith in all_marked _ _ _ c.before.before.before.requires (rw e at l.invariant.1)
 
 pub parse-overall-spec : {M : Type 1} → statement M
 parse-overall-spec =

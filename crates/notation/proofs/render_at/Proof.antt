@@ -1,7 +1,7 @@
 -- Each way out is a place of the text.
 use mathlib.Core.Path.{◌∙◌}
-use Rattle.text.specs.Writing.{state-byte, cell-byte}
-use Rattle.notation.proofs.PartsBytes.{at_side, at_first, at_second, at-due, at-state, at-slash, at-cell}
+use Rattle.text.specs.Writing.{state_byte, cell_byte}
+use Rattle.notation.proofs.PartsBytes.{at_side, at_first, at_second, at_due, at_state, at_slash, at_cell}
 use borrow.Author.Rules.{rules}
 use Rattle.notation.proofs.render_at.Statement.{statement}
 use Rattle.notation.proofs.render_at.Tie as tie
@@ -23,7 +23,7 @@ is-next-requires c κs = search rules
 
 returns-3 : tie.Need-returns-3
 returns-3 c =
-    at-due _ _ c.before.before.before.before.if1.false c.before.before.before.if2.false _ c.before.before.if3.true
+    at_due _ _ c.before.before.before.before.if1.false c.before.before.before.if2.false _ c.before.before.if3.true
     c.before.is-next.ensures c.if4.true
 
 at-requires : tie.Need-at-requires
@@ -34,7 +34,7 @@ state-byte-requires c κs = search rules
 
 returns-4 : tie.Need-returns-4
 returns-4 c =
-    c.state-byte.ensures ∙ at-state _ _ c.before.before.before.before.before.before.if1.false
+    c.state_byte.ensures ∙ at_state _ _ c.before.before.before.before.before.before.if1.false
     c.before.before.before.before.before.if2.false _ _ c.before.before.before.before.if3.true
     c.before.before.before.is-next.ensures c.before.before.if4.false c.before.at.ensures
 
@@ -46,7 +46,7 @@ sub-k c = search rules
 
 returns-6 : tie.Need-returns-6
 returns-6 c =
-    at-slash _ _ c.before.before.before.before.if1.false c.before.before.before.if2.false c.before.before.if3.false
+    at_slash _ _ c.before.before.before.before.if1.false c.before.before.before.if2.false c.before.before.if3.false
     c.before.if5.false c.if6.true
 
 at-requires-2 : tie.Need-at-requires-2
@@ -57,7 +57,7 @@ cell-byte-requires c κs = search rules
 
 returns-7 : tie.Need-returns-7
 returns-7 c =
-    c.cell-byte.ensures ∙ at-cell _ _ c.before.before.before.before.before.before.if1.false
+    c.cell_byte.ensures ∙ at_cell _ _ c.before.before.before.before.before.before.if1.false
     c.before.before.before.before.before.if2.false c.before.before.before.before.if3.false
     c.before.before.before.if5.false _ c.before.before.if6.false c.before.at2.ensures
 

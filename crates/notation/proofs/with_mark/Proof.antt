@@ -1,6 +1,6 @@
 -- A mark that is no side changes nothing.
 use mathlib.Core.Path.{sym, ap, ◌∙◌}
-use Rattle.notation.specs.Parts.{cell-said}
+use Rattle.notation.specs.Parts.{cell_said}
 use borrow.Author.Rules.{rules}
 use Rattle.notation.proofs.with_mark.Statement.{statement}
 use Rattle.notation.proofs.with_mark.Tie as tie
@@ -15,7 +15,7 @@ enum_told : tie.Need-enum-told
 enum_told c = search rules
 
 returns : tie.Need-returns
-returns c = let e = sym c.before.before.cell-mark-of.ensures ∙ ap cell-said c.enum_told.given.1 in rw e
+returns c = let e = sym c.before.before.cell-mark-of.ensures ∙ ap cell_said c.enum_told.given.1 in rw e
 
 enum-told-2 : tie.Need-enum-told-2
 enum-told-2 c = search rules
@@ -29,12 +29,12 @@ set-requires c κs = search rules
 returns-2 : tie.Need-returns-2
 returns-2 c =
     let e = sym c.before.before.before.before.before.cell-mark-of.ensures
-    ∙ ap cell-said c.before.before.before.state.given.1 in rw (e, c.enum-told2.given.1)
+    ∙ ap cell_said c.before.before.before.state.given.1 in rw (e, c.enum-told2.given.1)
 
 returns-3 : tie.Need-returns-3
 returns-3 c =
     let e = sym c.before.before.before.before.before.before.before.cell-mark-of.ensures
-    ∙ ap cell-said c.before.before.before.before.before.state.given.1 in
+    ∙ ap cell_said c.before.before.before.before.before.state.given.1 in
     rw (e, c.before.before.state2.given.1) c.set.ensures
 
 pub with-mark-spec : {M : Type 1} → statement M

@@ -1,7 +1,7 @@
 -- 19, or what the text is answered as.
 use mathlib.Core.Path.{ap, ◌∙◌}
-use Rattle.answer_text.specs.AnswerBytes.{text-of-bytes}
-use Rattle.program_line.proofs.Answered.{no-depth-text, depth-text}
+use Rattle.answer_text.specs.AnswerBytes.{text_of_bytes}
+use Rattle.program_line.proofs.Answered.{no_depth_text, depth_text}
 use borrow.Author.Rules.{rules}
 use Rattle.program_line.proofs.answer.Statement.{statement}
 use Rattle.program_line.proofs.answer.Tie as tie
@@ -23,12 +23,12 @@ text-requires c κs = search rules
 
 returns : tie.Need-returns
 returns c =
-    c.refused.ensures ∙ ap text-of-bytes (no-depth-text _ _ _ c.before.before.before.depth.ensures
+    c.refused.ensures ∙ ap text_of_bytes (no_depth_text _ _ _ c.before.before.before.depth.ensures
     c.before.enum_told.given.1)
 
 returns-2 : tie.Need-returns-2
 returns-2 c =
-    c.text.ensures ∙ ap text-of-bytes (depth-text _ _ _ c.before.before.before.before.depth.ensures _
+    c.text.ensures ∙ ap text_of_bytes (depth_text _ _ _ c.before.before.before.before.depth.ensures _
     c.before.before.depth2.given.1)
 
 pub answer-spec : {M : Type 1} → statement M

@@ -1,9 +1,9 @@
 -- What is refused has the reading's number; what is accepted is a neat game with its fresh hash.
 use mathlib.Core.Path.{ap, ◌∙◌}
-use Rattle.text.specs.ProgramLine.{refusal-text}
+use Rattle.text.specs.ProgramLine.{refusal_text}
 use Prim.Native.Nat.{ℕ}
-use Rattle.answer_text.specs.AnswerBytes.{text-of-bytes}
-use Rattle.program_line.proofs.Answered.{text-refused, text-accepted, text-game}
+use Rattle.answer_text.specs.AnswerBytes.{text_of_bytes}
+use Rattle.program_line.proofs.Answered.{text_refused, text_accepted, text_game}
 use borrow.Author.Rules.{rules}
 use Rattle.program_line.proofs.text.Statement.{statement}
 use Rattle.program_line.proofs.text.Tie as tie
@@ -24,17 +24,17 @@ enum_told : tie.Need-enum-told
 enum_told c = search rules
 
 position-requires : tie.Need-position-requires
-position-requires c κs = text-game _ _ c.before.before.parse.ensures c.enum_told.given.1
+position-requires c κs = text_game _ _ c.before.before.parse.ensures c.enum_told.given.1
 
 returns : tie.Need-returns
 returns c =
-    c.refused.ensures ∙ ap (λ (n : ℕ). text-of-bytes (refusal-text n)) c.before.number.ensures
-    ∙ ap text-of-bytes (text-refused _ _ c.before.before.before.before.before.parse.ensures _
+    c.refused.ensures ∙ ap (λ (n : ℕ). text_of_bytes (refusal_text n)) c.before.number.ensures
+    ∙ ap text_of_bytes (text_refused _ _ c.before.before.before.before.before.parse.ensures _
     c.before.before.before.answer.given.1 _)
 
 returns-2 : tie.Need-returns-2
 returns-2 c =
-    c.position.ensures ∙ ap text-of-bytes (text-accepted _ _ c.before.before.before.parse.ensures
+    c.position.ensures ∙ ap text_of_bytes (text_accepted _ _ c.before.before.before.parse.ensures
     c.before.enum_told.given.1 _)
 
 pub text-spec : {M : Type 1} → statement M

@@ -4,7 +4,7 @@ use Prim.Native.Nat.{◌-◌}
 use lib.ListN.{length}
 use borrow.Author.Rules.{rules}
 use Rattle.input.specs.Lines.{longest}
-use Rattle.replay.proofs.TotalsCount.{fewer-left}
+use Rattle.replay.proofs.TotalsCount.{fewer_left}
 use Rattle.replay_endgame.proofs.main.Statement.{statement}
 use Rattle.replay_endgame.proofs.main.Tie as tie
 
@@ -56,7 +56,7 @@ step-requires c κs = search rules
 loop-less : tie.Need-loop-smaller invariant-loop decreases-loop
 loop-less c =
     let at-if = c.before.before.before.before.before.before.before.before.before.before.before in
-    fewer-left _ _ _ c.step.ensures (sym at-if.before.may-go-on.ensures ∙ at-if.if1.true)
+    fewer_left _ _ _ c.step.ensures (sym at-if.before.may_go_on.ensures ∙ at-if.if1.true)
 
 loop-again : tie.Need-loop-preserved invariant-loop decreases-loop
 loop-again c = search rules

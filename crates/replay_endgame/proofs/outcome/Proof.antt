@@ -5,7 +5,7 @@ use lib.Seq.{length-take-le}
 use borrow.Author.Tests.{eq-eqb, ne_eqb}
 use Rattle.decimals.specs.Lists.{list_of}
 use Rattle.decimals.proofs.ListsHeld.{none_read, some_read, read_fits}
-use Rattle.replay_endgame.proofs.Records.{not-two-differ, no-numbers-differ, two-found}
+use Rattle.replay_endgame.proofs.Records.{not_two_differ, no_numbers_differ, two_found}
 use borrow.Author.Rules.{rules}
 use Rattle.replay_endgame.proofs.outcome.Statement.{statement}
 use Rattle.replay_endgame.proofs.outcome.Tie as tie
@@ -14,7 +14,7 @@ tabs-requires : tie.Need-tabs-requires
 tabs-requires c κs = search rules
 
 returns : tie.Need-returns
-returns c = not-two-differ _ (ne_eqb _ 1 (λ q. c.if1.true (c.before.tabs.ensures ∙ q)))
+returns c = not_two_differ _ (ne_eqb _ 1 (λ q. c.if1.true (c.before.tabs.ensures ∙ q)))
 
 field-requires : tie.Need-field-requires
 field-requires c κs = search rules
@@ -35,7 +35,7 @@ returns-2 : tie.Need-returns-2
 returns-2 c =
     let at-numbers = c.before.before.before in
     let at-if = c.before.before.before.before.before.before in
-    no-numbers-differ _ (eq-eqb _ 1 (sym at-if.before.tabs.ensures ∙ at-if.if1.false))
+    no_numbers_differ _ (eq-eqb _ 1 (sym at-if.before.tabs.ensures ∙ at-if.if1.false))
     (ap (list_of 256) (sym c.before.before.before.before.before.field.ensures) ∙
     none_read _ _ _ _ at-numbers.numbers.ensures c.enum_told.given.1)
 
@@ -56,7 +56,7 @@ returns-3 : tie.Need-returns-3
 returns-3 c =
     let at-numbers = c.before.before.before.before.before.before.before in
     let at-if = c.before.before.before.before.before.before.before.before.before.before in
-    c.comparison.ensures ∙ two-found _ _ _ c.before.before.field2.ensures
+    c.comparison.ensures ∙ two_found _ _ _ c.before.before.field2.ensures
     (eq-eqb _ 1 (sym at-if.before.tabs.ensures ∙ at-if.if1.false))
     (ap (list_of 256) (sym at-numbers.before.before.field.ensures) ∙
     some_read _ _ _ _ at-numbers.numbers.ensures _ c.before.before.before.before.n.given.1)

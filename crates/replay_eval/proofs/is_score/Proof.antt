@@ -16,12 +16,12 @@ enum_told c = search rules
 
 returns : tie.Need-returns
 returns c =
-    let e = sym c.before.before.before.read-signed.ensures ∙ c.before.expected.given.1 in
+    let e = sym c.before.before.before.read_signed.ensures ∙ c.before.expected.given.1 in
     rw e (same_bits c.before.expected.given.0.0 _ (record { sfits = c.known-told.given.0.1 })
     c.before.before.before.before.before.ranges.score)
 
 returns-2 : tie.Need-returns-2
-returns-2 c = rw (sym c.before.before.read-signed.ensures ∙ c.enum_told.given.1)
+returns-2 c = rw (sym c.before.before.read_signed.ensures ∙ c.enum_told.given.1)
 
 pub is-score-spec : {M : Type 1} → statement M
 is-score-spec =

@@ -14,8 +14,8 @@ count-requires c κs = search rules
 
 returns : tie.Need-returns
 returns c =
-    let outcome-is = c.before.outcome.ensures in
-    subst (λ (o : Comparison). RecordCounted c.before.before.before.args.totals o c.count.result) outcome-is c.count.ensures
+    let outcome_is = c.before.outcome.ensures in
+    subst (λ (o : Comparison). RecordCounted c.before.before.before.args.totals o c.count.result) outcome_is c.count.ensures
 
 pub step_spec : {M : Type 1} → statement M
 step_spec = tie.close (tie.spec outcome-requires count-requires returns)

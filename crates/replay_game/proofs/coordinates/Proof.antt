@@ -2,8 +2,8 @@
 use mathlib.Core.Path.{ap, ◌∙◌}
 use mathlib.Core.List.{[], ◌∷◌}
 use Prim.Native.Nat.{ℕ, ◌%◌}
-use Rattle.replay.specs.Agreement.{new-agreement, compared-all}
-use Rattle.replay_game.proofs.Records.{in-nine, whole-record}
+use Rattle.replay.specs.Agreement.{new_agreement, compared_all}
+use Rattle.replay_game.proofs.Records.{in_nine, whole_record}
 use borrow.Author.Rules.{rules}
 use Rattle.replay_game.proofs.coordinates.Statement.{statement}
 use Rattle.replay_game.proofs.coordinates.Tie as tie
@@ -44,10 +44,10 @@ returns c =
     let ns = at_at.before.before.args.words.now in
     let b = at_at.at.result in
     let k = at-built.before.at2.result in
-    let m = at_bits.bits.ensures ∙ at-built.from-coords.ensures.built ∙ in-nine b k in
-    whole-record ns _ at-numbers.numbers.result c.before.is_whole.result _
+    let m = at_bits.bits.ensures ∙ at-built.from-coords.ensures.built ∙ in_nine b k in
+    whole_record ns _ at-numbers.numbers.result c.before.is_whole.result _
     (rw (← at_at.at.ensures, ← at-built.before.at2.ensures) (at-numbers.numbers.ensures
-    ∙ ap (λ (n : ℕ). compared-all ns new-agreement (11 ∷ b % 9 ∷ k % 9 ∷ n ∷ [])) m))
+    ∙ ap (λ (n : ℕ). compared_all ns new_agreement (11 ∷ b % 9 ∷ k % 9 ∷ n ∷ [])) m))
     c.before.is_whole.ensures c.of.ensures
 
 pub coordinates-spec : {M : Type 1} → statement M

@@ -3,10 +3,10 @@ use mathlib.Core.Bool.{cond}
 use mathlib.Core.List.{List, [], ◌∷◌, ◌++◌}
 use Prim.Native.Nat.{ℕ}
 use Rattle.rules.specs.Compare.{equivalent}
-use Rattle.game.specs.Meaning.{position-of}
-use Rattle.replay.specs.Agreement.{new-agreement}
-use Rattle.replay_game.specs.Records.{position-numbers, equivalence-record}
-use Rattle.replay_game.proofs.Records.{joined, whole-record}
+use Rattle.game.specs.Meaning.{position_of}
+use Rattle.replay.specs.Agreement.{new_agreement}
+use Rattle.replay_game.specs.Records.{position_numbers, equivalence_record}
+use Rattle.replay_game.proofs.Records.{joined, whole_record}
 use borrow.Author.Rules.{rules}
 use Rattle.replay_game.proofs.equivalence.Statement.{statement}
 use Rattle.replay_game.proofs.equivalence.Tie as tie
@@ -59,18 +59,18 @@ returns c =
     let at_first = at_second.before in
     let at-kind = at_first.before in
     let ns = at-kind.before.before.before.before.args.words.now in
-    let g = at-kind.before.before.game-in.result in
+    let g = at-kind.before.before.game_in.result in
     let h = at-kind.before.game-in2.result in
-    let p = position-of g in
-    let q = position-of h in
+    let p = position_of g in
+    let q = position_of h in
     let last : List ℕ = cond (equivalent p q) 1 0 ∷ cond (equivalent q p) 1 0 ∷ [] in
     let k = at-kind.number.result in
     let one = at_first.position.result in
     let two = at_second.position2.result in
     let r = at-numbers.numbers.result in
-    let all = joined ns new-agreement k r (3 ∷ []) (position-numbers g ++ (position-numbers h ++ last)) at-kind.number.ensures
-    (joined ns k one r (position-numbers g) (position-numbers h ++ last) at_first.position.ensures
-    (joined ns one two r (position-numbers h) last at_second.position2.ensures
+    let all = joined ns new_agreement k r (3 ∷ []) (position_numbers g ++ (position_numbers h ++ last)) at-kind.number.ensures
+    (joined ns k one r (position_numbers g) (position_numbers h ++ last) at_first.position.ensures
+    (joined ns one two r (position_numbers h) last at_second.position2.ensures
     (rw (
       at-numbers.numbers.ensures,
       at-forth.number_of.ensures,
@@ -78,8 +78,8 @@ returns c =
       at-forth.before.equivalent.ensures,
       at_back.before.equivalent2.ensures,
     )))) in
-    rw (← at-kind.before.game-in2.ensures, ← at-kind.before.before.game-in.ensures)
-    (whole-record ns (equivalence-record g h) r c.before.is_whole.result _ all c.before.is_whole.ensures c.of.ensures)
+    rw (← at-kind.before.game-in2.ensures, ← at-kind.before.before.game_in.ensures)
+    (whole_record ns (equivalence_record g h) r c.before.is_whole.result _ all c.before.is_whole.ensures c.of.ensures)
 
 pub equivalence-spec : {M : Type 1} → statement M
 equivalence-spec =

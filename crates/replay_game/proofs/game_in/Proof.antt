@@ -1,5 +1,5 @@
 -- All parts are those of the numbers.
-use Rattle.replay_game.specs.Records.{game-in}
+use Rattle.replay_game.specs.Records.{game_in}
 use borrow.Author.Rules.{rules}
 use Rattle.replay_game.proofs.game_in.Statement.{statement}
 use Rattle.replay_game.proofs.game_in.Tie as tie
@@ -68,7 +68,7 @@ pack-requires : tie.Need-pack-requires
 pack-requires c κs = search rules
 
 returns : tie.Need-returns
-unfolding game-in
+unfolding game_in
 returns c =
     let at-at5 = c.before.before in
     let at-at4 = at-at5.before.before in
@@ -77,11 +77,11 @@ returns c =
     let at-row2 = at_at.before.before in
     rw (
       c.pack.ensures,
-      c.before.state-of.ensures,
+      c.before.state_of.ensures,
       at-at5.at5.ensures,
       at-at5.before.next_of.ensures,
       at-at4.at4.ensures,
-      at-at4.before.side-from.ensures,
+      at-at4.before.side_from.ensures,
       at-at3.at3.ensures,
       at-at3.before.at2.ensures,
       at_at.at.ensures,

@@ -2,20 +2,20 @@
 use mathlib.Core.Path.{◌≡◌, refl, sym, ap, ◌∙◌}
 use native.Mathlib.Omega.{arith}
 use lib.ListN.{length}
-use Rattle.replay.specs.Agreement.{compared-all}
+use Rattle.replay.specs.Agreement.{compared_all}
 use Rattle.replay.specs.declared.agreement.Agreement.{Agreement}
-use Rattle.boards.specs.Cursor.{moves-left}
-use Rattle.boards.proofs.CursorRest.{next-left, none_left}
+use Rattle.boards.specs.Cursor.{moves_left}
+use Rattle.boards.proofs.CursorRest.{next_left, none_left}
 use borrow.Author.Rules.{rules}
 use Rattle.replay_game.proofs.listed.Statement.{statement}
 use Rattle.replay_game.proofs.listed.Tie as tie
 
 abbrev invariant-loop : tie.invariant-loop
 invariant-loop words compared₀ left₀ compared left =
-    compared-all words compared (moves-left left) ≡ compared-all words compared₀ (moves-left left₀)
+    compared_all words compared (moves_left left) ≡ compared_all words compared₀ (moves_left left₀)
 
 abbrev decreases-loop : tie.decreases-loop
-decreases-loop words compared₀ left₀ compared left = length (moves-left left)
+decreases-loop words compared₀ left₀ compared left = length (moves_left left)
 
 loop-holds : tie.Need-loop-init invariant-loop decreases-loop
 loop-holds c = refl
@@ -30,7 +30,7 @@ returns : tie.Need-returns invariant-loop decreases-loop
 returns c =
     let l = c.before.before.before.loop in
     let e = none_left l.left _ c.before.before.next.ensures c.enum_told.given.1 in
-    sym (ap (compared-all c.before.before.before.before.before.args.words.now l.compared) e) ∙ l.invariant
+    sym (ap (compared_all c.before.before.before.before.before.args.words.now l.compared) e) ∙ l.invariant
 
 enum-known-m : tie.Need-enum-known-m invariant-loop decreases-loop
 enum-known-m c = search rules
@@ -45,7 +45,7 @@ loop-less : tie.Need-loop-smaller invariant-loop decreases-loop
 loop-less c =
     let l = c.before.before.before.before.before.before.loop in
     let m = c.before.before.before.m in
-    let e = next-left l.left _ c.before.before.before.before.before.next.ensures _ _ m.given.1 in
+    let e = next_left l.left _ c.before.before.before.before.before.next.ensures _ _ m.given.1 in
     omega (arith, ap length e)
 
 loop-again : tie.Need-loop-preserved invariant-loop decreases-loop
@@ -53,9 +53,9 @@ loop-again c =
     let l = c.before.before.before.before.before.before.loop in
     let ns = c.before.before.before.before.before.before.before.before.args.words.now in
     let m = c.before.before.before.m in
-    let e = next-left l.left _ c.before.before.before.before.before.next.ensures _ _ m.given.1 in
-    ap (λ (q : Agreement). compared-all ns q (moves-left m.given.0.1.0)) c.number.ensures
-    ∙ sym (ap (compared-all ns l.compared) e) ∙ l.invariant
+    let e = next_left l.left _ c.before.before.before.before.before.next.ensures _ _ m.given.1 in
+    ap (λ (q : Agreement). compared_all ns q (moves_left m.given.0.1.0)) c.number.ensures
+    ∙ sym (ap (compared_all ns l.compared) e) ∙ l.invariant
 
 pub listed-spec : {M : Type 1} → statement M
 listed-spec =

@@ -2,10 +2,10 @@
 use mathlib.Core.List.{[], ◌∷◌, ◌++◌}
 use Rattle.base.specs.Bits.{digits}
 use Rattle.rules.specs.Board.{drawn}
-use Rattle.game.specs.Meaning.{position-of}
-use Rattle.replay.specs.Agreement.{new-agreement}
-use Rattle.replay_game.specs.Records.{position-numbers, cells-numbers, states-numbers, looked-numbers}
-use Rattle.replay_game.proofs.Records.{joined, whole-record}
+use Rattle.game.specs.Meaning.{position_of}
+use Rattle.replay.specs.Agreement.{new_agreement}
+use Rattle.replay_game.specs.Records.{position_numbers, cells_numbers, states_numbers, looked_numbers}
+use Rattle.replay_game.proofs.Records.{joined, whole_record}
 use borrow.Author.Rules.{rules}
 use Rattle.replay_game.proofs.look.Statement.{statement}
 use Rattle.replay_game.proofs.look.Tie as tie
@@ -48,22 +48,22 @@ returns c =
     let at_position = at_cells.before in
     let at-kind = at_position.before in
     let ns = at-kind.before.before.before.args.words.now in
-    let g = at-kind.before.game-in.result in
-    let p = position-of g in
+    let g = at-kind.before.game_in.result in
+    let p = position_of g in
     let last = digits (λ b. drawn (p.states b)) 9 ∷ [] in
     let k = at-kind.number.result in
     let one = at_position.position.result in
     let two = at_cells.cells.result in
     let three = at-states.states.result in
     let r = at_last.number2.result in
-    let all = joined ns new-agreement k r (10 ∷ []) (position-numbers g ++ (cells-numbers p ++ (states-numbers p ++ last)))
+    let all = joined ns new_agreement k r (10 ∷ []) (position_numbers g ++ (cells_numbers p ++ (states_numbers p ++ last)))
     at-kind.number.ensures
-    (joined ns k one r (position-numbers g) (cells-numbers p ++ (states-numbers p ++ last)) at_position.position.ensures
-    (joined ns one two r (cells-numbers p) (states-numbers p ++ last) at_cells.cells.ensures
-    (joined ns two three r (states-numbers p) last at-states.states.ensures
+    (joined ns k one r (position_numbers g) (cells_numbers p ++ (states_numbers p ++ last)) at_position.position.ensures
+    (joined ns one two r (cells_numbers p) (states_numbers p ++ last) at_cells.cells.ensures
+    (joined ns two three r (states_numbers p) last at-states.states.ensures
     (rw (at_last.number2.ensures, at_last.before.drawbits.ensures))))) in
-    rw (← at-kind.before.game-in.ensures)
-    (whole-record ns (10 ∷ looked-numbers g) r c.before.is_whole.result _ all c.before.is_whole.ensures c.of.ensures)
+    rw (← at-kind.before.game_in.ensures)
+    (whole_record ns (10 ∷ looked_numbers g) r c.before.is_whole.result _ all c.before.is_whole.ensures c.of.ensures)
 
 pub look_spec : {M : Type 1} → statement M
 look_spec =

@@ -1,6 +1,6 @@
 -- How many, and those of the cursor.
-use Rattle.game.proofs.MeaningMoves.{all-moves-listed}
-use Rattle.replay_game.specs.Records.{moves-numbers}
+use Rattle.game.proofs.MeaningMoves.{all_moves_listed}
+use Rattle.replay_game.specs.Records.{moves_numbers}
 use borrow.Author.Rules.{rules}
 use Rattle.replay_game.proofs.moves.Statement.{statement}
 use Rattle.replay_game.proofs.moves.Tie as tie
@@ -18,13 +18,13 @@ listed-requires : tie.Need-listed-requires
 listed-requires c κs = search rules
 
 returns : tie.Need-returns
-unfolding moves-numbers
+unfolding moves_numbers
 returns c =
     let at-number = c.before.before in
     rw (
       c.listed.ensures,
       c.before.all-moves.ensures,
-      all-moves-listed at-number.before.before.before.args.g,
+      all_moves_listed at-number.before.before.before.args.g,
       at-number.number.ensures,
       at-number.before.legal-moves.ensures,
     )

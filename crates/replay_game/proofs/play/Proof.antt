@@ -4,10 +4,10 @@ use mathlib.Core.Bool.{not}
 use Prim.Native.Nat.{ℕ, ◌%◌}
 use Rattle.rules.specs.Position.{unfinished}
 use Rattle.game.specs.declared.Game.{Game}
-use Rattle.game.specs.Meaning.{position-of}
-use Rattle.replay.specs.Agreement.{wholly-agrees}
+use Rattle.game.specs.Meaning.{position_of}
+use Rattle.replay.specs.Agreement.{wholly_agrees}
 use Rattle.replay.specs.Totals.{comparison}
-use Rattle.replay_game.proofs.Records.{play-joined, play-end}
+use Rattle.replay_game.proofs.Records.{play_joined, play_end}
 use borrow.Author.Rules.{rules}
 use Rattle.replay_game.proofs.play.Statement.{statement}
 use Rattle.replay_game.proofs.play.Tie as tie
@@ -59,12 +59,12 @@ returns c =
     let count = ap (λ (n : ℕ). n % 512) at_at.at.ensures in
     let run = at-run.run-moves.result in
     let asked = at-run.before.asked in
-    let all = play-joined ns a.begun at-number.number.result asked.result at-reached.reached.result
+    let all = play_joined ns a.begun at-number.number.result asked.result at-reached.reached.result
     at-whole.before.moves.result run a.start a.i k count at-number.number.ensures asked.ensures
     at-run.run-moves.ensures at-reached.reached.ensures at-whole.before.moves.ensures in
-    let end = play-end ns asked.result run a.start a.i k count at-run.run-moves.ensures in
-    c.of.ensures ∙ ap₂ comparison (at-whole.is_whole.ensures ∙ ap (wholly-agrees ns) all)
-    (c.before.game-over.ensures ∙ ap (λ (g : Game). not (unfinished (position-of g))) end)
+    let end = play_end ns asked.result run a.start a.i k count at-run.run-moves.ensures in
+    c.of.ensures ∙ ap₂ comparison (at-whole.is_whole.ensures ∙ ap (wholly_agrees ns) all)
+    (c.before.game-over.ensures ∙ ap (λ (g : Game). not (unfinished (position_of g))) end)
 
 pub play-spec : {M : Type 1} → statement M
 play-spec =

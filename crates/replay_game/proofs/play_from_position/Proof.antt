@@ -2,9 +2,9 @@
 use mathlib.Core.Path.{ap, ◌∙◌}
 use mathlib.Core.List.{◌∷◌}
 use Rattle.replay.specs.declared.agreement.Agreement.{Agreement}
-use Rattle.replay.specs.Agreement.{compared-all}
-use Rattle.replay_game.specs.Records.{game-in, position-numbers}
-use Rattle.replay_game.proofs.Records.{whole-play}
+use Rattle.replay.specs.Agreement.{compared_all}
+use Rattle.replay_game.specs.Records.{game_in, position_numbers}
+use Rattle.replay_game.proofs.Records.{whole_play}
 use borrow.Author.Rules.{rules}
 use Rattle.replay_game.proofs.play_from_position.Statement.{statement}
 use Rattle.replay_game.proofs.play_from_position.Tie as tie
@@ -25,10 +25,10 @@ returns : tie.Need-returns
 returns c =
     let at-number = c.before.before in
     let ns = at-number.before.before.before.args.words.now in
-    let start = at-number.before.game-in in
-    whole-play ns (2 ∷ position-numbers (game-in ns 1)) c.before.position.result (game-in ns 1) start.result 12 _
+    let start = at-number.before.game_in in
+    whole_play ns (2 ∷ position_numbers (game_in ns 1)) c.before.position.result (game_in ns 1) start.result 12 _
     (rw (← start.ensures) (c.before.position.ensures
-    ∙ ap (λ (q : Agreement). compared-all ns q (position-numbers start.result)) at-number.number.ensures))
+    ∙ ap (λ (q : Agreement). compared_all ns q (position_numbers start.result)) at-number.number.ensures))
     start.ensures c.play.ensures
 
 pub play-from-position-spec : {M : Type 1} → statement M

@@ -1,5 +1,5 @@
 -- The three parts, one after the other.
-use Rattle.replay_game.specs.Records.{position-numbers}
+use Rattle.replay_game.specs.Records.{position_numbers}
 use borrow.Author.Rules.{rules}
 use Rattle.replay_game.proofs.position.Statement.{statement}
 use Rattle.replay_game.proofs.position.Tie as tie
@@ -41,7 +41,7 @@ numbers-requires-3 : tie.Need-numbers-requires-3
 numbers-requires-3 c κs = search rules
 
 returns : tie.Need-returns
-unfolding position-numbers
+unfolding position_numbers
 returns c =
     let at-numbers2 = c.before.before in
     let at-numbers = at-numbers2.before.before in
@@ -54,8 +54,8 @@ returns c =
       at-numbers2.numbers2.ensures,
       at-numbers.numbers.ensures,
       at-number.number.ensures,
-      at-boards.boards-numbers.ensures,
-      at_next.next-number.ensures,
+      at-boards.boards_numbers.ensures,
+      at_next.next_number.ensures,
       at-bit.as-bit.ensures,
     )
 

@@ -1,5 +1,5 @@
 -- The parts, one after the other.
-use Rattle.replay_game.specs.Records.{reached-numbers}
+use Rattle.replay_game.specs.Records.{reached_numbers}
 use borrow.Author.Rules.{rules}
 use Rattle.replay_game.proofs.reached.Statement.{statement}
 use Rattle.replay_game.proofs.reached.Tie as tie
@@ -71,7 +71,7 @@ numbers-requires-4 : tie.Need-numbers-requires-4
 numbers-requires-4 c κs = search rules
 
 returns : tie.Need-returns
-unfolding reached-numbers
+unfolding reached_numbers
 returns c =
     let at-numbers3 = c.before.before in
     let at-numbers2 = at-numbers3.before.before in
@@ -90,9 +90,9 @@ returns c =
       at-numbers.numbers.ensures,
       at-number-of.number_of.ensures,
       at-number-of.before.game-over.ensures,
-      at_open.open-boards.ensures,
-      at_open.before.bound-depth.ensures,
-      at_next.next-number.ensures,
+      at_open.open_boards.ensures,
+      at_open.before.bound_depth.ensures,
+      at_next.next_number.ensures,
       at_next.before.board-to-play.ensures,
       at-bit.as-bit.ensures,
       at-bit.before.player.ensures,
@@ -100,7 +100,7 @@ returns c =
       at-number.before.game-state.ensures,
       at-zobrist.zobrist.ensures,
       at-zobrist.before.fresh-hash.ensures,
-      at-boards.boards-numbers.ensures,
+      at-boards.boards_numbers.ensures,
     )
 
 pub reached-spec : {M : Type 1} → statement M

@@ -6,7 +6,7 @@ use native.Mathlib.Omega.{arith}
 use lib.ListN.{get_or}
 use Rattle.replay_game.specs.declared.Run.{Run}
 use Rattle.replay_game.specs.Records.{moves_from, Runs}
-use Rattle.replay_game.proofs.Records.{first-place, none-run, more-run}
+use Rattle.replay_game.proofs.Records.{first_place, none_run, more_run}
 use borrow.Author.Rules.{rules}
 use Rattle.replay_game.proofs.run_moves.Statement.{statement}
 use Rattle.replay_game.proofs.run_moves.Tie as tie
@@ -45,8 +45,8 @@ loop-again c =
     c.tried.ensures in (
       omega arith,
       λ q h. l.invariant.1 q (subst (λ (ms : List ℕ). Runs ns l.run.compared l.run.game ms q)
-          (sym (first-place (λ (j : ℕ). get_or ns j 0 % 256) l.at l.left (l.left - 1) (omega arith)))
-          (more-run ns _ _ _ _ _ q one h)),
+          (sym (first_place (λ (j : ℕ). get_or ns j 0 % 256) l.at l.left (l.left - 1) (omega arith)))
+          (more_run ns _ _ _ _ _ q one h)),
     )
 
 returns : tie.Need-returns invariant-loop decreases-loop
@@ -55,7 +55,7 @@ returns c =
     let ns = c.before.before.before.args.words.now in
     let none : 0 ≡ l.left = omega arith in
     l.invariant.1 l.run (subst (λ (k : ℕ). Runs ns l.run.compared l.run.game (moves_from ns l.at k) l.run)
-    none (none-run ns l.run))
+    none (none_run ns l.run))
 
 pub run-moves-spec : {M : Type 1} → statement M
 run-moves-spec =

@@ -1,5 +1,5 @@
 -- One move: its answer, and the game after it.
-use Rattle.game.specs.After.{games-after, answers-each}
+use Rattle.game.specs.After.{games_after, answers_each}
 use borrow.Author.Rules.{rules}
 use Rattle.replay_game.proofs.tried.Statement.{statement}
 use Rattle.replay_game.proofs.tried.Tie as tie
@@ -17,10 +17,10 @@ number-requires-2 : tie.Need-number-requires-2
 number-requires-2 c κs = search rules
 
 returns : tie.Need-returns
-unfolding answers-each games-after
+unfolding answers_each games_after
 returns c =
     let made = c.before.before.before.make-move.ensures in
-    record { game-is = made.exact; compared_is = rw (c.number2.ensures, c.before.number.ensures, made.number) }
+    record { game_is = made.exact; compared_is = rw (c.number2.ensures, c.before.number.ensures, made.number) }
 
 pub tried-spec : {M : Type 1} → statement M
 tried-spec =

@@ -1,7 +1,7 @@
 -- The numbers are those of the game, in their order.
 use mathlib.Core.Path.{ap, ◌∙◌}
-use Rattle.rules.specs.Board.{state-number}
-use Rattle.replay_notation.proofs.RecordsCompared.{game-compared}
+use Rattle.rules.specs.Board.{state_number}
+use Rattle.replay_notation.proofs.RecordsCompared.{game_compared}
 use borrow.Author.Rules.{rules}
 use Rattle.replay_notation.proofs.add_game.Statement.{statement}
 use Rattle.replay_notation.proofs.add_game.Tie as tie
@@ -52,8 +52,8 @@ returns c =
     let at-render = at-bytes.before.before in
     let start = at-render.before.before in
     let a = start.args in
-    game-compared a.words.now a.g _ _ _ _ at-render.render.ensures at-zobrist.zobrist.ensures
-    (at-number3.number3.ensures ∙ ap state-number at-game-state.game-state.ensures) at-bound-depth.bound-depth.ensures
+    game_compared a.words.now a.g _ _ _ _ at-render.render.ensures at-zobrist.zobrist.ensures
+    (at-number3.number3.ensures ∙ ap state_number at-game-state.game-state.ensures) at-bound-depth.bound_depth.ensures
     a.begun _ _ _ _ _ at-bytes.bytes.ensures at-number.number.ensures at-number2.number2.ensures
     at-number4.number4.ensures c.number5.ensures
 

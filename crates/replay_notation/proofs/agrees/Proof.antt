@@ -1,7 +1,7 @@
 -- By the kind.
 use mathlib.Core.Path.{sym}
 use lib.Seq.{length-take-le}
-use Rattle.replay_notation.proofs.RecordsKinds.{bytes-are, kind-6, kind-7, kind-8, kind-9, kind-12, kind-of-text}
+use Rattle.replay_notation.proofs.RecordsKinds.{bytes_are, kind_6, kind_7, kind_8, kind_9, kind_12, kind_of_text}
 use borrow.Author.Rules.{rules}
 use Rattle.replay_notation.proofs.agrees.Statement.{statement}
 use Rattle.replay_notation.proofs.agrees.Tie as tie
@@ -70,8 +70,8 @@ returns c =
     let at-bytes-from-2 = at_at.before in
     let at-count-in = at-bytes-from-2.before in
     let start = at-count-in.before.before in
-    kind-6 start.args.words.now _ at_at.at.ensures _ _ at-match.match.keys1
-    (bytes-are _ _ _ at-count-in.count-in.ensures.0 at-bytes-from-2.bytes-from-2.ensures) c.same_move.ensures
+    kind_6 start.args.words.now _ at_at.at.ensures _ _ at-match.match.keys1
+    (bytes_are _ _ _ at-count-in.count_in.ensures.0 at-bytes-from-2.bytes_from_2.ensures) c.same_move.ensures
 
 returns-2 : tie.Need-returns-2
 returns-2 c =
@@ -79,7 +79,7 @@ returns-2 c =
     let at-match = at-byte-in.before in
     let at_at = at-match.before in
     let start = at_at.before.before.before.before in
-    kind-7 start.args.words.now _ at_at.at.ensures _ _ at-match.match.keys2 at-byte-in.byte-in.ensures
+    kind_7 start.args.words.now _ at_at.at.ensures _ _ at-match.match.keys2 at-byte-in.byte_in.ensures
     c.same_byte.ensures
 
 returns-3 : tie.Need-returns-3
@@ -89,7 +89,7 @@ returns-3 c =
     let at-match = at-byte-in2.before in
     let at_at = at-match.before in
     let start = at_at.before.before.before.before in
-    kind-8 start.args.words.now _ at_at.at.ensures _ _ _ at-match.match.keys3 at-byte-in2.byte-in2.ensures
+    kind_8 start.args.words.now _ at_at.at.ensures _ _ _ at-match.match.keys3 at-byte-in2.byte-in2.ensures
     at-byte-in3.byte-in3.ensures c.same-merge.ensures
 
 returns-4 : tie.Need-returns-4
@@ -99,8 +99,8 @@ returns-4 c =
     let at-bytes-from-2 = at_at.before in
     let at-count-in = at-bytes-from-2.before in
     let start = at-count-in.before.before in
-    kind-9 start.args.words.now _ at_at.at.ensures _ _ at-match.match.keys4
-    (bytes-are _ _ _ at-count-in.count-in.ensures.0 at-bytes-from-2.bytes-from-2.ensures) c.same-play.ensures
+    kind_9 start.args.words.now _ at_at.at.ensures _ _ at-match.match.keys4
+    (bytes_are _ _ _ at-count-in.count_in.ensures.0 at-bytes-from-2.bytes_from_2.ensures) c.same_play.ensures
 
 returns-5 : tie.Need-returns-5
 returns-5 c =
@@ -108,8 +108,8 @@ returns-5 c =
     let at-match = at-byte-in4.before in
     let at_at = at-match.before in
     let start = at_at.before.before.before.before in
-    kind-12 start.args.words.now _ at_at.at.ensures _ _ at-match.match.keys5 at-byte-in4.byte-in4.ensures
-    c.same-won.ensures
+    kind_12 start.args.words.now _ at_at.at.ensures _ _ at-match.match.keys5 at-byte-in4.byte-in4.ensures
+    c.same_won.ensures
 
 returns-6 : tie.Need-returns-6
 returns-6 c =
@@ -119,8 +119,8 @@ returns-6 c =
     let at-count-in = at-bytes-from-2.before in
     let start = at-count-in.before.before in
     let n = at-match.match.rest in
-    kind-of-text start.args.words.now _ at_at.at.ensures _ _ n.0.0.0.0.1 n.0.0.0.1 n.0.0.1 n.0.1 n.1
-    (bytes-are _ _ _ at-count-in.count-in.ensures.0 at-bytes-from-2.bytes-from-2.ensures) c.same-reading.ensures
+    kind_of_text start.args.words.now _ at_at.at.ensures _ _ n.0.0.0.0.1 n.0.0.0.1 n.0.0.1 n.0.1 n.1
+    (bytes_are _ _ _ at-count-in.count_in.ensures.0 at-bytes-from-2.bytes_from_2.ensures) c.same-reading.ensures
 
 pub agrees-spec : {M : Type 1} → statement M
 agrees-spec =

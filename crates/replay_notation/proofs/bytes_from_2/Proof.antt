@@ -3,7 +3,7 @@ use mathlib.Core.Path.{◌≡◌, refl}
 use Prim.Native.Nat.{◌≤◌, ◌-◌}
 use borrow.Author.Rules.{rules}
 use native.Mathlib.Omega.{arith}
-use Rattle.replay_notation.proofs.RecordsBytes.{BytesUpTo, no_bytes, one-byte-more, all-bytes}
+use Rattle.replay_notation.proofs.RecordsBytes.{BytesUpTo, no_bytes, one_byte_more, all_bytes}
 use Rattle.replay_notation.proofs.bytes_from_2.Statement.{statement}
 use Rattle.replay_notation.proofs.bytes_from_2.Tie as tie
 
@@ -32,10 +32,10 @@ loop-less : tie.Need-loop-smaller invariant-loop decreases-loop
 loop-less c = search rules
 
 loop-again : tie.Need-loop-preserved invariant-loop decreases-loop
-loop-again c = (omega arith, one-byte-more _ _ _ _ c.before.loop-test.true c.before.before.loop.invariant.1 c.byte-in.ensures)
+loop-again c = (omega arith, one_byte_more _ _ _ _ c.before.loop-test.true c.before.before.loop.invariant.1 c.byte_in.ensures)
 
 returns : tie.Need-returns invariant-loop decreases-loop
-returns c = let l = c.before.loop in let e : l.k ≡ 512 = omega arith in all-bytes _ _ (rw e at l.invariant.1)
+returns c = let l = c.before.loop in let e : l.k ≡ 512 = omega arith in all_bytes _ _ (rw e at l.invariant.1)
 
 pub bytes-from-2-spec : {M : Type 1} → statement M
 bytes-from-2-spec =

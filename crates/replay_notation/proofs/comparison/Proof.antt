@@ -15,7 +15,7 @@ of-requires : tie.Need-of-requires
 of-requires c κs = search rules
 
 returns : tie.Need-returns
-returns c = c.of.ensures ∙ ap₂ comparison c.before.before.agrees.ensures c.before.is-apart.ensures
+returns c = c.of.ensures ∙ ap₂ comparison c.before.before.agrees.ensures c.before.is_apart.ensures
 
 pub comparison-spec : {M : Type 1} → statement M
 comparison-spec = tie.close (tie.spec agrees-requires is-apart-requires of-requires returns)

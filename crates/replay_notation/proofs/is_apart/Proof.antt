@@ -2,7 +2,7 @@
 use mathlib.Core.Path.{sym}
 use lib.Seq.{length-take-le}
 use mathlib.Core.Bool.{false}
-use Rattle.replay_notation.proofs.RecordsKinds.{bytes-are, other-kind-not-apart, text-apart}
+use Rattle.replay_notation.proofs.RecordsKinds.{bytes_are, other_kind_not_apart, text_apart}
 use borrow.Author.Rules.{rules}
 use Rattle.replay_notation.proofs.is_apart.Statement.{statement}
 use Rattle.replay_notation.proofs.is_apart.Tie as tie
@@ -14,7 +14,7 @@ returns : tie.Need-returns
 returns c =
     let at_at = c.before in
     let start = at_at.before.before in
-    other-kind-not-apart start.args.words.now _ at_at.at.ensures false c.if1.true
+    other_kind_not_apart start.args.words.now _ at_at.at.ensures false c.if1.true
 
 count-in-requires : tie.Need-count-in-requires
 count-in-requires c κs = search rules
@@ -38,8 +38,8 @@ returns-2 c =
     let at-if1 = at-count-in.before in
     let at_at = at-if1.before in
     let start = at_at.before.before in
-    text-apart start.args.words.now _ at_at.at.ensures _ _ at-if1.if1.false
-    (bytes-are _ _ _ at-count-in.count-in.ensures.0 at-bytes-from-2.bytes-from-2.ensures) c.is-text-apart.ensures
+    text_apart start.args.words.now _ at_at.at.ensures _ _ at-if1.if1.false
+    (bytes_are _ _ _ at-count-in.count_in.ensures.0 at-bytes-from-2.bytes_from_2.ensures) c.is-text-apart.ensures
 
 pub is-apart-spec : {M : Type 1} → statement M
 is-apart-spec =

@@ -1,5 +1,5 @@
 -- By the answer, which is that of the definition.
-use Rattle.replay_notation.proofs.RecordsReading.{accepted-not-apart, long_apart, mark-apart, other-not-apart}
+use Rattle.replay_notation.proofs.RecordsReading.{accepted_not_apart, long_apart, mark_apart, other_not_apart}
 use borrow.Author.Rules.{rules}
 use Rattle.replay_notation.proofs.is_text_apart.Statement.{statement}
 use Rattle.replay_notation.proofs.is_text_apart.Tie as tie
@@ -23,7 +23,7 @@ returns : tie.Need-returns
 returns c =
     let at-parse = c.before.before in
     let start = at-parse.before.before in
-    accepted-not-apart start.args.text.now _ at-parse.parse.ensures c.enum_told.given.1
+    accepted_not_apart start.args.text.now _ at-parse.parse.ensures c.enum_told.given.1
 
 returns-2 : tie.Need-returns-2
 returns-2 c =
@@ -41,7 +41,7 @@ returns-3 c =
     let at-answer = at-number.before.before in
     let at-parse = at-answer.before.before in
     let start = at-parse.before.before in
-    mark-apart start.args.text.now _ at-parse.parse.ensures _ at-answer.answer.given.1 _ at-number.number.ensures
+    mark_apart start.args.text.now _ at-parse.parse.ensures _ at-answer.answer.given.1 _ at-number.number.ensures
     at-match2.match2.keys2 _ c.is_IsWide.ensures
 
 returns-4 : tie.Need-returns-4
@@ -50,7 +50,7 @@ returns-4 c =
     let at-answer = at-number.before.before in
     let at-parse = at-answer.before.before in
     let start = at-parse.before.before in
-    other-not-apart start.args.text.now _ at-parse.parse.ensures _ at-answer.answer.given.1 _ at-number.number.ensures
+    other_not_apart start.args.text.now _ at-parse.parse.ensures _ at-answer.answer.given.1 _ at-number.number.ensures
     c.match2.rest.0.1 c.match2.rest.1
 
 pub is-text-apart-spec : {M : Type 1} → statement M

@@ -4,7 +4,7 @@ use native.Mathlib.Omega.{arith}
 use lib.Seq.{length-take-le}
 use borrow.Author.Rules.{rules}
 use Rattle.decimals.proofs.ListsHeld.{none_read, some_read, read_fits}
-use Rattle.replay_notation.specs.Records.{comparison-for}
+use Rattle.replay_notation.specs.Records.{comparison_for}
 use Rattle.replay_notation.proofs.outcome.Statement.{statement}
 use Rattle.replay_notation.proofs.outcome.Tie as tie
 
@@ -24,7 +24,7 @@ returns : tie.Need-returns
 returns c =
     let at-numbers = c.before.before.before in
     let start = at-numbers.before.before.before in
-    sym (ap comparison-for (none_read start.args.line.now _ _ _ at-numbers.numbers.ensures c.enum_told.given.1))
+    sym (ap comparison_for (none_read start.args.line.now _ _ _ at-numbers.numbers.ensures c.enum_told.given.1))
 
 array-share-prefix-words : tie.Need-array-share-prefix-words
 array-share-prefix-words c =
@@ -45,7 +45,7 @@ returns-2 c =
     let at-numbers = at_n.before.before.before in
     let start = at-numbers.before.before.before in
     c.comparison.ensures ∙ sym
-    (ap comparison-for (some_read start.args.line.now _ _ _ at-numbers.numbers.ensures _ at_n.n.given.1))
+    (ap comparison_for (some_read start.args.line.now _ _ _ at-numbers.numbers.ensures _ at_n.n.given.1))
 
 pub outcome-spec : {M : Type 1} → statement M
 outcome-spec =

@@ -1,5 +1,5 @@
 -- The kind, the length and the bytes, in this order.
-use Rattle.replay_notation.proofs.RecordsCompared.{question-compared}
+use Rattle.replay_notation.proofs.RecordsCompared.{question_compared}
 use borrow.Author.Rules.{rules}
 use Rattle.replay_notation.proofs.question.Statement.{statement}
 use Rattle.replay_notation.proofs.question.Tie as tie
@@ -19,7 +19,7 @@ returns c =
     let at-number = at-number2.before in
     let start = at-number.before.before.before in
     let a = start.args in
-    question-compared a.words.now a.kind a.bytes.now _ _ _ at-number.number.ensures at-number2.number2.ensures
+    question_compared a.words.now a.kind a.bytes.now _ _ _ at-number.number.ensures at-number2.number2.ensures
     c.bytes.ensures
 
 pub question-spec : {M : Type 1} → statement M

@@ -1,5 +1,5 @@
 -- The game that is read is that of the text, which is that of the game.
-use Rattle.replay_notation.proofs.RecordsReading.{same-hash-reads-back, other-hash-no-reads-back}
+use Rattle.replay_notation.proofs.RecordsReading.{same_hash_reads_back, other_hash_no_reads_back}
 use borrow.Author.Rules.{rules}
 use Rattle.replay_notation.proofs.reads_back.Statement.{statement}
 use Rattle.replay_notation.proofs.reads_back.Tie as tie
@@ -22,7 +22,7 @@ returns c =
     let at-parse = at-if1.before.before.before.before in
     let at-render = at-parse.before.before in
     let start = at-render.before in
-    same-hash-reads-back start.args.g _ _ at-render.render.ensures at-parse.parse.ensures at-if1.if1.true _
+    same_hash_reads_back start.args.g _ _ at-render.render.ensures at-parse.parse.ensures at-if1.if1.true _
     c.equivalent.ensures
 
 returns-2 : tie.Need-returns-2
@@ -30,7 +30,7 @@ returns-2 c =
     let at-parse = c.before.before.before.before in
     let at-render = at-parse.before.before in
     let start = at-render.before in
-    other-hash-no-reads-back start.args.g _ _ at-render.render.ensures at-parse.parse.ensures c.if1.false
+    other_hash_no_reads_back start.args.g _ _ at-render.render.ensures at-parse.parse.ensures c.if1.false
 
 pub reads-back-spec : {M : Type 1} → statement M
 reads-back-spec =

@@ -1,7 +1,7 @@
 -- The numbers are those of the record, in their order.
 use mathlib.Core.Path.{ap, ◌∙◌}
-use Rattle.replay_notation.specs.Records.{set-number, byte-record}
-use Rattle.replay_notation.proofs.RecordsCompared.{whole-record}
+use Rattle.replay_notation.specs.Records.{set_number, byte_record}
+use Rattle.replay_notation.proofs.RecordsCompared.{whole_record}
 use borrow.Author.Rules.{rules}
 use Rattle.replay_notation.proofs.same_byte.Statement.{statement}
 use Rattle.replay_notation.proofs.same_byte.Tie as tie
@@ -34,8 +34,8 @@ returns c =
     let at-from-byte = at-set-byte.before in
     let start = at-from-byte.before.before in
     let a = start.args in
-    let s = at-set-byte.set-byte.ensures ∙ ap set-number at-from-byte.from_byte.ensures in
-    whole-record a.words.now (byte-record a.byte) at-number3.number3.result c.is_whole.result (cc) c.is_whole.ensures
+    let s = at-set-byte.set-byte.ensures ∙ ap set_number at-from-byte.from_byte.ensures in
+    whole_record a.words.now (byte_record a.byte) at-number3.number3.result c.is_whole.result (cc) c.is_whole.ensures
 
 pub same-byte-spec : {M : Type 1} → statement M
 same-byte-spec =

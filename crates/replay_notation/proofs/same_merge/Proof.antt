@@ -1,7 +1,7 @@
 -- The numbers are those of the record, in their order.
 use mathlib.Core.Path.{ap, ◌∙◌}
-use Rattle.replay_notation.specs.Records.{set-number, merge-record}
-use Rattle.replay_notation.proofs.RecordsCompared.{whole-record}
+use Rattle.replay_notation.specs.Records.{set_number, merge_record}
+use Rattle.replay_notation.proofs.RecordsCompared.{whole_record}
 use borrow.Author.Rules.{rules}
 use Rattle.replay_notation.proofs.same_merge.Statement.{statement}
 use Rattle.replay_notation.proofs.same_merge.Tie as tie
@@ -37,8 +37,8 @@ returns c =
     let at-merge = at-set-byte.before in
     let start = at-merge.before.before in
     let a = start.args in
-    let s = at-set-byte.set-byte.ensures ∙ ap set-number at-merge.merge.ensures in
-    whole-record a.words.now (merge-record a.a a.b) at-number4.number4.result c.is_whole.result (cc)
+    let s = at-set-byte.set-byte.ensures ∙ ap set_number at-merge.merge.ensures in
+    whole_record a.words.now (merge_record a.a a.b) at-number4.number4.result c.is_whole.result (cc)
     c.is_whole.ensures
 
 pub same-merge-spec : {M : Type 1} → statement M

@@ -1,5 +1,5 @@
 -- The answer is that of the definition.
-use Rattle.replay_notation.proofs.RecordsCompared.{move-compared}
+use Rattle.replay_notation.proofs.RecordsCompared.{move_compared}
 use borrow.Author.Rules.{rules}
 use Rattle.replay_notation.proofs.same_move.Statement.{statement}
 use Rattle.replay_notation.proofs.same_move.Tie as tie
@@ -45,8 +45,8 @@ returns c =
     let at-parse-move = at-question.before.before in
     let start = at-parse-move.before.before.before in
     let a = start.args in
-    move-compared a.words.now a.text.now _ at-parse-move.parse-move.ensures _ _ at-number.number.ensures
-    at-named-byte.named-byte.ensures _ _ _ _ _ at-question.question.ensures at-number2.number2.ensures
+    move_compared a.words.now a.text.now _ at-parse-move.parse-move.ensures _ _ at-number.number.ensures
+    at-named-byte.named_byte.ensures _ _ _ _ _ at-question.question.ensures at-number2.number2.ensures
     at-number3.number3.ensures at-number4.number4.ensures c.is_whole.ensures
 
 pub same-move-spec : {M : Type 1} → statement M

@@ -1,7 +1,7 @@
 -- A game that is played from the empty board reads back, and its text is that of the position.
 use mathlib.Core.Path.{sym, ◌∙◌}
 use mathlib.Core.Bool.{true≢false}
-use Rattle.replay_notation.proofs.RecordsPlay.{always-reads-back, play-compared}
+use Rattle.replay_notation.proofs.RecordsPlay.{always_reads_back, play_compared}
 use borrow.Author.Rules.{rules}
 use Rattle.replay_notation.proofs.same_play.Statement.{statement}
 use Rattle.replay_notation.proofs.same_play.Tie as tie
@@ -39,7 +39,7 @@ returns c =
     let at_new = at-play-all.before in
     let start = at_new.before.before.before in
     let a = start.args in
-    play-compared a.moves.now _ _ at_new.new.ensures at-play-all.play-all.ensures a.words.now _ _ _ _
+    play_compared a.moves.now _ _ at_new.new.ensures at-play-all.play-all.ensures a.words.now _ _ _ _
     at-render.render.ensures at-question.question.ensures at-bytes.bytes.ensures c.is_whole.ensures
 
 returns-2 : tie.Need-returns-2
@@ -48,8 +48,8 @@ returns-2 c =
     let at-play-all = at-reads-back.before in
     let at_new = at-play-all.before in
     let start = at_new.before.before.before in
-    absurd (true≢false (sym (always-reads-back start.args.moves.now _ _ at_new.new.ensures at-play-all.play-all.ensures _
-    at-reads-back.reads-back.ensures) ∙ c.if1.false))
+    absurd (true≢false (sym (always_reads_back start.args.moves.now _ _ at_new.new.ensures at-play-all.play-all.ensures _
+    at-reads-back.reads_back.ensures) ∙ c.if1.false))
 
 pub same-play-spec : {M : Type 1} → statement M
 same-play-spec =

@@ -1,7 +1,7 @@
 -- By the answer, which is that of the definition.
-use Rattle.replay_notation.proofs.RecordsCompared.{refusal-compared, answer-compared}
-use Rattle.replay_notation.specs.Records.{game-numbers}
-use Rattle.replay_notation.proofs.RecordsReading.{refused-compared, accepted-compared}
+use Rattle.replay_notation.proofs.RecordsCompared.{refusal_compared, answer_compared}
+use Rattle.replay_notation.specs.Records.{game_numbers}
+use Rattle.replay_notation.proofs.RecordsReading.{refused_compared, accepted_compared}
 use borrow.Author.Rules.{rules}
 use Rattle.replay_notation.proofs.same_reading.Statement.{statement}
 use Rattle.replay_notation.proofs.same_reading.Tie as tie
@@ -53,8 +53,8 @@ returns c =
     let at-parse = at-answer.before.before in
     let start = at-parse.before.before.before in
     let a = start.args in
-    refused-compared a.words.now a.text.now _ at-parse.parse.ensures _ at-answer.answer.given.1 _
-    at-number.number.ensures _ (refusal-compared a.words.now a.text.now _ _ _ _ _ _ _ _ at-question.question.ensures
+    refused_compared a.words.now a.text.now _ at-parse.parse.ensures _ at-answer.answer.given.1 _
+    at-number.number.ensures _ (refusal_compared a.words.now a.text.now _ _ _ _ _ _ _ _ at-question.question.ensures
     at-number2.number2.ensures at-number3.number3.ensures at-number4.number4.ensures c.is_whole.ensures)
 
 returns-2 : tie.Need-returns-2
@@ -65,8 +65,8 @@ returns-2 c =
     let at-parse = at-enum-told.before.before in
     let start = at-parse.before.before.before in
     let a = start.args in
-    accepted-compared a.words.now a.text.now _ at-parse.parse.ensures at-enum-told.enum_told.given.1 _ (answer-compared
-    a.words.now 5 a.text.now (game-numbers at-parse.parse.result.game) _ _ _ at-question2.question2.ensures
+    accepted_compared a.words.now a.text.now _ at-parse.parse.ensures at-enum-told.enum_told.given.1 _ (answer_compared
+    a.words.now 5 a.text.now (game_numbers at-parse.parse.result.game) _ _ _ at-question2.question2.ensures
     at-add-game.add-game.ensures c.is-whole2.ensures)
 
 pub same-reading-spec : {M : Type 1} → statement M

@@ -1,7 +1,7 @@
 -- The numbers are those of the record, in their order.
 use mathlib.Core.Path.{ap, ◌∙◌}
 use Rattle.status.specs.declared.Status.{Status}
-use Rattle.replay_notation.proofs.RecordsCompared.{won-compared}
+use Rattle.replay_notation.proofs.RecordsCompared.{won_compared}
 use borrow.Author.Rules.{rules}
 use Rattle.replay_notation.proofs.same_won.Statement.{statement}
 use Rattle.replay_notation.proofs.same_won.Tie as tie
@@ -58,7 +58,7 @@ returns c =
     let at-draw = at-number.before in
     let start = at-draw.before.before in
     let a = start.args in
-    won-compared a.words.now a.byte _ _ _ at-is-won.is-won.ensures at-is-won2.is-won2.ensures
+    won_compared a.words.now a.byte _ _ _ at-is-won.is_won.ensures at-is-won2.is-won2.ensures
     (at-as-byte.as_byte.ensures ∙ ap (λ (s : Status). s.bits) at-draw.draw.ensures) _ _ _ _ _ _ at-number.number.ensures
     at-number2.number2.ensures at-number3.number3.ensures at-number4.number4.ensures at-number5.number5.ensures
     c.is_whole.ensures

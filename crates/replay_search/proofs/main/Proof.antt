@@ -3,7 +3,7 @@ use mathlib.Core.Path.{◌≡◌, sym, ◌∙◌}
 use Prim.Native.Nat.{◌-◌}
 use lib.ListN.{length}
 use Rattle.input.specs.Lines.{longest}
-use Rattle.replay.proofs.TotalsCount.{fewer-left}
+use Rattle.replay.proofs.TotalsCount.{fewer_left}
 use borrow.Author.Rules.{rules}
 use Rattle.replay_search.proofs.main.Statement.{statement}
 use Rattle.replay_search.proofs.main.Tie as tie
@@ -60,7 +60,7 @@ step-requires c κs = search rules
 loop-less : tie.Need-loop-smaller invariant-loop decreases-loop
 loop-less c =
     let at-if = c.before.before.before.before.before.before.before.before.before.before.before.before.before in
-    fewer-left _ _ _ c.before.step.ensures (sym at-if.before.may-go-on.ensures ∙ at-if.if1.true)
+    fewer_left _ _ _ c.before.step.ensures (sym at-if.before.may_go_on.ensures ∙ at-if.if1.true)
 
 loop-again : tie.Need-loop-preserved invariant-loop decreases-loop
 loop-again c = search rules

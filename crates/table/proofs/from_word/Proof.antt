@@ -2,8 +2,8 @@
 use mathlib.Core.Path.{sym, ◌∙◌}
 use Prim.Native.Nat.{◌-◌}
 use native.Mathlib.Omega.{arith}
-use Rattle.base.proofs.Signed.{low_word, minus-fits, minus-one-more}
-use Rattle.table.proofs.EntriesWords.{value_low, value-high}
+use Rattle.base.proofs.Signed.{low_word, minus_fits, minus_one_more}
+use Rattle.table.proofs.EntriesWords.{value_low, value_high}
 use borrow.Author.Rules.{rules}
 use mir.Facts.{to_z-of_z}
 use Rattle.table.proofs.from_word.Statement.{statement}
@@ -21,14 +21,14 @@ cast-result-2 c = search rules
 sub-result-2 : tie.Need-overflow-sub-result-2
 sub-result-2 c =
     rw (low_word (18446744073709551615 - c.before.args.w) (omega arith))
-    (minus-fits (18446744073709551615 - c.before.args.w) (omega arith))
+    (minus_fits (18446744073709551615 - c.before.args.w) (omega arith))
 
 sub-result-3 : tie.Need-overflow-sub-result-3
 sub-result-3 c =
     rw (
       to_z-of_z (sub-result-2 c),
       low_word (18446744073709551615 - c.before.args.w) (omega arith),
-      minus-one-more (18446744073709551615 - c.before.args.w),
+      minus_one_more (18446744073709551615 - c.before.args.w),
     ) (record { sfits = omega arith })
 
 returns : tie.Need-returns
@@ -37,7 +37,7 @@ returns c = low_word c.before.args.w c.if1.true ∙ sym (value_low c.before.args
 returns-2 : tie.Need-returns-2
 returns-2 c =
     to_z-of_z (sub-result-3 c) ∙ rw (to_z-of_z (sub-result-2 c), low_word (18446744073709551615 - c.before.args.w) (omega arith))
-    (minus-one-more (18446744073709551615 - c.before.args.w) ∙ sym (value-high c.before.args.w c.if1.false))
+    (minus_one_more (18446744073709551615 - c.before.args.w) ∙ sym (value_high c.before.args.w c.if1.false))
 
 pub from-word-spec : {M : Type 1} → statement M
 from-word-spec =

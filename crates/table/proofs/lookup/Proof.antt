@@ -1,13 +1,13 @@
 -- With fewer than three words, or another hash in the slot, nothing is there; otherwise the slot says what is.
 use mathlib.Core.Path.{sym, ◌∙◌}
 use native.Mathlib.Omega.{arith}
-use Rattle.table.proofs.EntriesRows.{look-up-off, look-up-other, look-up-same}
+use Rattle.table.proofs.EntriesRows.{look_up_off, look_up_other, look_up_same}
 use borrow.Author.Rules.{rules}
 use Rattle.table.proofs.lookup.Statement.{statement}
 use Rattle.table.proofs.lookup.Tie as tie
 
 returns : tie.Need-returns
-returns c = sym (look-up-off c.before.before.args.words.now c.before.before.args.hash c.if1.true)
+returns c = sym (look_up_off c.before.before.args.words.now c.before.before.args.hash c.if1.true)
 
 slot-requires : tie.Need-slot-requires
 slot-requires c κs = search rules
@@ -19,7 +19,7 @@ shared-slice-read-if2 : tie.Need-shared-slice-read-if2
 shared-slice-read-if2 c = search rules
 
 returns-2 : tie.Need-returns-2
-returns-2 c = sym (look-up-other _ _ _ c.before.before.before.if1.false c.before.before.slot.ensures.0 (λ p. omega arith))
+returns-2 c = sym (look_up_other _ _ _ c.before.before.before.if1.false c.before.before.slot.ensures.0 (λ p. omega arith))
 
 add-entry-of : tie.Need-overflow-add-entry-of
 add-entry-of c = search rules
@@ -44,7 +44,7 @@ entry-of-requires c κs = search rules
 
 returns-3 : tie.Need-returns-3
 returns-3 c =
-    c.entry_of.ensures ∙ sym (look-up-same _ _ _ c.before.before.before.before.before.before.if1.false
+    c.entry_of.ensures ∙ sym (look_up_same _ _ _ c.before.before.before.before.before.before.if1.false
     c.before.before.before.before.before.slot.ensures.0 (omega arith))
 
 pub lookup-spec : {M : Type 1} → statement M

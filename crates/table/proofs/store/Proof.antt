@@ -4,8 +4,8 @@ use native.Mathlib.Omega.{arith}
 use lib.ListN.{length-set}
 use borrow.Author.Tests.{not-true, not-false}
 use Rattle.theory.specs.Table.{to_word, replaces}
-use Rattle.table.specs.Entries.{entry-means}
-use Rattle.table.proofs.EntriesRows.{held_at, store-off, store-refused, store_wrote}
+use Rattle.table.specs.Entries.{entry_means}
+use Rattle.table.proofs.EntriesRows.{held_at, store_off, store_refused, store_wrote}
 use borrow.Author.Rules.{rules}
 use mir.Facts.{to_z-of_z}
 use Rattle.table.proofs.store.Statement.{statement}
@@ -22,8 +22,8 @@ decision c =
 
 returns : tie.Need-returns
 returns c =
-    sym (store-off c.before.before.args.words.now c.before.before.args.hash c.if1.true
-    (entry-means c.before.before.args.e))
+    sym (store_off c.before.before.args.words.now c.before.before.args.hash c.if1.true
+    (entry_means c.before.before.args.e))
 
 slot-requires : tie.Need-slot-requires
 slot-requires c κs = search rules
@@ -54,8 +54,8 @@ replaces-requires c κs = search rules
 
 returns-2 : tie.Need-returns-2
 returns-2 c =
-    sym (store-refused _ _ _ c.before.before.before.before.before.before.if1.false
-    c.before.before.before.before.before.slot.ensures.0 (entry-means
+    sym (store_refused _ _ _ c.before.before.before.before.before.before.if1.false
+    c.before.before.before.before.before.slot.ensures.0 (entry_means
     c.before.before.before.before.before.before.before.before.args.e)
     (sym (decision c.before) ∙ not-true _ c.if2.true))
 
@@ -99,7 +99,7 @@ returns-3 c =
     let start = at-if1.before.before in
     let e = start.args.e in
     let value = to_z-of_z {z = e.value} (record { sfits = c.before.before.struct_told.given.0.1 }) in
-    store_wrote _ _ _ at-if1.if1.false at_slot.slot.ensures.0 (entry-means e) _ _
+    store_wrote _ _ _ at-if1.if1.false at_slot.slot.ensures.0 (entry_means e) _ _
     (c.before.to_word.ensures ∙ ap to_word value) c.rest_of.ensures
     (sym (decision c.before.before.before.before) ∙ not-false _ c.before.before.before.if2.false)
 

@@ -1,5 +1,5 @@
 -- A run from a new one.
-use Rattle.ultimattt.proofs.Runs.{begun-new}
+use Rattle.ultimattt.proofs.Runs.{begun_new}
 use borrow.Author.Rules.{rules}
 use Rattle.ultimattt.proofs.answer_input.Statement.{statement}
 use Rattle.ultimattt.proofs.answer_input.Tie as tie
@@ -11,7 +11,7 @@ answer-from-requires : tie.Need-answer-from-requires
 answer-from-requires c κs = search rules
 
 returns : tie.Need-returns
-returns c = begun-new _ _ c.before.new.ensures c.answer-from.ensures
+returns c = begun_new _ _ c.before.new.ensures c.answer-from.ensures
 
 pub answer-input-spec : {M : Type 1} → statement M
 answer-input-spec = tie.close (tie.spec new-requires answer-from-requires returns)

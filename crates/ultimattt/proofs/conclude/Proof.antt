@@ -2,8 +2,8 @@
 use mathlib.Core.Path.{sym}
 use native.Mathlib.Omega.{arith}
 use lib.Seq.{length-take-le}
-use Rattle.answer_text.proofs.AnswerBytes.{text-room}
-use Rattle.ultimattt.proofs.Runs.{concluded, last-of-run-room}
+use Rattle.answer_text.proofs.AnswerBytes.{text_room}
+use Rattle.ultimattt.proofs.Runs.{concluded, last_of_run_room}
 use borrow.Author.Rules.{rules}
 use Rattle.ultimattt.proofs.conclude.Statement.{statement}
 use Rattle.ultimattt.proofs.conclude.Tie as tie
@@ -17,7 +17,7 @@ written-requires c κs = search rules
 array-share-prefix-answer : tie.Need-array-share-prefix-answer
 array-share-prefix-answer c =
     let r = c.before.before.before.args.run in
-    omega (arith, c.written.ensures, last-of-run-room r.progress r.program _ c.before.before.last.ensures)
+    omega (arith, c.written.ensures, last_of_run_room r.progress r.program _ c.before.before.last.ensures)
 
 slice-aggregate-write-all : tie.Need-slice-aggregate-write-all
 slice-aggregate-write-all c = sym (length-take-le _ _ (array-share-prefix-answer c.before))
@@ -32,7 +32,7 @@ written-requires-2 : tie.Need-written-requires-2
 written-requires-2 c κs = search rules
 
 array-share-prefix-said : tie.Need-array-share-prefix-said
-array-share-prefix-said c = omega (arith, c.written2.ensures, text-room _ _ c.before.before.told.ensures)
+array-share-prefix-said c = omega (arith, c.written2.ensures, text_room _ _ c.before.before.told.ensures)
 
 slice-aggregate-write-all-2 : tie.Need-slice-aggregate-write-all-2
 slice-aggregate-write-all-2 c = sym (length-take-le _ _ (array-share-prefix-said c.before))

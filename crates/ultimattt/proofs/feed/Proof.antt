@@ -5,9 +5,9 @@ use native.Mathlib.Omega.{arith}
 use lib.ListN.{length}
 use lib.Seq.{length-take-le}
 use borrow.Author.Rules.{rules}
-use Rattle.program_reads.proofs.Promises.{next-rises}
-use Rattle.program_reads.proofs.Feeding.{left, left-falls, answer-room, outcome, outcome-is-fed, outcome-stays, outcome-reached}
-use Rattle.ultimattt.proofs.Runs.{fed-whole, not-fed}
+use Rattle.program_reads.proofs.Promises.{next_rises}
+use Rattle.program_reads.proofs.Feeding.{left, left_falls, answer_room, outcome, outcome_is_fed, outcome_stays, outcome_reached}
+use Rattle.ultimattt.proofs.Runs.{fed_whole, not_fed}
 use Rattle.ultimattt.proofs.feed.Statement.{statement}
 use Rattle.ultimattt.proofs.feed.Tie as tie
 
@@ -22,7 +22,7 @@ next-requires : tie.Need-next-requires invariant-loop decreases-loop
 next-requires c κs = search rules
 
 loop-holds : tie.Need-loop-init invariant-loop decreases-loop
-loop-holds c = (refl, answer-room _ _ _ _ c.next.ensures, λ e. e)
+loop-holds c = (refl, answer_room _ _ _ _ c.next.ensures, λ e. e)
 
 written-requires : tie.Need-written-requires invariant-loop decreases-loop
 written-requires c κs = search rules
@@ -40,7 +40,7 @@ returns : tie.Need-returns invariant-loop decreases-loop
 returns c =
     let t = c.before.before.before.before.before.before in
     let l = t.before in
-    not-fed _ _ (sym l.before.next.ensures.found-is ∙ l.loop.invariant.2 t.loop-test.true)
+    not_fed _ _ (sym l.before.next.ensures.found_is ∙ l.loop.invariant.2 t.loop-test.true)
 
 next-requires-2 : tie.Need-next-requires-2 invariant-loop decreases-loop
 next-requires-2 c κs = search rules
@@ -48,22 +48,22 @@ next-requires-2 c κs = search rules
 loop-less : tie.Need-loop-smaller invariant-loop decreases-loop
 loop-less c =
     let t = c.before.before.before.before.before.before.before.before in
-    left-falls _ _ _ _ _ t.loop-test.true (next-rises _ _ _ _ c.next2.ensures)
+    left_falls _ _ _ _ _ t.loop-test.true (next_rises _ _ _ _ c.next2.ensures)
 
 loop-again : tie.Need-loop-preserved invariant-loop decreases-loop
 loop-again c =
     let t = c.before.before.before.before.before.before.before.before in
     let l = t.before.loop in (
-      outcome-stays _ l.next _ t.loop-test.true c.next2.ensures ∙ l.invariant.0,
-      answer-room _ _ _ _ c.next2.ensures,
+      outcome_stays _ l.next _ t.loop-test.true c.next2.ensures ∙ l.invariant.0,
+      answer_room _ _ _ _ c.next2.ensures,
       λ _. l.invariant.2 t.loop-test.true,
     )
 
 returns-2 : tie.Need-returns-2 invariant-loop decreases-loop
 returns-2 c =
     let l = c.before.before.loop in
-    fed-whole _ _ _ (outcome-reached _ l.next c.before.loop-test.false ∙ l.invariant.0
-    ∙ outcome-is-fed _ _ 0 _ c.before.before.before.next.ensures)
+    fed_whole _ _ _ (outcome_reached _ l.next c.before.loop-test.false ∙ l.invariant.0
+    ∙ outcome_is_fed _ _ 0 _ c.before.before.before.next.ensures)
 
 pub feed-spec : {M : Type 1} → statement M
 feed-spec =

@@ -2,9 +2,9 @@
 use mathlib.Core.Path.{◌∙◌, ap}
 use lib.IntN.{ℤ}
 use Rattle.text.specs.ProgramLine.{signed}
-use Rattle.status.specs.Sets.{set-of}
-use Rattle.answer_text.specs.AnswerBytes.{added-all, move-bytes}
-use Rattle.answer_text.proofs.AnswerBytes.{answer-written}
+use Rattle.status.specs.Sets.{set_of}
+use Rattle.answer_text.specs.AnswerBytes.{added_all, move_bytes}
+use Rattle.answer_text.proofs.AnswerBytes.{answer_written}
 use borrow.Author.Rules.{rules}
 use mir.Facts.{to_z-of_z}
 use Rattle.answer_text.proofs.AnswerText.answer.Statement.{statement}
@@ -57,7 +57,7 @@ returns c =
     let at_new = at-status.before in
     let start = at_new.before in
     let a = start.args in
-    answer-written (set-of a.status) a.legal a.depth a.score a.count (move-bytes a.line) _ _ _ _ _ _ _ _ _ _ _ _
+    answer_written (set_of a.status) a.legal a.depth a.score a.count (move_bytes a.line) _ _ _ _ _ _ _ _ _ _ _ _
     at_new.new.ensures
     at-status.status.ensures
     at_push.push.ensures
@@ -65,7 +65,7 @@ returns c =
     at-push2.push2.ensures
     at-decimal2.decimal2.ensures
     at-push3.push3.ensures
-    (c.before.before.before.before.signed.ensures ∙ ap (λ (z : ℤ). added-all at-push3.push3.result (signed z))
+    (c.before.before.before.before.signed.ensures ∙ ap (λ (z : ℤ). added_all at-push3.push3.result (signed z))
     (to_z-of_z start.ranges.score))
     c.before.before.before.push4.ensures
     c.before.before.decimal3.ensures

@@ -4,15 +4,15 @@ use Prim.Native.Nat.{◌≤◌, ◌-◌}
 use lib.ListN.{length, drop}
 use native.Mathlib.Omega.{arith}
 use borrow.Author.Rules.{rules}
-use Rattle.text.specs.ProgramLine.{move-letters, moves-text}
-use Rattle.answer_text.specs.AnswerBytes.{added-all, move-bytes}
-use Rattle.answer_text.proofs.AnswerBytesMoves.{joined-none, joined-some, left-none, left-some, left_end}
+use Rattle.text.specs.ProgramLine.{move_letters, moves_text}
+use Rattle.answer_text.specs.AnswerBytes.{added_all, move_bytes}
+use Rattle.answer_text.proofs.AnswerBytesMoves.{joined_none, joined_some, left_none, left_some, left_end}
 use Rattle.answer_text.proofs.AnswerText.moves.Statement.{statement}
 use Rattle.answer_text.proofs.AnswerText.moves.Tie as tie
 
 abbrev invariant-loop : tie.invariant-loop
 invariant-loop line out₀ i₀ out i =
-    (i ≤ 81) × (added-all out (move-letters (drop i (move-bytes line))) ≡ added-all out₀ (moves-text (move-bytes line)))
+    (i ≤ 81) × (added_all out (move_letters (drop i (move_bytes line))) ≡ added_all out₀ (moves_text (move_bytes line)))
 
 abbrev decreases-loop : tie.decreases-loop
 decreases-loop line out₀ i₀ out i = 81 - i
@@ -29,14 +29,14 @@ push-requires c κs = search rules
 returns : tie.Need-returns invariant-loop decreases-loop
 returns c =
     let n : length c.before.before.before.before.args.t2 ≡ 81 = c.before.before.before.before.well-formed.1.0.1.0.1 in
-    joined-none _ c.before.before.before.before.args.t2 (record { bits = 0 }) _ _ (omega arith)
+    joined_none _ c.before.before.before.before.args.t2 (record { bits = 0 }) _ _ (omega arith)
     c.before.before.is_none.ensures c.before.if1.true c.push.ensures
 
 loop-holds : tie.Need-loop-init invariant-loop decreases-loop
 loop-holds c =
     let n : length c.before.before.before.args.t2 ≡ 81 = c.before.before.before.well-formed.1.0.1.0.1 in (
       search rules,
-      joined-some _ c.before.before.before.args.t2 (record { bits = 0 }) _ (omega arith) c.before.is_none.ensures
+      joined_some _ c.before.before.before.args.t2 (record { bits = 0 }) _ (omega arith) c.before.is_none.ensures
           c.if1.false,
     )
 
@@ -51,7 +51,7 @@ returns-2 c =
     let start = c.before.before.before.before.before.before.before.before in
     let n : length start.args.t2 ≡ 81 = start.well-formed.1.0.1.0.1 in
     let l = c.before.before.before.before.loop in
-    sym (left-none _ start.args.t2 (record { bits = 0 }) l.i (omega (arith, c.before.before.before.loop-test.true)) _
+    sym (left_none _ start.args.t2 (record { bits = 0 }) l.i (omega (arith, c.before.before.before.loop-test.true)) _
     c.before.is-none2.ensures c.if2.true) ∙ l.invariant.1
 
 move-text-requires : tie.Need-move-text-requires invariant-loop decreases-loop
@@ -69,9 +69,9 @@ loop-again c =
     let n : length start.args.t2 ≡ 81 = start.well-formed.1.0.1.0.1 in
     let l = c.before.before.before.before.before.loop in (
       omega arith,
-      left-some _ start.args.t2 (record { bits = 0 }) l.i
+      left_some _ start.args.t2 (record { bits = 0 }) l.i
           (omega (arith, c.before.before.before.before.loop-test.true)) _ c.before.before.is-none2.ensures
-          c.before.if2.false _ c.move-text.ensures ∙ l.invariant.1,
+          c.before.if2.false _ c.move_text.ensures ∙ l.invariant.1,
     )
 
 returns-3 : tie.Need-returns-3 invariant-loop decreases-loop

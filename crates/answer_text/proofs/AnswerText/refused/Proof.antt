@@ -1,8 +1,8 @@
 -- `E`, a blank and the number.
 use mathlib.Core.List.{[], ◌∷◌}
-use Rattle.text.specs.Bytes.{letter-refused}
+use Rattle.text.specs.Bytes.{letter_refused}
 use Rattle.text.specs.ProgramLine.{decimal}
-use Rattle.answer_text.proofs.AnswerBytes.{then-blank, written_from}
+use Rattle.answer_text.proofs.AnswerBytes.{then_blank, written_from}
 use borrow.Author.Rules.{rules}
 use Rattle.answer_text.proofs.AnswerText.refused.Statement.{statement}
 use Rattle.answer_text.proofs.AnswerText.refused.Tie as tie
@@ -21,7 +21,7 @@ decimal-requires c κs = search rules
 
 returns : tie.Need-returns
 returns c =
-    written_from _ _ _ c.before.before.before.new.ensures (then-blank _ _ _ _ (letter-refused ∷ [])
+    written_from _ _ _ c.before.before.before.new.ensures (then_blank _ _ _ _ (letter_refused ∷ [])
     (decimal c.before.before.before.before.args.number) c.before.before.push.ensures c.before.push2.ensures
     c.decimal.ensures)
 

@@ -1,7 +1,7 @@
 -- The letters one after another are the definition's, and each is shown by its bit.
-use Rattle.base.proofs.Bits.{digit-test}
-use Rattle.status.specs.Sets.{set-of}
-use Rattle.answer_text.proofs.AnswerBytes.{added-status}
+use Rattle.base.proofs.Bits.{digit_test}
+use Rattle.status.specs.Sets.{set_of}
+use Rattle.answer_text.proofs.AnswerBytes.{added_status}
 use borrow.Author.Rules.{rules}
 use Rattle.answer_text.proofs.AnswerText.status.Statement.{statement}
 use Rattle.answer_text.proofs.AnswerText.status.Tie as tie
@@ -24,9 +24,9 @@ letter-requires-3 c κs = search rules
 returns : tie.Need-returns
 returns c =
     let start = c.before.before.before.before.before.before in
-    added-status _ _ _ _ (set-of start.args.s) _ _ _
+    added_status _ _ _ _ (set_of start.args.s) _ _ _
     c.before.before.before.before.before.is-winnable.ensures c.before.before.before.before.is-winnable2.ensures
-    (digit-test start.args.s.bits 2)
+    (digit_test start.args.s.bits 2)
     c.before.before.letter.ensures c.before.letter2.ensures c.letter3.ensures
 
 pub status-spec : {M : Type 1} → statement M

@@ -4,13 +4,13 @@ use Prim.Native.Nat.{◌≤◌, ◌-◌}
 use lib.ListN.{length, take}
 use borrow.Author.Rules.{rules}
 use native.Mathlib.Omega.{arith}
-use Rattle.answer_text.specs.AnswerBytes.{added-all}
-use Rattle.answer_text.proofs.AnswerBytes.{added_next, added-last}
+use Rattle.answer_text.specs.AnswerBytes.{added_all}
+use Rattle.answer_text.proofs.AnswerBytes.{added_next, added_last}
 use Rattle.answer_text.proofs.AnswerText.text.Statement.{statement}
 use Rattle.answer_text.proofs.AnswerText.text.Tie as tie
 
 abbrev invariant-loop : tie.invariant-loop
-invariant-loop bytes out₀ i₀ out i = (i ≤ length bytes) × (out ≡ added-all out₀ (take i bytes))
+invariant-loop bytes out₀ i₀ out i = (i ≤ length bytes) × (out ≡ added_all out₀ (take i bytes))
 
 abbrev decreases-loop : tie.decreases-loop
 decreases-loop bytes out₀ i₀ out i = length bytes - i
@@ -38,7 +38,7 @@ loop-again c =
 returns : tie.Need-returns invariant-loop decreases-loop
 returns c =
     let l = c.before.loop in let s = c.before.before.before.args in
-    added-last s.self _ s.bytes.now l.i (omega arith) l.invariant.1
+    added_last s.self _ s.bytes.now l.i (omega arith) l.invariant.1
 
 pub text-spec : {M : Type 1} → statement M
 text-spec =

@@ -2,7 +2,7 @@
 use Prim.Native.Nat.{◌/◌}
 use native.Mathlib.Omega.{arith}
 use lib.Bits.{and_le_r}
-use Rattle.boards.proofs.Rows.{all-cells}
+use Rattle.boards.proofs.Rows.{all_cells}
 use Rattle.boards.proofs.local.row_cells.Statement.{statement}
 use Rattle.boards.proofs.local.row_cells.Tie as tie
 
@@ -22,7 +22,7 @@ add-result-2 : tie.Need-overflow-add-result-2
 add-result-2 c = omega (arith, and_le_r c.args.boards 1, and_le_r (c.args.boards / 2) 1, and_le_r (c.args.boards / 4) 1)
 
 returns : tie.Need-returns
-returns c = all-cells c.args.boards
+returns c = all_cells c.args.boards
 
 pub row-cells-spec : {M : Type 1} → statement M
 row-cells-spec =

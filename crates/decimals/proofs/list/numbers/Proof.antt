@@ -3,8 +3,8 @@ use mathlib.Core.Path.{◌≡◌, refl, ◌∙◌}
 use Prim.Native.Nat.{◌-◌, ◌≤◌}
 use native.Mathlib.Omega.{arith}
 use lib.ListN.{length, drop}
-use Rattle.decimals.specs.Lists.{scanned-all}
-use Rattle.decimals.proofs.Lists.{scan-next, scan-end}
+use Rattle.decimals.specs.Lists.{scanned_all}
+use Rattle.decimals.proofs.Lists.{scan_next, scan_end}
 use Rattle.decimals.proofs.ListsRead.{list_read}
 use borrow.Author.Rules.{rules}
 use Rattle.decimals.proofs.list.numbers.Statement.{statement}
@@ -12,7 +12,7 @@ use Rattle.decimals.proofs.list.numbers.Tie as tie
 
 abbrev invariant-loop : tie.invariant-loop
 invariant-loop text words₀ scan₀ i₀ words scan i =
-    (scanned-all scan₀ words₀ text ≡ scanned-all scan words (drop i text)) × (i ≤ length text) ×
+    (scanned_all scan₀ words₀ text ≡ scanned_all scan words (drop i text)) × (i ≤ length text) ×
     (length words ≡ length words₀)
 
 abbrev decreases-loop : tie.decreases-loop
@@ -36,7 +36,7 @@ loop-less c = search rules
 loop-again : tie.Need-loop-preserved invariant-loop decreases-loop
 loop-again c =
     let l = c.before.before.before.before.before.before.loop in let p = c.before.before.push.ensures in (
-      rw (p.0, p.1) (l.invariant.0 ∙ scan-next c.before.before.before.before.before.before.before.before.before.args.text.now
+      rw (p.0, p.1) (l.invariant.0 ∙ scan_next c.before.before.before.before.before.before.before.before.before.args.text.now
           l.scan l.words l.i c.before.before.before.before.before.loop-test.true),
       omega arith,
       search rules,
@@ -57,7 +57,7 @@ returns c =
     let text = start.args.text.now in
     let l = c.before.before.before.before.before.before.loop in
     let p = c.before.before.before.push2.ensures in
-    let e = l.invariant.0 ∙ scan-end text l.scan l.words l.i c.before.before.before.before.before.loop-test.false in
+    let e = l.invariant.0 ∙ scan_end text l.scan l.words l.i c.before.before.before.before.before.loop-test.false in
     list_read text start.args.words.now _ _ (c.counted.ensures ∙ rw (e, p.0)) (p.1 ∙ rw e)
 
 pub numbers-spec : {M : Type 1} → statement M

@@ -1,6 +1,6 @@
 -- The two ways of a number, and none.
 use Prim.Native.Nat.{◌^◌}
-use Rattle.base.proofs.Signed.{low_word, zero-sub, minus-fits}
+use Rattle.base.proofs.Signed.{low_word, zero_sub, minus_fits}
 use borrow.Author.Tests.{lt-ltb, le-ltb}
 use Rattle.base.specs.Branch.{if◌then◌else◌}
 use Rattle.decimals.specs.Numbers.{negative_of}
@@ -17,7 +17,7 @@ cast-t6 c = search rules
 
 sub-t7 : tie.Need-overflow-sub-t7
 sub-t7 c =
-    rw (low_word c.before.before.n.given.0.0 c.if1.true) (minus-fits c.before.before.n.given.0.0 c.if1.true)
+    rw (low_word c.before.before.n.given.0.0 c.if1.true) (minus_fits c.before.before.n.given.0.0 c.if1.true)
 
 enum_told : tie.Need-enum-told
 enum_told c = search rules
@@ -28,7 +28,7 @@ returns c =
     rw (
       to_z-of_z (sub-t7 c),
       low_word c.before.before.n.given.0.0 c.if1.true,
-      zero-sub,
+      zero_sub,
       c.before.before.n.given.1,
       lt-ltb _ (2 ^ 63) c.if1.true,
     )

@@ -1,13 +1,13 @@
 -- The three ways of a text: nothing, a minus before a number, a number.
 use mathlib.Core.Path.{ap, ◌∙◌}
 use Rattle.decimals.specs.Numbers.{positive_of, negative_of}
-use Rattle.decimals.proofs.NumbersDigits.{signed-none, signed-minus, signed-plus}
+use Rattle.decimals.proofs.NumbersDigits.{signed_none, signed_minus, signed_plus}
 use borrow.Author.Rules.{rules}
 use Rattle.decimals.proofs.number.read_signed.Statement.{statement}
 use Rattle.decimals.proofs.number.read_signed.Tie as tie
 
 returns : tie.Need-returns
-returns c = signed-none c.before.before.args.text.now c.if1.true
+returns c = signed_none c.before.before.args.text.now c.if1.true
 
 shared-slice-read-if2 : tie.Need-shared-slice-read-if2
 shared-slice-read-if2 c = search rules
@@ -30,7 +30,7 @@ minus-requires c κs = search rules
 returns-2 : tie.Need-returns-2
 returns-2 c =
     c.minus.ensures ∙ ap negative_of c.before.read_number.ensures
-    ∙ signed-minus c.before.before.before.before.before.before.before.args.text.now
+    ∙ signed_minus c.before.before.before.before.before.before.before.args.text.now
     c.before.before.before.before.before.if1.false c.before.before.before.if2.true
 
 read-number-requires-2 : tie.Need-read-number-requires-2
@@ -42,7 +42,7 @@ plus-requires c κs = search rules
 returns-3 : tie.Need-returns-3
 returns-3 c =
     c.plus.ensures ∙ ap positive_of c.before.read-number2.ensures
-    ∙ signed-plus c.before.before.before.before.before.before.args.text.now c.before.before.before.before.if1.false
+    ∙ signed_plus c.before.before.before.before.before.before.args.text.now c.before.before.before.before.if1.false
     c.before.before.if2.false
 
 pub read-signed-spec : {M : Type 1} → statement M

@@ -2,7 +2,7 @@
 use mathlib.Core.Path.{sym, ◌∙◌}
 use native.Mathlib.Omega.{arith}
 use borrow.Author.Tests.{not-true, not-false}
-use Rattle.decimals.proofs.NumbersDigits.{within-bounds, digit-fits, digit-over, no_digit}
+use Rattle.decimals.proofs.NumbersDigits.{within_bounds, digit_fits, digit_over, no_digit}
 use borrow.Author.Rules.{rules}
 use Rattle.decimals.proofs.number.with_digit.Statement.{statement}
 use Rattle.decimals.proofs.number.with_digit.Tie as tie
@@ -15,7 +15,7 @@ returns c =
     no_digit c.before.before.args.value c.before.before.args.b (sym c.before.within.ensures ∙ not-true _ c.if1.true)
 
 sub-digit : tie.Need-overflow-sub-digit
-sub-digit c = (within-bounds c.before.before.args.b 48 57 (sym c.before.within.ensures ∙ not-false _ c.if1.false)).0
+sub-digit c = (within_bounds c.before.before.args.b 48 57 (sym c.before.within.ensures ∙ not-false _ c.if1.false)).0
 
 cast-digit : tie.Need-overflow-cast-digit
 cast-digit c = search rules
@@ -25,23 +25,23 @@ mul-t7 c = search rules
 
 add-t8 : tie.Need-overflow-add-t8
 add-t8 c =
-    let w = within-bounds c.before.before.before.args.b 48 57 (sym c.before.before.within.ensures
+    let w = within_bounds c.before.before.before.args.b 48 57 (sym c.before.before.within.ensures
     ∙ not-false _ c.before.if1.false) in omega arith
 
 returns-2 : tie.Need-returns-2
 returns-2 c =
-    let w = within-bounds c.before.before.before.args.b 48 57 (sym c.before.before.within.ensures
-    ∙ not-false _ c.before.if1.false) in digit-fits c.before.before.before.args.value c.before.before.before.args.b
+    let w = within_bounds c.before.before.before.args.b 48 57 (sym c.before.before.within.ensures
+    ∙ not-false _ c.before.if1.false) in digit_fits c.before.before.before.args.value c.before.before.before.args.b
     (sym c.before.before.within.ensures ∙ not-false _ c.before.if1.false) (omega arith)
 
 returns-3 : tie.Need-returns-3
 returns-3 c =
-    digit-over c.before.before.before.before.args.value c.before.before.before.before.args.b
+    digit_over c.before.before.before.before.args.value c.before.before.before.before.args.b
     (sym c.before.before.before.within.ensures ∙ not-false _ c.before.before.if1.false) (omega arith)
 
 returns-4 : tie.Need-returns-4
 returns-4 c =
-    digit-over c.before.before.before.before.before.args.value c.before.before.before.before.before.args.b
+    digit_over c.before.before.before.before.before.args.value c.before.before.before.before.before.args.b
     (sym c.before.before.before.before.within.ensures ∙ not-false _ c.before.before.before.if1.false) (omega arith)
 
 mul-t9 : tie.Need-overflow-mul-t9
@@ -52,7 +52,7 @@ add-t10 c = search rules
 
 returns-5 : tie.Need-returns-5
 returns-5 c =
-    digit-fits c.before.before.before.before.before.args.value c.before.before.before.before.before.args.b
+    digit_fits c.before.before.before.before.before.args.value c.before.before.before.before.before.args.b
     (sym c.before.before.before.before.within.ensures ∙ not-false _ c.before.before.before.if1.false) (omega arith)
 
 pub with-digit-spec : {M : Type 1} → statement M

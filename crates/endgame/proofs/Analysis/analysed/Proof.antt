@@ -7,12 +7,12 @@ use native.Mathlib.Omega.{arith}
 use Rattle.base.specs.Bits.{digits}
 use Rattle.rules.specs.Board.{other}
 use Rattle.rules.specs.Status.{Status as Set}
-use Rattle.rules.specs.Endgame.{critical, prove-attacker, forced-loss, or-unproven}
-use Rattle.status.specs.Sets.{status-of}
-use Rattle.game.specs.Meaning.{position-of}
-use Rattle.endgame.proofs.PartsAttack.{set-of-side, some-critical}
-use Rattle.endgame.proofs.MeansStatuses.{combined-is-merged, sets-agree, counts, at_most_one}
-use Rattle.endgame.proofs.MeansAnswers.{analyses-as, analysis-made}
+use Rattle.rules.specs.Endgame.{critical, prove_attacker, forced_loss, or_unproven}
+use Rattle.status.specs.Sets.{status_of}
+use Rattle.game.specs.Meaning.{position_of}
+use Rattle.endgame.proofs.PartsAttack.{set_of_side, some_critical}
+use Rattle.endgame.proofs.MeansStatuses.{combined_is_merged, sets_agree, counts, at_most_one}
+use Rattle.endgame.proofs.MeansAnswers.{analyses_as, analysis_made}
 use borrow.Author.Rules.{rules}
 use Rattle.endgame.proofs.Analysis.analysed.Statement.{statement}
 use Rattle.endgame.proofs.Analysis.analysed.Tie as tie
@@ -31,14 +31,14 @@ critical-boards-requires-2 c κs = search rules
 
 -- the two critical sets
 attackers : (c : tie.After-critical-boards2) → let p =
-    position-of c.before.before.before.before.args.pos in c.before.before.critical-boards.result
+    position_of c.before.before.before.before.args.pos in c.before.before.critical-boards.result
     ≡ digits (critical p p.turn) 9
-attackers c = set-of-side _ _ _ _ c.before.before.critical-boards.ensures c.before.before.before.player.ensures
+attackers c = set_of_side _ _ _ _ c.before.before.critical-boards.ensures c.before.before.before.player.ensures
 
 defenders : (c : tie.After-critical-boards2) → let p =
-    position-of c.before.before.before.before.args.pos in c.critical-boards2.result ≡ digits (critical p (other p.turn)) 9
+    position_of c.before.before.before.before.args.pos in c.critical-boards2.result ≡ digits (critical p (other p.turn)) 9
 defenders c =
-    set-of-side _ _ _ _ c.critical-boards2.ensures (c.before.other.ensures ∙ ap other c.before.before.before.player.ensures)
+    set_of_side _ _ _ _ c.critical-boards2.ensures (c.before.other.ensures ∙ ap other c.before.before.before.player.ensures)
 
 prove-attacker-requires : tie.Need-prove-attacker-requires
 prove-attacker-requires c κs = (c.before.before.before.before.requires.1, attackers c, defenders c)
@@ -50,10 +50,10 @@ both-requires : tie.Need-both-requires
 both-requires c κs = search rules
 
 lost : (c : tie.After-both) → let p =
-    position-of c.before.before.before.before.before.before.before.args.pos in
-    c.both.result ≡ (not (prove-attacker p) && forced-loss p)
+    position_of c.before.before.before.before.before.before.before.args.pos in
+    c.both.result ≡ (not (prove_attacker p) && forced_loss p)
 lost c =
-    c.both.ensures ∙ ap₂ (λ (a b : Bool). not a && b) c.before.before.prove-attacker.ensures c.before.forced-loss.ensures
+    c.both.ensures ∙ ap₂ (λ (a b : Bool). not a && b) c.before.before.prove_attacker.ensures c.before.forced_loss.ensures
 
 is-winnable-requires : tie.Need-is-winnable-requires
 is-winnable-requires c κs = search rules
@@ -101,8 +101,8 @@ combined-requires c κs =
     let at-prove-attacker = at_both.before.before in
     let at-player = at-prove-attacker.before.before.before.before in
     let start = at-player.before in
-    let p = position-of start.args.pos in
-    sets-agree p _ _ _ _ _ at-player.player.ensures at-prove-attacker.prove-attacker.ensures (lost at_both)
+    let p = position_of start.args.pos in
+    sets_agree p _ _ _ _ _ at-player.player.ensures at-prove-attacker.prove_attacker.ensures (lost at_both)
     at-is-winnable.is-winnable.ensures
     at-is-winnable2.is-winnable2.ensures
 
@@ -122,16 +122,16 @@ returns c =
     let at-critical-boards2 = at-prove-attacker.before in
     let at-player = at-critical-boards2.before.before.before in
     let start = at-player.before in
-    let p = position-of start.args.pos in
-    analyses-as _ _ _ (analysis-made p start.requires.0 start.requires.1) refl
+    let p = position_of start.args.pos in
+    analyses_as _ _ _ (analysis_made p start.requires.0 start.requires.1) refl
     (c.combined.ensures
-    ∙ ap (λ (s : Option Set). status-of (or-unproven s))
-    (combined-is-merged p _ _ _ _ _ at-player.player.ensures at-prove-attacker.prove-attacker.ensures (lost at_both)
+    ∙ ap (λ (s : Option Set). status_of (or_unproven s))
+    (combined_is_merged p _ _ _ _ _ at-player.player.ensures at-prove-attacker.prove_attacker.ensures (lost at_both)
     at-is-winnable.is-winnable.ensures
     at-is-winnable2.is-winnable2.ensures))
     (counts p _ _ _ _ _ _ _
-    (sym (some-critical p _ _ (attackers at-critical-boards2) _ refl)) (sym (some-critical p _ _ (defenders at-critical-boards2) _ refl))
-    at-prove-attacker.prove-attacker.ensures (lost at_both) at-is-winnable.is-winnable.ensures
+    (sym (some_critical p _ _ (attackers at-critical-boards2) _ refl)) (sym (some_critical p _ _ (defenders at-critical-boards2) _ refl))
+    at-prove-attacker.prove_attacker.ensures (lost at_both) at-is-winnable.is-winnable.ensures
     at-is-winnable2.is-winnable2.ensures
     at-count3.count3.ensures at-count4.count4.ensures (at-count5.count5.ensures
     ∙ ap (λ (b : Bool). cond b 1 0) at-both2.both2.ensures)

@@ -6,7 +6,7 @@ use lib.IntN.{ℤ}
 use lib.ListN.{length, set, length-map}
 use lib.Seq.{set_out}
 use mir.Syntax.{w32}
-use Rattle.base.proofs.Signed.{result-at}
+use Rattle.base.proofs.Signed.{result_at}
 use borrow.Author.Rules.{rules}
 use Rattle.evaluation.proofs.Values.after.Statement.{statement}
 use Rattle.evaluation.proofs.Values.after.Tie as tie
@@ -24,7 +24,7 @@ returns : tie.Need-returns
 returns c =
     let a = c.before.before.before.args in
     ap (λ (z : ℤ). record { boards = set a.self.boards a.board z; weights = a.self.weights })
-    (result-at w32 c.value_of.type-inv c.value_of.ensures)
+    (result_at w32 c.value_of.type-inv c.value_of.ensures)
 
 returns-2 : tie.Need-returns-2
 returns-2 c =

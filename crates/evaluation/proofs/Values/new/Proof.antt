@@ -4,7 +4,7 @@ use mathlib.Core.List.{List, ◌∷◌}
 use lib.IntN.{ℤ}
 use mir.Syntax.{w32}
 use Rattle.evaluation.specs.Values.{values_of}
-use Rattle.base.proofs.Signed.{result-at}
+use Rattle.base.proofs.Signed.{result_at}
 use borrow.Author.Rules.{rules}
 use Rattle.evaluation.proofs.Values.new.Statement.{statement}
 use Rattle.evaluation.proofs.Values.new.Tie as tie
@@ -48,15 +48,15 @@ returns c =
     let c2 = c3.before in
     let c1 = c2.before in
     ap (λ (l : List ℤ). record { boards = l; weights = c1.before.args.weights })
-    (ap₂ ◌∷◌ (result-at w32 c1.value_of.type-inv c1.value_of.ensures)
-    (ap₂ ◌∷◌ (result-at w32 c2.value-of2.type-inv c2.value-of2.ensures)
-    (ap₂ ◌∷◌ (result-at w32 c3.value-of3.type-inv c3.value-of3.ensures)
-    (ap₂ ◌∷◌ (result-at w32 c4.value-of4.type-inv c4.value-of4.ensures)
-    (ap₂ ◌∷◌ (result-at w32 c5.value-of5.type-inv c5.value-of5.ensures)
-    (ap₂ ◌∷◌ (result-at w32 c6.value-of6.type-inv c6.value-of6.ensures)
-    (ap₂ ◌∷◌ (result-at w32 c7.value-of7.type-inv c7.value-of7.ensures)
-    (ap₂ ◌∷◌ (result-at w32 c8.value-of8.type-inv c8.value-of8.ensures)
-    (ap₂ ◌∷◌ (result-at w32 c.value-of9.type-inv c.value-of9.ensures) refl)))))))))
+    (ap₂ ◌∷◌ (result_at w32 c1.value_of.type-inv c1.value_of.ensures)
+    (ap₂ ◌∷◌ (result_at w32 c2.value-of2.type-inv c2.value-of2.ensures)
+    (ap₂ ◌∷◌ (result_at w32 c3.value-of3.type-inv c3.value-of3.ensures)
+    (ap₂ ◌∷◌ (result_at w32 c4.value-of4.type-inv c4.value-of4.ensures)
+    (ap₂ ◌∷◌ (result_at w32 c5.value-of5.type-inv c5.value-of5.ensures)
+    (ap₂ ◌∷◌ (result_at w32 c6.value-of6.type-inv c6.value-of6.ensures)
+    (ap₂ ◌∷◌ (result_at w32 c7.value-of7.type-inv c7.value-of7.ensures)
+    (ap₂ ◌∷◌ (result_at w32 c8.value-of8.type-inv c8.value-of8.ensures)
+    (ap₂ ◌∷◌ (result_at w32 c.value-of9.type-inv c.value-of9.ensures) refl)))))))))
 
 pub new_spec : {M : Type 1} → statement M
 new_spec =

@@ -2,8 +2,8 @@
 use mathlib.Core.Path.{ap, ◌∙◌}
 use lib.ListN.{length}
 use borrow.Author.Rules.{rules}
-use Rattle.boards.specs.Cursor.{moves-left}
-use Rattle.game.proofs.MeaningCounts.{depth-counted}
+use Rattle.boards.specs.Cursor.{moves_left}
+use Rattle.game.proofs.MeaningCounts.{depth_counted}
 use Rattle.game.proofs.Game.bound_depth.Statement.{statement}
 use Rattle.game.proofs.Game.bound_depth.Tie as tie
 
@@ -18,8 +18,8 @@ count-requires c κs = search rules
 
 returns : tie.Need-returns
 returns c =
-    c.count.ensures ∙ ap (λ it. length (moves-left it)) c.before.Free-in.ensures
-    ∙ depth-counted c.before.before.before.before.before.args.self _ c.before.before.openbits.ensures
+    c.count.ensures ∙ ap (λ it. length (moves_left it)) c.before.Free-in.ensures
+    ∙ depth_counted c.before.before.before.before.before.args.self _ c.before.before.openbits.ensures
 
 pub bound-depth-spec : {M : Type 1} → statement M
 bound-depth-spec = tie.close (tie.spec openbits-requires free-in-requires count-requires returns)

@@ -4,9 +4,9 @@ use mathlib.Core.Bool.{Bool, true, false, cond}
 use borrow.Author.Rules.{rules}
 use Rattle.rules.specs.Board.{blank}
 use Rattle.rules.specs.Play.{play}
-use Rattle.game.specs.Meaning.{position-of}
+use Rattle.game.specs.Meaning.{position_of}
 use Rattle.game.specs.After.{refusal}
-use Rattle.game.proofs.AfterRefusals.{over-board, over-cell, finished, shut, elsewhere, looked}
+use Rattle.game.proofs.AfterRefusals.{over_board, over_cell, finished, shut, elsewhere, looked}
 use Rattle.game.proofs.Game.check_move.Statement.{statement}
 use Rattle.game.proofs.Game.check_move.Tie as tie
 
@@ -17,10 +17,10 @@ local-requires : tie.Need-local-requires
 local-requires c κs = search rules
 
 returns : tie.Need-returns
-returns c = over-board _ _ _ _ c.before.before.global.ensures c.before.local.ensures c.if1.true
+returns c = over_board _ _ _ _ c.before.before.global.ensures c.before.local.ensures c.if1.true
 
 returns-2 : tie.Need-returns-2
-returns-2 c = over-cell _ _ _ _ c.before.before.before.global.ensures c.before.before.local.ensures c.if2.true
+returns-2 c = over_cell _ _ _ _ c.before.before.before.global.ensures c.before.before.local.ensures c.if2.true
 
 terminal-requires : tie.Need-terminal-requires
 terminal-requires c κs = search rules
@@ -50,7 +50,7 @@ returns-4 c =
     let l = i1.before in
     let g = l.before in
     shut _ _ _ _ g.global.ensures l.local.ensures i1.if1.false i2.if2.false _ t.terminal.ensures i3.if3.false _
-    p.in-play.ensures c.if4.true
+    p.in_play.ensures c.if4.true
 
 returns-5 : tie.Need-returns-5
 returns-5 c =
@@ -64,7 +64,7 @@ returns-5 c =
     let l = i1.before in
     let g = l.before in
     elsewhere _ _ _ _ g.global.ensures l.local.ensures i1.if1.false i2.if2.false _ t.terminal.ensures i3.if3.false _
-    p.in-play.ensures i4.if4.false _ a.allows.ensures c.if5.true
+    p.in_play.ensures i4.if4.false _ a.allows.ensures c.if5.true
 
 at-requires : tie.Need-at-requires
 at-requires c κs = search rules
@@ -76,9 +76,9 @@ enum-told-2 : tie.Need-enum-told-2
 enum-told-2 c = search rules
 
 -- the cell was looked at last
-cell-looked : (c : tie.After-at) (e : Bool) → blank c.at.result ≡ e →
-    (let a = c.before.before.before.before.before.before.before.before.before.before.before.before.before.args in cond e 0 13 ≡ refusal (play (position-of a.self) a.m.bits))
-cell-looked c e h =
+cell_looked : (c : tie.After-at) (e : Bool) → blank c.at.result ≡ e →
+    (let a = c.before.before.before.before.before.before.before.before.before.before.before.before.before.args in cond e 0 13 ≡ refusal (play (position_of a.self) a.m.bits))
+cell_looked c e h =
     let i5 = c.before.before in
     let i4 = i5.before in
     let a = i4.before in
@@ -90,13 +90,13 @@ cell-looked c e h =
     let l = i1.before in
     let g = l.before in
     looked _ _ _ _ g.global.ensures l.local.ensures i1.if1.false i2.if2.false _ t.terminal.ensures i3.if3.false _
-    p.in-play.ensures i4.if4.false _ a.allows.ensures i5.if5.false _ c.at.ensures e h
+    p.in_play.ensures i4.if4.false _ a.allows.ensures i5.if5.false _ c.at.ensures e h
 
 returns-6 : tie.Need-returns-6
-returns-6 c = cell-looked c.before.before true (ap blank c.enum_told.given.1)
+returns-6 c = cell_looked c.before.before true (ap blank c.enum_told.given.1)
 
 returns-7 : tie.Need-returns-7
-returns-7 c = cell-looked c.before.before false (ap blank c.enum-told2.given.1)
+returns-7 c = cell_looked c.before.before false (ap blank c.enum-told2.given.1)
 
 pub check-move-spec : {M : Type 1} → statement M
 check-move-spec =

@@ -1,8 +1,8 @@
 -- The parts are compared one by one, and the cells by the open boards of the first game.
 use mathlib.Core.Path.{◌∙◌}
 use borrow.Author.Rules.{rules}
-use Rattle.game.specs.Meaning.{position-of}
-use Rattle.game.proofs.MeaningCounts.{same-boards, other-turn, other-due, other-state, compared}
+use Rattle.game.specs.Meaning.{position_of}
+use Rattle.game.proofs.MeaningCounts.{same_boards, other_turn, other_due, other_state, compared}
 use Rattle.game.proofs.Game.equivalent.Statement.{statement}
 use Rattle.game.proofs.Game.equivalent.Tie as tie
 
@@ -17,7 +17,7 @@ returns c =
     let by = c.before in
     let who = by.before in
     let start = who.before in
-    other-turn (position-of start.args.self) (position-of start.args.rhs) _ _ who.as-bit.ensures by.as-bit2.ensures
+    other_turn (position_of start.args.self) (position_of start.args.rhs) _ _ who.as-bit.ensures by.as-bit2.ensures
     c.if1.true
 
 same-requires : tie.Need-same-requires
@@ -30,7 +30,7 @@ returns-2 c =
     let by = i1.before in
     let who = by.before in
     let start = who.before in
-    other-due (position-of start.args.self) (position-of start.args.rhs) _ _ who.as-bit.ensures by.as-bit2.ensures
+    other_due (position_of start.args.self) (position_of start.args.rhs) _ _ who.as-bit.ensures by.as-bit2.ensures
     i1.if1.false _ due.same.ensures c.if2.true
 
 same-state-requires : tie.Need-same-state-requires
@@ -45,8 +45,8 @@ returns-3 c =
     let by = i1.before in
     let who = by.before in
     let start = who.before in
-    other-state (position-of start.args.self) (position-of start.args.rhs) _ _ who.as-bit.ensures by.as-bit2.ensures
-    i1.if1.false _ due.same.ensures i2.if2.false _ state.same-state.ensures c.if3.true
+    other_state (position_of start.args.self) (position_of start.args.rhs) _ _ who.as-bit.ensures by.as-bit2.ensures
+    i1.if1.false _ due.same.ensures i2.if2.false _ state.same_state.ensures c.if3.true
 
 openbits-requires : tie.Need-openbits-requires
 openbits-requires c κs = search rules
@@ -65,9 +65,9 @@ returns-4 c =
     let by = i1.before in
     let who = by.before in
     let start = who.before in
-    compared (position-of start.args.self) (position-of start.args.rhs) _ _ who.as-bit.ensures by.as-bit2.ensures
-    i1.if1.false _ due.same.ensures i2.if2.false _ state.same-state.ensures i3.if3.false _
-    (c.same_in.ensures ∙ same-boards (position-of start.args.self) _ _ _ boards.openbits.ensures)
+    compared (position_of start.args.self) (position_of start.args.rhs) _ _ who.as-bit.ensures by.as-bit2.ensures
+    i1.if1.false _ due.same.ensures i2.if2.false _ state.same_state.ensures i3.if3.false _
+    (c.same_in.ensures ∙ same_boards (position_of start.args.self) _ _ _ boards.openbits.ensures)
 
 pub equivalent-spec : {M : Type 1} → statement M
 equivalent-spec =

@@ -5,22 +5,22 @@ use native.Mathlib.Omega.{arith}
 use lib.ListN.{drop}
 use lib.Bits.{bit_xor, xor_zero_r}
 use borrow.Author.Rules.{rules}
-use Rattle.rules.specs.Hash.{board-hash, xors, hash}
+use Rattle.rules.specs.Hash.{board_hash, xors, hash}
 use Rattle.rules.specs.Board.{nine}
-use Rattle.boards.specs.Packed.{cell_at, state-at}
+use Rattle.boards.specs.Packed.{cell_at, state_at}
 use Rattle.boards.proofs.RowsHash.{one_more}
-use Rattle.game.specs.Meaning.{position-of}
-use Rattle.game.specs.Built.{parts, with-hash, packed}
+use Rattle.game.specs.Meaning.{position_of}
+use Rattle.game.specs.Built.{parts, with_hash, packed}
 use Rattle.game.proofs.Game.pack.Statement.{statement}
 use Rattle.game.proofs.Game.pack.Tie as tie
 
 abbrev invariant-loop : tie.invariant-loop
-invariant-loop next-player next-board local-boards global-states game-state hash₀ board₀ hash board =
-    (board ≤ 9) × (bit_xor hash (xors (λ b. board-hash b (cell_at local-boards b) (state-at global-states b)) (drop board nine))
-    ≡ Rattle.rules.specs.Hash.hash (position-of (parts next-player next-board local-boards global-states game-state)))
+invariant-loop next-player next_board local-boards global-states game-state hash₀ board₀ hash board =
+    (board ≤ 9) × (bit_xor hash (xors (λ b. board_hash b (cell_at local-boards b) (state_at global-states b)) (drop board nine))
+    ≡ Rattle.rules.specs.Hash.hash (position_of (parts next-player next_board local-boards global-states game-state)))
 
 abbrev decreases-loop : tie.decreases-loop
-decreases-loop next-player next-board local-boards global-states game-state hash₀ board₀ hash board = 9 - board
+decreases-loop next-player next_board local-boards global-states game-state hash₀ board₀ hash board = 9 - board
 
 loop-holds : tie.Need-loop-init invariant-loop decreases-loop
 unfolding hash
@@ -44,9 +44,9 @@ loop-again c =
     let l = c.before.before.before.loop in
     let h = c.before.before.loop-test.true in (
       search rules,
-      one_more (λ b. board-hash b (cell_at a.local-boards b) (state-at a.global-states b)) l.board h l.hash
-          c.board-hash.result _
-          (c.board-hash.ensures ∙ ap (board-hash l.board (cell_at a.local-boards l.board)) c.before.at.ensures)
+      one_more (λ b. board_hash b (cell_at a.local-boards b) (state_at a.global-states b)) l.board h l.hash
+          c.board_hash.result _
+          (c.board_hash.ensures ∙ ap (board_hash l.board (cell_at a.local-boards l.board)) c.before.at.ensures)
           l.invariant.1,
     )
 
@@ -55,7 +55,7 @@ unfolding packed xors
 returns c =
     let a = c.before.before.args in
     let e : c.before.loop.board ≡ 9 = omega arith in
-    ap (with-hash (parts a.next-player a.next-board a.local-boards a.global-states a.game-state))
+    ap (with_hash (parts a.next-player a.next_board a.local-boards a.global-states a.game-state))
     (sym (xor_zero_r c.before.loop.hash) ∙ (rw e at c.before.loop.invariant.1))
 
 pub pack-spec : {M : Type 1} → statement M

@@ -3,7 +3,7 @@ use mathlib.Core.Logic.{inl, inr}
 use mathlib.Core.Path.{◌≡◌, ◌∙◌}
 use lib.ListN.{length, length-map}
 use borrow.Author.Rules.{rules}
-use Rattle.game.proofs.Meaning.{play-makes, next-only, next-any}
+use Rattle.game.proofs.Meaning.{play_makes, next_only, next_any}
 use Rattle.game.proofs.Game.play.Statement.{statement}
 use Rattle.game.proofs.Game.play.Tie as tie
 
@@ -51,14 +51,14 @@ returns c =
     let g = start.args.self in
     let h = start.requires in
     let n : length g.local_boards.rows ≡ 3 = simp length-map at start.well-formed.0.1.1.1.1.0.1.1.0.1.0.1 in
-    play-makes g start.args.global start.args.local n h.0 h.1 h.2 h.3 _ _ _ _ _ _ _ _
+    play_makes g start.args.global start.args.local n h.0 h.1 h.2 h.3 _ _ _ _ _ _ _ _
     c.other.ensures
     (elim c.before.if1.branch [
-      | inl w ↦ w.1 ∙ next-only _ _ _ c.before.before.in-play.ensures w.0.taken
-      | inr w ↦ w.1 ∙ next-any _ _ _ c.before.before.in-play.ensures w.0.left
+      | inl w ↦ w.1 ∙ next_only _ _ _ c.before.before.in_play.ensures w.0.taken
+      | inr w ↦ w.1 ∙ next_any _ _ _ c.before.before.in_play.ensures w.0.left
     ])
     boards.set.ensures winner.check-winner.ensures states.set2.ensures c.before.before.before.check-winner2.ensures
-    square.for-square.ensures closing.hash-after.ensures
+    square.for-square.ensures closing.hash_after.ensures
 
 pub play-spec : {M : Type 1} → statement M
 play-spec =

@@ -2,8 +2,8 @@
 use mathlib.Core.Path.{sym, ◌∙◌}
 use borrow.Author.Tests.{not-true, not-false}
 use borrow.Author.Rules.{rules}
-use Rattle.game.specs.Meaning.{position-of}
-use Rattle.game.proofs.MeaningMoves.{none_over, none-due, all-open, one-open}
+use Rattle.game.specs.Meaning.{position_of}
+use Rattle.game.proofs.MeaningMoves.{none_over, none_due, all_open, one_open}
 use Rattle.game.proofs.Game.playable.Statement.{statement}
 use Rattle.game.proofs.Game.playable.Tie as tie
 
@@ -11,7 +11,7 @@ game-over-requires : tie.Need-game-over-requires
 game-over-requires c κs = search rules
 
 returns : tie.Need-returns
-returns c = none_over (position-of c.before.before.args.self) (not-true _ (sym c.before.game-over.ensures ∙ c.if1.true))
+returns c = none_over (position_of c.before.before.args.self) (not-true _ (sym c.before.game-over.ensures ∙ c.if1.true))
 
 openbits-requires : tie.Need-openbits-requires
 openbits-requires c κs = search rules
@@ -32,7 +32,7 @@ returns-2 : tie.Need-returns-2
 returns-2 c =
     let opened = c.before.before in
     let unfinished = opened.before.before in
-    all-open (position-of unfinished.before.before.args.self) _
+    all_open (position_of unfinished.before.before.args.self) _
     (not-false _ (sym unfinished.before.game-over.ensures ∙ unfinished.if1.false))
     opened.openbits.ensures
     c.enum_told.given.1
@@ -40,14 +40,14 @@ returns-2 c =
 returns-3 : tie.Need-returns-3
 returns-3 c =
     let next = c.before.before in
-    none-due (position-of next.before.before.before.before.before.before.args.self) _ next.next.given.1 c.if2.true
+    none_due (position_of next.before.before.before.before.before.before.args.self) _ next.next.given.1 c.if2.true
 
 returns-4 : tie.Need-returns-4
 returns-4 c =
     let next = c.before.before in
     let opened = next.before.before in
     let unfinished = opened.before.before in
-    one-open (position-of unfinished.before.before.args.self) _
+    one_open (position_of unfinished.before.before.args.self) _
     (not-false _ (sym unfinished.before.game-over.ensures ∙ unfinished.if1.false))
     opened.openbits.ensures _
     next.next.given.1

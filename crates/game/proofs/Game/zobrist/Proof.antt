@@ -3,8 +3,8 @@ use mathlib.Core.Logic.{inl, inr}
 use mathlib.Core.Path.{ap, ◌∙◌}
 use lib.Bits.{bit_xor}
 use borrow.Author.Rules.{rules}
-use Rattle.rules.specs.Hash.{with-turn}
-use Rattle.game.proofs.AfterHash.{turn-any, turn-only}
+use Rattle.rules.specs.Hash.{with_turn}
+use Rattle.game.proofs.AfterHash.{turn_any, turn_only}
 use Rattle.game.proofs.Game.zobrist.Statement.{statement}
 use Rattle.game.proofs.Game.zobrist.Tie as tie
 
@@ -27,10 +27,10 @@ for-player-requires-2 : tie.Need-for-player-requires-2
 for-player-requires-2 c κs = search rules
 
 returns : tie.Need-returns
-unfolding with-turn
+unfolding with_turn
 returns c = let g = c.before.before.before.args.self in elim c.before.before.match.branch [
-  | inl w ↦ ap (bit_xor g.hash) (w.3 ∙ turn-any g.next_board g.next_player _ w.2.ensures w.1.given.1)
-  | inr w ↦ ap (bit_xor g.hash) (w.5 ∙ turn-only g.next_board g.next_player _ w.4.ensures _ _ w.1.given.1
+  | inl w ↦ ap (bit_xor g.hash) (w.3 ∙ turn_any g.next_board g.next_player _ w.2.ensures w.1.given.1)
+  | inr w ↦ ap (bit_xor g.hash) (w.5 ∙ turn_only g.next_board g.next_player _ w.4.ensures _ _ w.1.given.1
       w.3.ensures)
 ]
 

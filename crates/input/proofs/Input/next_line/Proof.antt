@@ -5,8 +5,8 @@ use native.Mathlib.Omega.{arith}
 use lib.ListN.{length}
 use borrow.Author.Rules.{rules}
 use Rattle.input.specs.declared.Input.{Input}
-use Rattle.input.proofs.Lines.{Went, went-none, went_on, reads, reads_end}
-use Rattle.input.proofs.LinesReads.{gave-a-byte}
+use Rattle.input.proofs.Lines.{Went, went_none, went_on, reads, reads_end}
+use Rattle.input.proofs.LinesReads.{gave_a_byte}
 use Rattle.input.proofs.Input.next_line.Statement.{statement}
 use Rattle.input.proofs.Input.next_line.Tie as tie
 
@@ -22,7 +22,7 @@ begun-requires : tie.Need-begun-requires invariant-loop decreases-loop
 begun-requires c κs = search rules
 
 loop-holds : tie.Need-loop-init invariant-loop decreases-loop
-loop-holds c = (went-none _ _ _ _ (omega arith), ap (λ (i : Input). i.failed) c.begun.ensures, search rules, search rules)
+loop-holds c = (went_none _ _ _ _ (omega arith), ap (λ (i : Input). i.failed) c.begun.ensures, search rules, search rules)
 
 take-requires : tie.Need-take-requires invariant-loop decreases-loop
 take-requires c κs = search rules
@@ -85,7 +85,7 @@ loop-again c =
     let e = c.before.before.refilled.ensures in (
       went_on _ _ _ l.turns l.input l.buffer l.auto at_take.take.result _ _
           at_read.read.new.1.0 _ _ l.invariant.0 at_take.take.ensures at-if1.if1.false e (omega arith),
-      gave-a-byte _ _ _ _ e c.if2.false,
+      gave_a_byte _ _ _ _ e c.if2.false,
       search rules,
       search rules,
     )

@@ -4,9 +4,9 @@ use Prim.Native.Nat.{◌+◌, ◌-◌, ◌<◌, ◌≤◌}
 use native.Mathlib.Omega.{arith}
 use lib.ListN.{length, take, drop, length-take, length-drop, length-set, drop_of_length-le}
 use borrow.Author.Rules.{rules}
-use Rattle.base.proofs.LineFeed.{all-taken-at}
-use Rattle.input.specs.Lines.{kept-with, line_taken}
-use Rattle.input.proofs.Lines.{buffer-byte-taken, buffer-feed-found, takes}
+use Rattle.base.proofs.LineFeed.{all_taken_at}
+use Rattle.input.specs.Lines.{kept_with, line_taken}
+use Rattle.input.proofs.Lines.{buffer_byte_taken, buffer_feed_found, takes}
 use Rattle.input.proofs.Input.take.Statement.{statement}
 use Rattle.input.proofs.Input.take.Tie as tie
 
@@ -43,7 +43,7 @@ returns c =
     let all = take a.self.end a.buffer.now in
     let h : l.i < length all = omega arith in
     takes a.self a.buffer.now a.kept.now _ _ (l.invariant.0
-    ∙ buffer-feed-found a.self.end a.buffer.now l.line l.auto l.i h c.if1.true) refl refl refl refl refl
+    ∙ buffer_feed_found a.self.end a.buffer.now l.line l.auto l.i h c.if1.true) refl refl refl refl refl
     (omega (arith, length-drop a.self.at all, length-drop (l.i + 1) all))
 
 push-requires : tie.Need-push-requires invariant-loop decreases-loop
@@ -60,7 +60,7 @@ loop-again c =
     let l = at-loop.loop in
     let p = c.before.before.push.ensures in
     let h : l.i < length (take a.self.end a.buffer.now) = omega arith in (
-      rw (p.0, p.1) (l.invariant.0 ∙ buffer-byte-taken a.self.end a.buffer.now l.line l.auto l.i h
+      rw (p.0, p.1) (l.invariant.0 ∙ buffer_byte_taken a.self.end a.buffer.now l.line l.auto l.i h
           c.before.before.before.before.if1.false),
       l.invariant.1,
       omega arith,
@@ -78,7 +78,7 @@ returns-2 c =
     let all = take a.self.end a.buffer.now in
     let h : length all ≤ l.i = omega arith in
     takes a.self a.buffer.now a.kept.now _ _ (l.invariant.0
-    ∙ all-taken-at kept-with all (record { counted = l.line; kept = l.auto }) l.i h) refl refl refl refl (drop_of_length-le all h)
+    ∙ all_taken_at kept_with all (record { counted = l.line; kept = l.auto }) l.i h) refl refl refl refl (drop_of_length-le all h)
     (omega (arith, length-drop a.self.at all))
 
 pub take_spec : {M : Type 1} → statement M

@@ -3,7 +3,7 @@ use lib.Seq.{length-take-le}
 use borrow.Author.Rules.{rules}
 use borrow.Author.Tests.{le-leb, lt-leb}
 use Rattle.base.specs.Branch.{if◌then◌else◌}
-use Rattle.input.specs.Lines.{complete-line}
+use Rattle.input.specs.Lines.{complete_line}
 use Rattle.input.proofs.InputLine.whole.Statement.{statement}
 use Rattle.input.proofs.InputLine.whole.Tie as tie
 
@@ -15,11 +15,11 @@ slice-aggregate-result-2 : tie.Need-slice-aggregate-result-2
 slice-aggregate-result-2 c = search rules
 
 returns : tie.Need-returns
-unfolding complete-line if◌then◌else◌
+unfolding complete_line if◌then◌else◌
 returns c = rw (le-leb _ _ c.before.if1.true)
 
 returns-2 : tie.Need-returns-2
-unfolding complete-line if◌then◌else◌
+unfolding complete_line if◌then◌else◌
 returns-2 c = rw (lt-leb _ _ c.before.if1.false)
 
 pub whole-spec : {M : Type 1} → statement M

@@ -3,7 +3,7 @@ use mathlib.Core.Path.{◌≡◌, refl, ◌∙◌}
 use Prim.Native.Nat.{◌+◌, ◌-◌}
 use lib.ListN.{length, drop, length-set}
 use lib.Seq.{sets}
-use Rattle.interface.proofs.LentPlaces.{sets-start, sets-next, sets_end}
+use Rattle.interface.proofs.LentPlaces.{sets_start, sets_next, sets_end}
 use borrow.Author.Rules.{rules}
 use Rattle.interface.proofs.lent.put_bytes.Statement.{statement}
 use Rattle.interface.proofs.lent.put_bytes.Tie as tie
@@ -16,7 +16,7 @@ abbrev decreases-loop : tie.decreases-loop
 decreases-loop out₀ at bytes i₀ i-end out i = i-end - i
 
 loop-holds : tie.Need-loop-init invariant-loop decreases-loop
-loop-holds c = (refl, refl, sets-start c.args.out.now c.args.at c.args.bytes.now)
+loop-holds c = (refl, refl, sets_start c.args.out.now c.args.at c.args.bytes.now)
 
 shared-slice-read-out : tie.Need-shared-slice-read-out invariant-loop decreases-loop
 shared-slice-read-out c = search rules
@@ -39,7 +39,7 @@ loop-again c =
     let s = c.before.before.before.args in (
       refl,
       simp length-set l.invariant.1,
-      sets-next l.out s.at l.i s.bytes.now _ c.before.loop-test.true refl
+      sets_next l.out s.at l.i s.bytes.now _ c.before.loop-test.true refl
           ∙ l.invariant.2,
     )
 

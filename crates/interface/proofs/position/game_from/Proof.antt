@@ -1,6 +1,6 @@
 -- A position has twelve words, each within its bound.
 use native.Mathlib.Omega.{arith}
-use Rattle.interface.proofs.PositionWords.{twelve, word-most, game-made}
+use Rattle.interface.proofs.PositionWords.{twelve, word_most, game_made}
 use borrow.Author.Rules.{rules}
 use Rattle.interface.proofs.position.game_from.Statement.{statement}
 use Rattle.interface.proofs.position.game_from.Tie as tie
@@ -21,7 +21,7 @@ shared-slice-read-next-board-from c =
 next-board-from-requires : tie.Need-next-board-from-requires
 next-board-from-requires c κs =
     let s = c.before.before.before.before in
-    omega (arith, word-most s.args.words.now s.requires 9 (omega arith))
+    omega (arith, word_most s.args.words.now s.requires 9 (omega arith))
 
 shared-slice-read-row : tie.Need-shared-slice-read-row
 shared-slice-read-row c =
@@ -36,8 +36,8 @@ shared-slice-read-row-2 c =
 row-requires : tie.Need-row-requires
 row-requires c κs =
     let s = c.before.before.before.before.before.before.before in (
-      omega (arith, word-most s.args.words.now s.requires 0 (omega arith)),
-      omega (arith, word-most s.args.words.now s.requires 1 (omega arith)),
+      omega (arith, word_most s.args.words.now s.requires 0 (omega arith)),
+      omega (arith, word_most s.args.words.now s.requires 1 (omega arith)),
     )
 
 shared-slice-read-row-3 : tie.Need-shared-slice-read-row-3
@@ -53,8 +53,8 @@ shared-slice-read-row-4 c =
 row-requires-2 : tie.Need-row-requires-2
 row-requires-2 c κs =
     let s = c.before.before.before.before.before.before.before.before.before.before in (
-      omega (arith, word-most s.args.words.now s.requires 2 (omega arith)),
-      omega (arith, word-most s.args.words.now s.requires 3 (omega arith)),
+      omega (arith, word_most s.args.words.now s.requires 2 (omega arith)),
+      omega (arith, word_most s.args.words.now s.requires 3 (omega arith)),
     )
 
 shared-slice-read-row-5 : tie.Need-shared-slice-read-row-5
@@ -70,8 +70,8 @@ shared-slice-read-row-6 c =
 row-requires-3 : tie.Need-row-requires-3
 row-requires-3 c κs =
     let s = c.before.before.before.before.before.before.before.before.before.before.before.before.before in (
-      omega (arith, word-most s.args.words.now s.requires 4 (omega arith)),
-      omega (arith, word-most s.args.words.now s.requires 5 (omega arith)),
+      omega (arith, word_most s.args.words.now s.requires 4 (omega arith)),
+      omega (arith, word_most s.args.words.now s.requires 5 (omega arith)),
     )
 
 shared-slice-read-t26 : tie.Need-shared-slice-read-t26
@@ -82,7 +82,7 @@ shared-slice-read-t26 c =
 cast-t27 : tie.Need-overflow-cast-t27
 cast-t27 c =
     let s = c.before.before.before.before.before.before.before.before.before.before.before.before.before.before.before in
-    record { fits = omega (arith, word-most s.args.words.now s.requires 6 (omega arith)) }
+    record { fits = omega (arith, word_most s.args.words.now s.requires 6 (omega arith)) }
 
 shared-slice-read-t29 : tie.Need-shared-slice-read-t29
 shared-slice-read-t29 c =
@@ -92,7 +92,7 @@ shared-slice-read-t29 c =
 cast-t30 : tie.Need-overflow-cast-t30
 cast-t30 c =
     let s = c.before.before.before.before.before.before.before.before.before.before.before.before.before.before.before.before in
-    record { fits = omega (arith, word-most s.args.words.now s.requires 7 (omega arith)) }
+    record { fits = omega (arith, word_most s.args.words.now s.requires 7 (omega arith)) }
 
 shared-slice-read-state-from : tie.Need-shared-slice-read-state-from
 shared-slice-read-state-from c =
@@ -116,7 +116,7 @@ returns c =
     let due = row1.before.before.before in
     let side = due.before.before in
     let s = side.before.before.before in
-    game-made s.args.words.now _ _ _ _ _ _ side.side-from.ensures due.next-board-from.ensures state.state-from.ensures
+    game_made s.args.words.now _ _ _ _ _ _ side.side_from.ensures due.next_board_from.ensures state.state_from.ensures
     row1.row.ensures row2.row2.ensures row3.row3.ensures
 
 pub game-from-spec : {M : Type 1} → statement M

@@ -3,20 +3,20 @@ use mathlib.Core.Path.{◌≡◌, refl, sym, ◌∙◌}
 use Prim.Native.Nat.{◌-◌, ◌≤◌}
 use native.Mathlib.Omega.{arith}
 use lib.ListN.{length, drop}
-use Rattle.interface.specs.Position.{most, all-within}
-use Rattle.interface.proofs.PositionWords.{within-short, within-over, within-under, within_end}
+use Rattle.interface.specs.Position.{most, all_within}
+use Rattle.interface.proofs.PositionWords.{within_short, within_over, within_under, within_end}
 use borrow.Author.Rules.{rules}
 use Rattle.interface.proofs.position.is_position.Statement.{statement}
 use Rattle.interface.proofs.position.is_position.Tie as tie
 
 abbrev invariant-loop : tie.invariant-loop
-invariant-loop words i₀ i = (12 ≤ length words) × (i ≤ 12) × (all-within most words ≡ all-within (drop i most) (drop i words))
+invariant-loop words i₀ i = (12 ≤ length words) × (i ≤ 12) × (all_within most words ≡ all_within (drop i most) (drop i words))
 
 abbrev decreases-loop : tie.decreases-loop
 decreases-loop words i₀ i = 12 - i
 
 returns : tie.Need-returns invariant-loop decreases-loop
-returns c = within-short most c.before.args.words.now c.if1.true
+returns c = within_short most c.before.args.words.now c.if1.true
 
 loop-holds : tie.Need-loop-init invariant-loop decreases-loop
 loop-holds c = (c.if1.false, omega arith, refl)
@@ -36,7 +36,7 @@ array-read-if2 c = search rules
 returns-2 : tie.Need-returns-2 invariant-loop decreases-loop
 returns-2 c =
     let l = c.before.before.before.loop in
-    sym (l.invariant.2 ∙ within-over most c.before.before.before.before.before.args.words.now l.i
+    sym (l.invariant.2 ∙ within_over most c.before.before.before.before.before.args.words.now l.i
     c.before.before.loop-test.true (omega (arith, c.before.before.loop-test.true, l.invariant.0)) c.if2.true)
 
 add-i : tie.Need-overflow-add-i invariant-loop decreases-loop
@@ -51,7 +51,7 @@ loop-again c =
       l.invariant.0,
       omega (arith, c.before.before.loop-test.true),
       l.invariant.2
-          ∙ within-under most c.before.before.before.before.before.args.words.now l.i c.before.before.loop-test.true
+          ∙ within_under most c.before.before.before.before.before.args.words.now l.i c.before.before.loop-test.true
           (omega (arith, c.before.before.loop-test.true, l.invariant.0)) c.if2.false,
     )
 

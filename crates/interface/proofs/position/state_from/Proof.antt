@@ -19,7 +19,7 @@ side-from-requires : tie.Need-side-from-requires
 side-from-requires c κs = search rules
 
 returns-3 : tie.Need-returns-3
-returns-3 c = simp (ne_eqb _ _ c.before.before.if1.false, ne_eqb _ _ c.before.if2.false) (ap Won c.side-from.ensures)
+returns-3 c = simp (ne_eqb _ _ c.before.before.if1.false, ne_eqb _ _ c.before.if2.false) (ap Won c.side_from.ensures)
 
 pub state-from-spec : {M : Type 1} → statement M
 state-from-spec = tie.close (tie.spec returns returns-2 sub-side-from side-from-requires returns-3)

@@ -1,7 +1,7 @@
 -- Three rows give six words.
 use mathlib.Core.Path.{◌≡◌}
 use lib.ListN.{length, length-map}
-use Rattle.interface.proofs.PositionWords.{words-made}
+use Rattle.interface.proofs.PositionWords.{words_made}
 use borrow.Author.Rules.{rules}
 use Rattle.interface.proofs.position.words_of.Statement.{statement}
 use Rattle.interface.proofs.position.words_of.Tie as tie
@@ -67,9 +67,9 @@ returns c =
     let at_place = at_wide.before.before.before.before in
     let s = at_place in
     let n : length s.args.game.local_boards.rows ≡ 3 = simp length-map at s.well-formed.0.1.1.1.1.0.1.1.0.1.0.1 in
-    words-made s.args.game _ _ _ _ _ _ _ _ _ n at_wide.wide.ensures at-wide2.wide2.ensures at-wide3.wide3.ensures
+    words_made s.args.game _ _ _ _ _ _ _ _ _ n at_wide.wide.ensures at-wide2.wide2.ensures at-wide3.wide3.ensures
     at-wide4.wide4.ensures at-wide5.wide5.ensures c.before.before.before.before.before.wide6.ensures
-    c.before.before.as-bit.ensures c.before.next-board-word.ensures c.number.ensures
+    c.before.before.as-bit.ensures c.before.next_board_word.ensures c.number.ensures
 
 pub words-of-spec : {M : Type 1} → statement M
 words-of-spec =

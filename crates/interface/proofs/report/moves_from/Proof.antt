@@ -4,7 +4,7 @@ use Prim.Native.Nat.{◌-◌, ◌≤◌}
 use native.Mathlib.Omega.{arith}
 use lib.ListN.{length, drop, take, length-set}
 use Rattle.minimax.specs.Report.{bytes_of}
-use Rattle.interface.proofs.CallsReport.{moves_next, moves-end}
+use Rattle.interface.proofs.CallsReport.{moves_next, moves_end}
 use borrow.Author.Rules.{rules}
 use Rattle.interface.proofs.report.moves_from.Statement.{statement}
 use Rattle.interface.proofs.report.moves_from.Tie as tie
@@ -46,7 +46,7 @@ loop-again c =
 returns : tie.Need-returns invariant-loop decreases-loop
 returns c =
     let l = c.before.loop in
-    moves-end l.moves _ l.i l.invariant.1 (omega (arith, c.loop-test.false, l.invariant.0)) l.invariant.2
+    moves_end l.moves _ l.i l.invariant.1 (omega (arith, c.loop-test.false, l.invariant.0)) l.invariant.2
 
 pub moves-from-spec : {M : Type 1} → statement M
 moves-from-spec =

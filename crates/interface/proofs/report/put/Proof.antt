@@ -3,8 +3,8 @@ use mathlib.Core.Path.{◌≡◌, ap, ◌∙◌}
 use mathlib.Core.List.{[]}
 use lib.ListN.{length, length-map}
 use lib.Seq.{sets}
-use Rattle.minimax.specs.Report.{report-of}
-use Rattle.interface.proofs.CallsReport.{report-put}
+use Rattle.minimax.specs.Report.{report_of}
+use Rattle.interface.proofs.CallsReport.{report_put}
 use borrow.Author.Rules.{rules}
 use Rattle.interface.proofs.report.put.Statement.{statement}
 use Rattle.interface.proofs.report.put.Tie as tie
@@ -36,7 +36,7 @@ returns c =
     let s = at_place in
     let n : length s.args.found.pv ≡ 81 = simp length-map at s.well-formed.1.0.1.1.1.1.1.1.1.0.1.0.1 in
     let k : length s.args.found.stats ≡ 81 = simp length-map at s.well-formed.1.0.1.1.1.1.1.1.1.1.0.1.0.1 in
-    report-put s.args.out.now _ _ _ (report-of s.args.found []) _ _ (simp length-map n) (simp length-map k)
+    report_put s.args.out.now _ _ _ (report_of s.args.found []) _ _ (simp length-map n) (simp length-map k)
     (at-put.put.ensures ∙ ap (sets s.args.out.now 0) at_head.head.ensures) at-put-line.put-line.ensures
     c.before.before.put-stats.ensures
 

@@ -1,6 +1,6 @@
 -- The responses to O's moves follow those to X's.
 use lib.ListN.{length-map}
-use Rattle.interface.proofs.CallsReport.{both-put}
+use Rattle.interface.proofs.CallsReport.{both_put}
 use borrow.Author.Rules.{rules}
 use Rattle.interface.proofs.report.put_memory.Statement.{statement}
 use Rattle.interface.proofs.report.put_memory.Tie as tie
@@ -17,7 +17,7 @@ same_length c = search rules
 returns : tie.Need-returns
 returns c =
     let s = c.before.before.before.before.before.before.before.before.before.before.before.before in
-    both-put s.args.responses.now _ _ s.args.state.responses.x s.args.state.responses.o
+    both_put s.args.responses.now _ _ s.args.state.responses.x s.args.state.responses.o
     (simp length-map at s.well-formed.1.0.1.1.0.1.1.0.1.0.1) (simp length-map at s.well-formed.1.0.1.1.0.1.1.1.0.1.0.1)
     c.before.before.before.before.before.before.put-moves.ensures c.before.before.put-moves2.ensures
 

@@ -5,7 +5,7 @@ use native.Mathlib.Omega.{arith}
 use lib.ListN.{length, drop, length-set, length-map, get_or-map}
 use lib.Seq.{sets}
 use Rattle.minimax.specs.Report.{byte_of, bytes_of}
-use Rattle.interface.proofs.LentPlaces.{sets-start, sets-next, sets_end}
+use Rattle.interface.proofs.LentPlaces.{sets_start, sets_next, sets_end}
 use borrow.Author.Rules.{rules}
 use Rattle.interface.proofs.report.put_moves.Statement.{statement}
 use Rattle.interface.proofs.report.put_moves.Tie as tie
@@ -18,7 +18,7 @@ abbrev decreases-loop : tie.decreases-loop
 decreases-loop out₀ at moves i₀ out i = 256 - i
 
 loop-holds : tie.Need-loop-init invariant-loop decreases-loop
-loop-holds c = (refl, sets-start c.args.out.now c.args.at (bytes_of c.args.t3))
+loop-holds c = (refl, sets_start c.args.out.now c.args.at (bytes_of c.args.t3))
 
 array-copy-out-m : tie.Need-array-copy-out-m invariant-loop decreases-loop
 array-copy-out-m c = search rules
@@ -42,7 +42,7 @@ loop-again c =
     let n : length s.args.t3 ≡ 256 = s.well-formed.1.1.0.1.0.1 in
     let h : l.i < length (bytes_of s.args.t3) = simp length-map (omega (arith, c.before.loop-test.true)) in (
       simp length-set l.invariant.0,
-      sets-next l.out s.args.at l.i (bytes_of s.args.t3) _ h
+      sets_next l.out s.args.at l.i (bytes_of s.args.t3) _ h
           (sym (get_or-map byte_of s.args.t3 l.i (record { bits = 0 }))) ∙ l.invariant.1,
     )
 

@@ -5,9 +5,9 @@ use Prim.Native.Nat.{◌+◌, ◌*◌, ◌-◌}
 use native.Mathlib.Omega.{arith}
 use lib.ListN.{length, drop}
 use lib.Seq.{sets}
-use Rattle.minimax.specs.Report.{stats-of}
-use Rattle.interface.specs.Calls.{all-stats}
-use Rattle.interface.proofs.CallsReport.{stats-start, stats-next, stats-end}
+use Rattle.minimax.specs.Report.{stats_of}
+use Rattle.interface.specs.Calls.{all_stats}
+use Rattle.interface.proofs.CallsReport.{stats_start, stats_next, stats_end}
 use borrow.Author.Rules.{rules}
 use Rattle.interface.proofs.report.put_stats.Statement.{statement}
 use Rattle.interface.proofs.report.put_stats.Tie as tie
@@ -15,13 +15,13 @@ use Rattle.interface.proofs.report.put_stats.Tie as tie
 abbrev invariant-loop : tie.invariant-loop
 invariant-loop out₀ at stats i₀ out i =
     (length out ≡ length out₀) ×
-    (sets out (at + 7 * i) (all-stats (map stats-of (drop i stats))) ≡ sets out₀ at (all-stats (map stats-of stats)))
+    (sets out (at + 7 * i) (all_stats (map stats_of (drop i stats))) ≡ sets out₀ at (all_stats (map stats_of stats)))
 
 abbrev decreases-loop : tie.decreases-loop
 decreases-loop out₀ at stats i₀ out i = 81 - i
 
 loop-holds : tie.Need-loop-init invariant-loop decreases-loop
-loop-holds c = (refl, stats-start c.before.args.out.now c.before.args.at c.before.args.t3)
+loop-holds c = (refl, stats_start c.before.args.out.now c.before.args.at c.before.args.t3)
 
 mul-stats-words : tie.Need-overflow-mul-stats-words invariant-loop decreases-loop
 mul-stats-words c = search rules
@@ -59,9 +59,9 @@ loop-again c =
     let l = at-loop-2.loop in
     let s = at_place in
     let n : length s.args.t3 ≡ 81 = s.well-formed.1.1.0.1.0.1 in
-    let put = at-put.put.ensures ∙ ap (sets l.out (s.args.at + 7 * l.i)) at-put.before.before.before.stats-words.ensures in (
+    let put = at-put.put.ensures ∙ ap (sets l.out (s.args.at + 7 * l.i)) at-put.before.before.before.stats_words.ensures in (
       at-put.put.auto.0 ∙ l.invariant.0,
-      stats-next l.out _ s.args.at l.i s.args.t3 _
+      stats_next l.out _ s.args.at l.i s.args.t3 _
           (omega (arith, at-loop.loop-test.true)) put ∙ l.invariant.1,
     )
 
@@ -72,7 +72,7 @@ returns : tie.Need-returns invariant-loop decreases-loop
 returns c = let l = c.before.loop in
     let s = c.before.before.before in
     let n : length s.args.t3 ≡ 81 = s.well-formed.1.1.0.1.0.1 in
-    stats-end l.out _ (s.args.at + 7 * l.i) l.i s.args.t3 (omega (arith, c.loop-test.false)) l.invariant.1
+    stats_end l.out _ (s.args.at + 7 * l.i) l.i s.args.t3 (omega (arith, c.loop-test.false)) l.invariant.1
 
 pub put-stats-spec : {M : Type 1} → statement M
 put-stats-spec =

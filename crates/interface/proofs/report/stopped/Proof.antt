@@ -2,7 +2,7 @@
 use mathlib.Core.Path.{sym, ap, ◌∙◌}
 use mathlib.Core.Bool.{cond}
 use Rattle.minimax.specs.declared.Ending.{Ending}
-use Rattle.minimax.specs.Report.{ending-stopped}
+use Rattle.minimax.specs.Report.{ending_stopped}
 use borrow.Author.Rules.{rules}
 use Rattle.interface.proofs.report.stopped.Statement.{statement}
 use Rattle.interface.proofs.report.stopped.Tie as tie
@@ -26,7 +26,7 @@ returns-2 : tie.Need-returns-2
 returns-2 c = search rules
 
 returns-3 : tie.Need-returns-3
-returns-3 c = c.spent.ensures ∙ ap (λ (e : Ending). cond (ending-stopped e) 1 0) (sym c.before.before.ending.given.1)
+returns-3 c = c.spent.ensures ∙ ap (λ (e : Ending). cond (ending_stopped e) 1 0) (sym c.before.before.ending.given.1)
 
 pub stopped-spec : {M : Type 1} → statement M
 stopped-spec =

@@ -16,7 +16,7 @@ side-from-requires : tie.Need-side-from-requires
 side-from-requires c κs = search rules
 
 returns-2 : tie.Need-returns-2
-returns-2 c = simp (ne_eqb _ _ c.before.if1.false) (ap Side c.side-from.ensures)
+returns-2 c = simp (ne_eqb _ _ c.before.if1.false) (ap Side c.side_from.ensures)
 
 pub draws-from-spec : {M : Type 1} → statement M
 draws-from-spec = tie.close (tie.spec returns sub-side-from side-from-requires returns-2)

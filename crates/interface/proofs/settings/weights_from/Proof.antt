@@ -1,5 +1,5 @@
 -- Each word is read and held.
-use Rattle.interface.proofs.SettingsHeld.{weights-made}
+use Rattle.interface.proofs.SettingsHeld.{weights_made}
 use borrow.Author.Rules.{rules}
 use Rattle.interface.proofs.settings.weights_from.Statement.{statement}
 use Rattle.interface.proofs.settings.weights_from.Tie as tie
@@ -42,7 +42,7 @@ returns c =
     let second = c.before.before in
     let first = second.before.before in
     let s = first.before.before.before.args in
-    weights-made s.words.now s.at first.weight-from.ensures second.weight-from2.ensures c.weight-from3.ensures
+    weights_made s.words.now s.at first.weight-from.ensures second.weight-from2.ensures c.weight-from3.ensures
 
 pub weights-from-spec : {M : Type 1} → statement M
 weights-from-spec =

@@ -1,7 +1,7 @@
 -- Each case has its longer one.
 use mathlib.Core.Path.{sym, ap}
 use Rattle.line_buffer.specs.declared.AfterBlank.{AfterBlank}
-use Rattle.line_buffer.specs.Buffer.{after-with}
+use Rattle.line_buffer.specs.Buffer.{after_with}
 use borrow.Author.Rules.{rules}
 use Rattle.line_buffer.proofs.AfterBlank.longer.Statement.{statement}
 use Rattle.line_buffer.proofs.AfterBlank.longer.Tie as tie
@@ -19,10 +19,10 @@ enum-told-3 : tie.Need-enum-told-3
 enum-told-3 c = search rules
 
 returns : tie.Need-returns
-returns c = sym (ap (λ (a : AfterBlank). after-with a c.before.before.args.b) c.enum_told.given.1)
+returns c = sym (ap (λ (a : AfterBlank). after_with a c.before.before.args.b) c.enum_told.given.1)
 
 returns-2 : tie.Need-returns-2
-returns-2 c = sym (ap (λ (a : AfterBlank). after-with a c.before.before.before.args.b) c.before.self.given.1)
+returns-2 c = sym (ap (λ (a : AfterBlank). after_with a c.before.before.before.args.b) c.before.self.given.1)
 
 returns-3 : tie.Need-returns-3
 returns-3 c = search rules

@@ -1,5 +1,5 @@
 -- Each part is what the byte makes of it.
-use Rattle.line_buffer.proofs.Buffer.{pushed-parts}
+use Rattle.line_buffer.proofs.Buffer.{pushed_parts}
 use borrow.Author.Rules.{rules}
 use Rattle.line_buffer.proofs.LineBuffer.push.Statement.{statement}
 use Rattle.line_buffer.proofs.LineBuffer.push.Tie as tie
@@ -21,8 +21,8 @@ push-requires c κs = search rules
 
 returns : tie.Need-returns
 returns c =
-    pushed-parts _ _ _ _ _ _ c.before.before.before.before.keep.ensures c.before.before.one-more-kept.ensures
-    c.before.before-blank.ensures c.push.ensures
+    pushed_parts _ _ _ _ _ _ c.before.before.before.before.keep.ensures c.before.before.one-more-kept.ensures
+    c.before.before_blank.ensures c.push.ensures
 
 pub push_spec : {M : Type 1} → statement M
 push_spec =

@@ -4,13 +4,13 @@ use Prim.Native.Nat.{◌+◌, ◌-◌}
 use lib.ListN.{length, drop}
 use borrow.Author.Rules.{rules}
 use Rattle.line_buffer.specs.declared.LineBuffer.{LineBuffer}
-use Rattle.line_buffer.specs.Buffer.{pushed-all}
-use Rattle.line_buffer.proofs.Buffer.{pushed-next, pushed-end}
+use Rattle.line_buffer.specs.Buffer.{pushed_all}
+use Rattle.line_buffer.proofs.Buffer.{pushed_next, pushed_end}
 use Rattle.line_buffer.proofs.LineBuffer.push_all.Statement.{statement}
 use Rattle.line_buffer.proofs.LineBuffer.push_all.Tie as tie
 
 abbrev invariant-loop : tie.invariant-loop
-invariant-loop bytes line₀ i₀ i-end line i = (i-end ≡ length bytes) × (pushed-all line (drop i bytes) ≡ pushed-all line₀ bytes)
+invariant-loop bytes line₀ i₀ i-end line i = (i-end ≡ length bytes) × (pushed_all line (drop i bytes) ≡ pushed_all line₀ bytes)
 
 abbrev decreases-loop : tie.decreases-loop
 decreases-loop bytes line₀ i₀ i-end line i = i-end - i
@@ -35,14 +35,14 @@ loop-again c =
     let l = c.before.before.before.loop in
     let bs = c.before.before.before.before.before.args.bytes.now in (
       refl,
-      ap (λ (h : LineBuffer). pushed-all h (drop (l.i + 1) bs)) c.push.ensures
-          ∙ pushed-next l.line bs l.i 0 c.before.before.loop-test.true ∙ l.invariant.1,
+      ap (λ (h : LineBuffer). pushed_all h (drop (l.i + 1) bs)) c.push.ensures
+          ∙ pushed_next l.line bs l.i 0 c.before.before.loop-test.true ∙ l.invariant.1,
     )
 
 returns : tie.Need-returns invariant-loop decreases-loop
 returns c =
     let l = c.before.loop in
-    sym (pushed-end l.line c.before.before.before.args.bytes.now l.i c.loop-test.false) ∙ l.invariant.1
+    sym (pushed_end l.line c.before.before.before.args.bytes.now l.i c.loop-test.false) ∙ l.invariant.1
 
 pub push-all-spec : {M : Type 1} → statement M
 push-all-spec =

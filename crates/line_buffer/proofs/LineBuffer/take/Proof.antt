@@ -5,13 +5,13 @@ use Prim.Native.Nat.{ℕ, ◌-◌, ◌≤◌}
 use native.Mathlib.Omega.{arith}
 use lib.ListN.{length, length-map, length-set, drop, length-drop}
 use borrow.Author.Rules.{rules}
-use Rattle.base.proofs.LineFeed.{feed-found-at, all-taken-at}
+use Rattle.base.proofs.LineFeed.{feed_found_at, all_taken_at}
 use Rattle.line_buffer.specs.declared.AfterBlank.{AfterBlank}
 use Rattle.line_buffer.specs.declared.LineBuffer.{LineBuffer}
 use Rattle.line_buffer.specs.Buffer.{pushed}
 use Rattle.line_buffer.specs.Taking.{buffered}
-use Rattle.line_buffer.proofs.Buffer.{pushed-parts}
-use Rattle.line_buffer.proofs.Taking.{takes, byte-pushed}
+use Rattle.line_buffer.proofs.Buffer.{pushed_parts}
+use Rattle.line_buffer.proofs.Taking.{takes, byte_pushed}
 use Rattle.line_buffer.proofs.LineBuffer.take.Statement.{statement}
 use Rattle.line_buffer.proofs.LineBuffer.take.Tie as tie
 
@@ -39,7 +39,7 @@ returns : tie.Need-returns invariant-loop decreases-loop
 returns c =
     let l = c.before.before.before in
     takes _ l.before.before.before.args.bytes.now _ _ _ (l.loop.invariant.0
-    ∙ feed-found-at pushed _ _ l.loop.i c.before.before.loop-test.true c.if1.true) refl refl
+    ∙ feed_found_at pushed _ _ l.loop.i c.before.before.loop-test.true c.if1.true) refl refl
     (simp length-drop (omega (arith, l.loop.invariant.1, c.before.before.loop-test.true)))
 
 slice-aggregate-keep : tie.Need-slice-aggregate-keep invariant-loop decreases-loop
@@ -65,8 +65,8 @@ loop-again c =
     let k = c.before.before.before.before in
     let t = k.before.before.before.before in
     let l = t.before.loop in (
-      byte-pushed _ _ _ _ l.i t.loop-test.true k.before.before.if1.false l.invariant.0
-          (pushed-parts _ _ _ _ _ _ k.keep.ensures c.one-more-kept.ensures c.before.before.before-blank.ensures
+      byte_pushed _ _ _ _ l.i t.loop-test.true k.before.before.if1.false l.invariant.0
+          (pushed_parts _ _ _ _ _ _ k.keep.ensures c.one-more-kept.ensures c.before.before.before_blank.ensures
           c.before.push.ensures),
       omega (arith, l.invariant.1),
       rw (k.keep.ensures, length-set) l.invariant.2,
@@ -77,7 +77,7 @@ returns-2 : tie.Need-returns-2 invariant-loop decreases-loop
 returns-2 c =
     let l = c.before in
     takes _ l.before.before.before.args.bytes.now _ _ _ (l.loop.invariant.0
-    ∙ all-taken-at pushed _ _ l.loop.i c.loop-test.false) refl refl
+    ∙ all_taken_at pushed _ _ l.loop.i c.loop-test.false) refl refl
     (simp length-drop (omega (arith, l.loop.invariant.1, l.loop.invariant.3, c.loop-test.false)))
 
 pub take_spec : {M : Type 1} → statement M

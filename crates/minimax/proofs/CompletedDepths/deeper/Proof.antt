@@ -2,7 +2,7 @@
 use mathlib.Core.Path.{◌≡◌, refl}
 use lib.ListN.{length, length-map}
 use Rattle.minimax.proofs.StateScores.{told}
-use Rattle.minimax.proofs.ReportAnswers.{deeper-whole, deeper-empty}
+use Rattle.minimax.proofs.ReportAnswers.{deeper_whole, deeper_empty}
 use borrow.Author.Rules.{rules}
 use Rattle.minimax.proofs.CompletedDepths.deeper.Statement.{statement}
 use Rattle.minimax.proofs.CompletedDepths.deeper.Tie as tie
@@ -26,9 +26,9 @@ returns : tie.Need-returns
 returns c =
     let s = c.before.before.before.before.before.before in
     let n : length s.args.self.stats ≡ 81 = simp length-map at s.well-formed.0.1.1.1.0.1.0.1 in (
-      deeper-whole s.args.self s.args.r c.before.before.of.result s.requires.0 s.requires.1 n s.requires.2
+      deeper_whole s.args.self s.args.r c.before.before.of.result s.requires.0 s.requires.1 n s.requires.2
           c.before.before.of.ensures _ (told s.args.r.score c.struct_told.given.1.1.0.1),
-      deeper-empty s.args.self s.args.r c.before.before.of.result s.requires.0 s.requires.1 n s.requires.2
+      deeper_empty s.args.self s.args.r c.before.before.of.result s.requires.0 s.requires.1 n s.requires.2
           c.before.before.of.ensures _,
       refl,
     )

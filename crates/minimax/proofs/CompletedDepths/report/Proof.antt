@@ -2,7 +2,7 @@
 use mathlib.Core.Path.{◌≡◌}
 use lib.ListN.{length, length-map}
 use Rattle.minimax.proofs.StateScores.{told}
-use Rattle.minimax.proofs.ReportAnswers.{report-made}
+use Rattle.minimax.proofs.ReportAnswers.{report_made}
 use borrow.Author.Rules.{rules}
 use Rattle.minimax.proofs.CompletedDepths.report.Statement.{statement}
 use Rattle.minimax.proofs.CompletedDepths.report.Tie as tie
@@ -18,7 +18,7 @@ returns c =
     let s = c.before.before.before.before.before.before.before.before in
     let n : length s.args.self.pv.moves ≡ 81 = simp length-map at s.well-formed.0.1.1.0.1.1.0.1.0.1 in
     let k : length s.args.self.stats ≡ 81 = simp length-map at s.well-formed.0.1.1.1.0.1.0.1 in
-    report-made s.args.self s.args.state s.args.stopped s.requires n k c.before.before.ending.result
+    report_made s.args.self s.args.state s.args.stopped s.requires n k c.before.before.ending.result
     c.before.before.ending.ensures _ (told s.args.self.score c.struct_told.given.1.1.1.0.1)
 
 pub report-spec : {M : Type 1} → statement M

@@ -5,9 +5,9 @@ use native.Mathlib.Omega.{arith}
 use Rattle.theory.specs.Deepening.{Completed, SearchAnswer}
 use Rattle.theory.specs.Reported.{Reported, report}
 use Rattle.minimax.specs.Structs.{structs}
-use Rattle.minimax.specs.Report.{scoring-of}
-use Rattle.minimax.proofs.ReportDeepening.{Going, Begun, going-first, going_done, Turn, root-asked, root-counted, going-stopped}
-use Rattle.minimax.proofs.ReportDeepening.{line_kept, going-decided, going_on}
+use Rattle.minimax.specs.Report.{scoring_of}
+use Rattle.minimax.proofs.ReportDeepening.{Going, Begun, going_first, going_done, Turn, root_asked, root_counted, going_stopped}
+use Rattle.minimax.proofs.ReportDeepening.{line_kept, going_decided, going_on}
 use Rattle.minimax.proofs.Minimax.deepen.Statement.{statement}
 use Rattle.minimax.proofs.Minimax.deepen.Tie as tie
 
@@ -37,7 +37,7 @@ begun c =
       words = start.args.words.now;
       limits = start.requires;
       values = at_new.new.result;
-      values-are = at_new.new.ensures;
+      values_are = at_new.new.ensures;
       whole = c.before.none.result;
       s = c.begin.result;
       none = c.before.none.ensures;
@@ -45,7 +45,7 @@ begun c =
     }
 
 loop-holds : tie.Need-loop-init invariant-loop decreases-loop
-loop-holds c = going-first (begun c)
+loop-holds c = going_first (begun c)
 
 cast-if1 : tie.Need-overflow-cast-if1 invariant-loop decreases-loop
 cast-if1 c = record { fits = omega (arith, c.before.loop.invariant.empty.most) }
@@ -74,7 +74,7 @@ turn c =
     }
 
 minimax-requires : tie.Need-minimax-requires invariant-loop decreases-loop
-minimax-requires c κs = let x = turn c.before in (root-asked x, root-counted x)
+minimax-requires c κs = let x = turn c.before in (root_asked x, root_counted x)
 
 report-requires : tie.Need-report-requires invariant-loop decreases-loop
 report-requires c κs = (turn c.before.before.before.before.before).going.empty
@@ -86,15 +86,15 @@ same_length c =
 
 -- what is reported of an answer
 abbrev reports : Begun → SearchAnswer → Reported
-reports b a = report (structs (scoring-of b.c)) b.g a
+reports b a = report (structs (scoring_of b.c)) b.g a
 
 returns : tie.Need-returns invariant-loop decreases-loop
 returns c =
     let at-minimax = c.before.before.before.before in
     let x = turn at-minimax.before.before in
-    c.report.ensures (scoring-of x.begun.c) x.begun.g _
+    c.report.ensures (scoring_of x.begun.c) x.begun.g _
     ∙ ap (reports x.begun)
-    (going-stopped x at-minimax.minimax.ensures at-minimax.minimax.auto.1.1.1.0 c.before.if2.true)
+    (going_stopped x at-minimax.minimax.ensures at-minimax.minimax.auto.1.1.1.0 c.before.if2.true)
 
 deeper-requires : tie.Need-deeper-requires invariant-loop decreases-loop
 deeper-requires c κs =
@@ -121,8 +121,8 @@ returns-2 c =
     let at-deeper = c.before.before.before.before in
     let at-minimax = at-deeper.before.before.before.before in
     let x = turn at-minimax.before.before in
-    c.report2.ensures (scoring-of x.begun.c) x.begun.g _
-    ∙ ap (reports x.begun) (going-decided x at-minimax.minimax.ensures at-minimax.minimax.auto.1.1.1.0
+    c.report2.ensures (scoring_of x.begun.c) x.begun.g _
+    ∙ ap (reports x.begun) (going_decided x at-minimax.minimax.ensures at-minimax.minimax.auto.1.1.1.0
     at-deeper.before.if2.false at-deeper.deeper.ensures c.before.before.is-decided.ensures c.before.if3.true)
 
 loop-less : tie.Need-loop-smaller invariant-loop decreases-loop
@@ -148,7 +148,7 @@ returns-3 : tie.Need-returns-3 invariant-loop decreases-loop
 returns-3 c =
     let at-loop = c.before.before.before.before in
     let b = begun at-loop.before in
-    c.report3.ensures (scoring-of b.c) b.g _ ∙ ap (reports b) (going_done b at-loop.loop.invariant c.before.if1.false)
+    c.report3.ensures (scoring_of b.c) b.g _ ∙ ap (reports b) (going_done b at-loop.loop.invariant c.before.if1.false)
 
 pub deepen-spec : {M : Type 1} → statement M
 deepen-spec =

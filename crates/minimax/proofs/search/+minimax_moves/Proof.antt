@@ -9,16 +9,16 @@ use native.Mathlib.Omega.{arith}
 use lib.ListN.{length, length-map}
 use mir.Syntax.{w64}
 use mir.Val.{to_z}
-use Rattle.order.specs.Order.{order-left}
+use Rattle.order.specs.Order.{order_left}
 use Rattle.minimax.specs.declared.search.NodeResult.{NodeResult}
 use Rattle.base.proofs.Signed.{result}
 use Rattle.minimax.proofs.StateScores.{told}
-use Rattle.minimax.proofs.StateEntering.{Begun as Entering, Looked, Knows, Goes, may-enter, may-leaf, may-hit, may-suffice}
-use Rattle.minimax.proofs.StateEntering.{stop-gives, leaf-gives, none-goes, known-gives, some-goes, goes-gives, goes_on}
-use Rattle.minimax.proofs.StateMoves.{stand, Turn, Begun, Held, Met, Brought, Raised, order-shorter, words_long, may-raise}
-use Rattle.minimax.proofs.StateMoves.{turn-first, turn-done, may-count, may-tell-leaf, leaf-below, stop-below, by_parts}
-use Rattle.minimax.proofs.StateMoves.{under-asked, under-counted, under-lower, turn_stopped, score-within, cut-room, turn-not}
-use Rattle.minimax.proofs.StateMoves.{turn-better, turn-cut}
+use Rattle.minimax.proofs.StateEntering.{Begun as Entering, Looked, Knows, Goes, may_enter, may_leaf, may_hit, may_suffice}
+use Rattle.minimax.proofs.StateEntering.{stop_gives, leaf_gives, none_goes, known_gives, some_goes, goes_gives, goes_on}
+use Rattle.minimax.proofs.StateMoves.{stand, Turn, Begun, Held, Met, Brought, Raised, order_shorter, words_long, may_raise}
+use Rattle.minimax.proofs.StateMoves.{turn_first, turn_done, may_count, may_tell_leaf, leaf_below, stop_below, by_parts}
+use Rattle.minimax.proofs.StateMoves.{under_asked, under_counted, under_lower, turn_stopped, score_within, cut_room, turn_not}
+use Rattle.minimax.proofs.StateMoves.{turn_better, turn_cut}
 use borrow.Author.Rules.{rules}
 use borrow.Fn.Kinds.{In, Out}
 use borrow.Fn.PlainCycle.{Measures, is, falls, and}
@@ -48,7 +48,7 @@ use Rattle.minimax.proofs.search.Best.raise.Reads as raise-reads
 use Rattle.minimax.proofs.search.NodeResult.known.Reads as known-reads
 use Rattle.minimax.proofs.search.NodeResult.of.Reads as of-reads
 use Rattle.minimax.proofs.search.NodeResult.stop.Reads as stop-reads
-use Rattle.minimax.proofs.search.Pv.empty.Reads as empty-reads
+use Rattle.minimax.proofs.search.Pv.empty.Reads as empty_reads
 use Rattle.minimax.proofs.search.SearchState.enter.Reads as count-reads
 use Rattle.minimax.proofs.search.SearchState.hit.Reads as hit-reads
 use Rattle.minimax.proofs.search.SearchState.leaf.Reads as leaf-reads
@@ -56,26 +56,26 @@ use Rattle.minimax.proofs.search.SearchState.suffice.Reads as suffice-reads
 use Rattle.minimax.proofs.search.+minimax_moves.{statement}
 use Rattle.minimax.proofs.search.+minimax_moves.Tie.{close}
 
-abbrev μ-minimax : Measures 1 minimax-kinds.ps ℕ
-μ-minimax κs a = 2 * a.0.depth + 1
+abbrev μ_minimax : Measures 1 minimax-kinds.ps ℕ
+μ_minimax κs a = 2 * a.0.depth + 1
 
-abbrev μ-moves : Measures 1 moves-kinds.ps ℕ
-μ-moves κs a = 2 * a.0.depth
+abbrev μ_moves : Measures 1 moves-kinds.ps ℕ
+μ_moves κs a = 2 * a.0.depth
 
-abbrev minimax-at : ℕ → In 1 minimax-kinds.ps
-minimax-at t = and 1 minimax-kinds.ps (is 1 minimax-kinds.ps μ-minimax t) minimax.Pre
+abbrev minimax_at : ℕ → In 1 minimax-kinds.ps
+minimax_at t = and 1 minimax-kinds.ps (is 1 minimax-kinds.ps μ_minimax t) minimax.Pre
 
-abbrev minimax-below : ℕ → In 1 minimax-kinds.ps
-minimax-below t = and 1 minimax-kinds.ps (falls 1 minimax-kinds.ps ◌<◌ μ-minimax t) minimax.Pre
+abbrev minimax_below : ℕ → In 1 minimax-kinds.ps
+minimax_below t = and 1 minimax-kinds.ps (falls 1 minimax-kinds.ps ◌<◌ μ_minimax t) minimax.Pre
 
-abbrev moves-at : ℕ → In 1 moves-kinds.ps
-moves-at t = and 1 moves-kinds.ps (is 1 moves-kinds.ps μ-moves t) moves.Pre
+abbrev moves_at : ℕ → In 1 moves-kinds.ps
+moves_at t = and 1 moves-kinds.ps (is 1 moves-kinds.ps μ_moves t) moves.Pre
 
-abbrev moves-below : ℕ → In 1 moves-kinds.ps
-moves-below t = and 1 moves-kinds.ps (falls 1 moves-kinds.ps ◌<◌ μ-moves t) moves.Pre
+abbrev moves_below : ℕ → In 1 moves-kinds.ps
+moves_below t = and 1 moves-kinds.ps (falls 1 moves-kinds.ps ◌<◌ μ_moves t) moves.Pre
 
-abbrev minimax-env : ℕ → minimax-lts.Claims
-minimax-env t = (
+abbrev minimax_env : ℕ → minimax-lts.Claims
+minimax_env t = (
   stop-reads.Asked,
   stop-reads.Learnt,
   count-reads.Asked,
@@ -100,20 +100,20 @@ minimax-env t = (
   suffice-reads.Learnt,
   known-reads.Asked,
   known-reads.Learnt,
-  moves-below t,
+  moves_below t,
   moves.Post,
   leave-reads.Asked,
   leave-reads.Learnt,
 )
 
-abbrev moves-env : ℕ → moves-lts.Claims
-moves-env t = (
+abbrev moves_env : ℕ → moves-lts.Claims
+moves_env t = (
   order-reads.Asked,
   order-reads.Learnt,
   best-reads.Asked,
   best-reads.Learnt,
-  empty-reads.Asked,
-  empty-reads.Learnt,
+  empty_reads.Asked,
+  empty_reads.Learnt,
   next-reads.Asked,
   next-reads.Learnt,
   is-none-reads.Asked,
@@ -132,7 +132,7 @@ moves-env t = (
   leaf-reads.Learnt,
   evaluate-reads.Asked,
   evaluate-reads.Learnt,
-  minimax-below t,
+  minimax_below t,
   minimax.Post,
   is-below-reads.Asked,
   is-below-reads.Learnt,
@@ -144,21 +144,21 @@ moves-env t = (
   cut-reads.Learnt,
 )
 
-abbrev moves-Inv-loop : moves-lts.invariant-loop
-moves-Inv-loop a words₀ game order₀ s₀ best₀ local₀ words order s best local =
+abbrev moves_invariant_loop : moves-lts.invariant-loop
+moves_invariant_loop a words₀ game order₀ s₀ best₀ local₀ words order s best local =
     Turn a (stand words₀ order₀ s₀ best₀ local₀) (stand words order s best local)
 
-abbrev moves-μ-loop : moves-lts.decreases-loop
-moves-μ-loop a words₀ game order₀ s₀ best₀ local₀ words order s best local = length (order-left a.game order)
+abbrev moves_measure_loop : moves-lts.decreases-loop
+moves_measure_loop a words₀ game order₀ s₀ best₀ local₀ words order s best local = length (order_left a.game order)
 
 module _ (t : ℕ) where
   -- what is known at a place of each function, and what is needed there
   abbrev Minimax : (minimax-lts.Claims → In 1 minimax-kinds.ps → Out 1 minimax-kinds.ps minimax-kinds.r → Type 0) → Type 0
-  Minimax place = place (minimax-env t) (minimax-at t) minimax.Post
+  Minimax place = place (minimax_env t) (minimax_at t) minimax.Post
 
   abbrev Moves : (moves-lts.Claims → In 1 moves-kinds.ps → Out 1 moves-kinds.ps moves-kinds.r → moves-lts.invariant-loop →
       moves-lts.decreases-loop → Type 0) → Type 0
-  Moves place = place (moves-env t) (moves-at t) moves.Post moves-Inv-loop moves-μ-loop
+  Moves place = place (moves_env t) (moves_at t) moves.Post moves_invariant_loop moves_measure_loop
 
   -- ---- the search of a position: entered, no leaf, and what the table has
   abbrev entering : Minimax minimax-lts.After-enter → Entering
@@ -177,11 +177,11 @@ module _ (t : ℕ) where
   abbrev looked : (c : Minimax minimax-lts.After-lookup) → Looked (entering c.before.before.before.before.before.before.before)
   looked c = let told = c.before.before.before.before.before.before in record {
     x = told.is_IsLeaf.result;
-    told-leaf = told.is_IsLeaf.ensures;
-    no-leaf = c.before.before.before.before.before.if2.false;
+    told_leaf = told.is_IsLeaf.ensures;
+    no_leaf = c.before.before.before.before.before.if2.false;
     held = c.lookup.result;
     key = c.before.zobrist.result;
-    key-is = c.before.zobrist.ensures;
+    key_is = c.before.zobrist.ensures;
     looked = c.lookup.ensures;
   }
 
@@ -190,9 +190,9 @@ module _ (t : ℕ) where
     entry = _;
     is_held = c.before.before.before.held.given.1;
     s₂ = c.before.hit.result;
-    was-hit = c.before.hit.ensures;
+    was_hit = c.before.hit.ensures;
     b = c.suffices.result;
-    told-suffices = c.suffices.ensures;
+    told_suffices = c.suffices.ensures;
   }
 
   abbrev goes : (c : Minimax minimax-lts.At-match-branch) →
@@ -200,104 +200,104 @@ module _ (t : ℕ) where
   goes c =
       let none = c.before.before.before.before.none in
       ⊎_elim
-      (λ w. goes_on w.3 w.2 (none-goes (looked c.before) w.1.given.1 none.result none.ensures))
+      (λ w. goes_on w.3 w.2 (none_goes (looked c.before) w.1.given.1 none.result none.ensures))
       (λ w. goes_on w.8 w.7
-      (some-goes {k = looked c.before}
+      (some_goes {k = looked c.before}
       (record {
         entry = _;
         is_held = w.1.given.1;
         s₂ = w.3.result;
-        was-hit = w.3.ensures;
+        was_hit = w.3.ensures;
         b = w.4.result;
-        told-suffices = w.4.ensures;
+        told_suffices = w.4.ensures;
       }) w.5.left _ refl))
       c.match.branch
 
-  minimax-stop-requires : Minimax minimax-lts.Need-stop-requires
-  minimax-stop-requires c κs = tt
+  minimax_stop_requires : Minimax minimax-lts.Need-stop-requires
+  minimax_stop_requires c κs = tt
 
-  minimax-returns : Minimax minimax-lts.Need-returns
-  minimax-returns c = let start = c.before.before.before.before.before in
-      stop-gives start.args.a start.args.state start.args.pv start.args.words.now c.stop.result
+  minimax_returns : Minimax minimax-lts.Need-returns
+  minimax_returns c = let start = c.before.before.before.before.before in
+      stop_gives start.args.a start.args.state start.args.pv start.args.words.now c.stop.result
       c.before.if1.true c.stop.ensures
 
-  minimax-enter-requires : Minimax minimax-lts.Need-enter-requires
-  minimax-enter-requires c κs =
-      let start = c.before.before.before.before in may-enter start.args.a start.args.state start.requires.1.0
+  minimax_enter_requires : Minimax minimax-lts.Need-enter-requires
+  minimax_enter_requires c κs =
+      let start = c.before.before.before.before in may_enter start.args.a start.args.state start.requires.1.0
       start.requires.1.1 c.if1.false
 
-  minimax-is-leaf-requires : Minimax minimax-lts.Need-is-leaf-requires
-  minimax-is-leaf-requires c κs = tt
+  minimax_is_leaf_requires : Minimax minimax-lts.Need-is-leaf-requires
+  minimax_is_leaf_requires c κs = tt
 
-  minimax-leaf-requires : Minimax minimax-lts.Need-leaf-requires
-  minimax-leaf-requires c κs = may-leaf (entering c.before.before)
+  minimax_leaf_requires : Minimax minimax-lts.Need-leaf-requires
+  minimax_leaf_requires c κs = may_leaf (entering c.before.before)
 
-  minimax-evaluated-requires : Minimax minimax-lts.Need-evaluated-requires
-  minimax-evaluated-requires c κs = (entering c.before.before.before).asked.valued
+  minimax_evaluated_requires : Minimax minimax-lts.Need-evaluated-requires
+  minimax_evaluated_requires c κs = (entering c.before.before.before).asked.valued
 
-  minimax-returns-2 : Minimax minimax-lts.Need-returns-2
-  minimax-returns-2 c =
+  minimax_returns_2 : Minimax minimax-lts.Need-returns-2
+  minimax_returns_2 c =
       let e = entering c.before.before.before.before in
       let told = c.before.before.before in
-      leaf-gives e.a e.s e.l e.words e.more e.s₁ e.entered c.before.leaf.result c.before.leaf.ensures
+      leaf_gives e.a e.s e.l e.words e.more e.s₁ e.entered c.before.leaf.result c.before.leaf.ensures
       told.is_IsLeaf.result told.is_IsLeaf.ensures c.before.before.if2.true c.evaluated.result c.evaluated.ensures
 
-  minimax-none-requires : Minimax minimax-lts.Need-none-requires
-  minimax-none-requires c κs = tt
+  minimax_none_requires : Minimax minimax-lts.Need-none-requires
+  minimax_none_requires c κs = tt
 
-  minimax-zobrist-requires : Minimax minimax-lts.Need-zobrist-requires
-  minimax-zobrist-requires c κs = tt
+  minimax_zobrist_requires : Minimax minimax-lts.Need-zobrist-requires
+  minimax_zobrist_requires c κs = tt
 
-  minimax-lookup-requires : Minimax minimax-lts.Need-lookup-requires
-  minimax-lookup-requires c κs = tt
+  minimax_lookup_requires : Minimax minimax-lts.Need-lookup-requires
+  minimax_lookup_requires c κs = tt
 
-  minimax-enum-told : Minimax minimax-lts.Need-enum-told
-  minimax-enum-told c = search rules
+  minimax_enum_told : Minimax minimax-lts.Need-enum-told
+  minimax_enum_told c = search rules
 
-  minimax-enum-known-held : Minimax minimax-lts.Need-enum-known-held
-  minimax-enum-known-held c = search rules
+  minimax_enum_known_held : Minimax minimax-lts.Need-enum-known-held
+  minimax_enum_known_held c = search rules
 
-  minimax-hit-requires : Minimax minimax-lts.Need-hit-requires
-  minimax-hit-requires c κs = may-hit (entering c.before.before.before.before.before.before.before.before.before.before)
+  minimax_hit_requires : Minimax minimax-lts.Need-hit-requires
+  minimax_hit_requires c κs = may_hit (entering c.before.before.before.before.before.before.before.before.before.before)
 
-  minimax-suffices-requires : Minimax minimax-lts.Need-suffices-requires
-  minimax-suffices-requires c κs = tt
+  minimax_suffices_requires : Minimax minimax-lts.Need-suffices-requires
+  minimax_suffices_requires c κs = tt
 
-  minimax-suffice-requires : Minimax minimax-lts.Need-suffice-requires
-  minimax-suffice-requires c κs =
-      may-suffice (entering c.before.before.before.before.before.before.before.before.before.before.before.before.before)
+  minimax_suffice_requires : Minimax minimax-lts.Need-suffice-requires
+  minimax_suffice_requires c κs =
+      may_suffice (entering c.before.before.before.before.before.before.before.before.before.before.before.before.before)
       c.before.before.hit.result (c.before.before.hit.ensures [])
 
-  minimax-known-requires : Minimax minimax-lts.Need-known-requires
-  minimax-known-requires c κs = tt
+  minimax_known_requires : Minimax minimax-lts.Need-known-requires
+  minimax_known_requires c κs = tt
 
-  minimax-same-length : Minimax minimax-lts.Need-same-length
-  minimax-same-length c = refl
+  minimax_same_length : Minimax minimax-lts.Need-same-length
+  minimax_same_length c = refl
 
-  minimax-returns-3 : Minimax minimax-lts.Need-returns-3
-  minimax-returns-3 c =
-      known-gives (knows c.before.before.before) c.before.before.if3.true c.before.suffice.result
+  minimax_returns_3 : Minimax minimax-lts.Need-returns-3
+  minimax_returns_3 c =
+      known_gives (knows c.before.before.before) c.before.before.if3.true c.before.suffice.result
       c.before.suffice.ensures c.known.result c.known.ensures
 
-  minimax-moves-requires : Minimax minimax-lts.Need-moves-requires
-  minimax-moves-requires c κs =
+  minimax_moves_requires : Minimax minimax-lts.Need-moves-requires
+  minimax_moves_requires c κs =
       let start = c.before.before.before.before.before.before.before.before.before.before.before.before.before.before in
       (omega (arith, start.requires.0), (start.requires.1.0, (goes c.before).ready))
 
-  minimax-store-requires : Minimax minimax-lts.Need-store-requires
-  minimax-store-requires c κs =
+  minimax_store_requires : Minimax minimax-lts.Need-store-requires
+  minimax_store_requires c κs =
       let came = c.before.before.before.before.before in
       ((goes came).ready.deep, (entering came.before.before.before.before.before.before.before.before).asked.deep)
 
-  minimax-same-length-2 : Minimax minimax-lts.Need-same-length-2
-  minimax-same-length-2 c =
+  minimax_same_length_2 : Minimax minimax-lts.Need-same-length-2
+  minimax_same_length_2 c =
       c.before.before.store.auto.1.1.0 ∙ c.before.before.before.before.before.before.moves.auto.1.1.1.1.0
 
-  minimax-returns-4 : Minimax minimax-lts.Need-returns-4
-  minimax-returns-4 c =
+  minimax_returns_4 : Minimax minimax-lts.Need-returns-4
+  minimax_returns_4 c =
       let told = c.before.before in
       let searched = told.before.before.before.before in
-      goes-gives (goes searched.before.before) searched.moves.ensures told.store.ensures
+      goes_gives (goes searched.before.before) searched.moves.ensures told.store.ensures
 
   -- ---- the search over its moves: where the loop begins and stands, the move that it meets, and what is found below that
   abbrev begun : Moves moves-lts.After-empty → Begun
@@ -312,8 +312,8 @@ module _ (t : ℕ) where
     asked = start.requires.1.0;
     ready = start.requires.1.1;
     order_is = c.before.before.order.ensures start.args.words.now;
-    best-is = c.before.best.ensures;
-    local-is = c.empty.ensures;
+    best_is = c.before.best.ensures;
+    local_is = c.empty.ensures;
   }
 
   abbrev held : Moves moves-lts.At-loop → Held
@@ -330,29 +330,29 @@ module _ (t : ℕ) where
     under = c.below.result;
     next = c.before.before.before.before.before.next.ensures;
     is_some = sym c.before.before.before.is_none.ensures ∙ c.before.before.if1.false;
-    under-is = c.below.ensures;
+    under_is = c.below.ensures;
   }
 
   -- by the search of the position, stopped or not
-  abbrev searched-below : {b : Bool} (c : Moves moves-lts.After-slice-known2) → c.before.before.minimax.result.stopped ≡ b →
+  abbrev searched_below : {b : Bool} (c : Moves moves-lts.After-slice-known2) → c.before.before.minimax.result.stopped ≡ b →
       Brought (met c.before.before.before.before.before.before) b
-  searched-below c e = let below = c.before.before.minimax in record {
+  searched_below c e = let below = c.before.before.minimax in record {
     r = below.result;
     words = below.new.1.1.1.0;
     gives = below.ensures;
     long = below.auto.1.1.1.0;
-    is-stopped = e;
+    is_stopped = e;
   }
 
   -- at a leaf, where no position more may be entered
-  abbrev stopped-below : (c : Moves moves-lts.After-stop) → Brought (met c.before.before.before.before.before.before) true
-  stopped-below c = record {
+  abbrev stopped_below : (c : Moves moves-lts.After-stop) → Brought (met c.before.before.before.before.before.before) true
+  stopped_below c = record {
     r = c.stop.result;
     words = _;
     gives =
-        stop-below (met c.before.before.before.before.before.before) c.before.if3.true c.stop.result c.stop.ensures;
+        stop_below (met c.before.before.before.before.before.before) c.before.if3.true c.stop.result c.stop.ensures;
     long = refl;
-    is-stopped = ap (λ (f : NodeResult). f.stopped) c.stop.ensures;
+    is_stopped = ap (λ (f : NodeResult). f.stopped) c.stop.ensures;
   }
 
   -- by either way
@@ -363,7 +363,7 @@ module _ (t : ℕ) where
         r = record { state = c.if2.s; pv = c.if2.local; score = to_z w64 c.if2.score; stopped = false };
         words = c.if2.words;
         gives = ⊎_elim
-            (λ w. by_parts _ _ refl (leaf-below m w.3.left w.4.result w.4.ensures w.5.result w.5.ensures
+            (λ w. by_parts _ _ refl (leaf_below m w.3.left w.4.result w.4.ensures w.5.result w.5.ensures
             c.before.is_IsLeaf.result c.before.is_IsLeaf.ensures w.0.taken _ (result w.6.ok w.6.ensures))
             w.8 w.9 (ap (to_z w64) w.10) w.7)
             (λ w. by_parts w.2.result w.2.last.1.1.1.0 w.5.left w.2.ensures w.10 w.11
@@ -373,7 +373,7 @@ module _ (t : ℕ) where
             ⊎_elim {C = length c.if2.words
             ≡ length c.before.before.before.before.before.before.before.before.loop.words} (λ w. ap length w.7)
             (λ w. ap length w.9 ∙ w.2.kept.1.1.1.0) c.if2.branch;
-        is-stopped = refl;
+        is_stopped = refl;
       }
 
   abbrev raised : (c : Moves moves-lts.After-raise) → Raised (whole c.before.before.before)
@@ -384,172 +384,172 @@ module _ (t : ℕ) where
         raises = c.raise.ensures;
       }
 
-  moves-order-requires : Moves moves-lts.Need-order-requires
-  moves-order-requires c κs = (c.before.before.requires.1.1.deep, c.before.before.requires.1.0.deep)
+  moves_order_requires : Moves moves-lts.Need-order-requires
+  moves_order_requires c κs = (c.before.before.requires.1.1.deep, c.before.before.requires.1.0.deep)
 
-  moves-best-requires : Moves moves-lts.Need-best-requires
-  moves-best-requires c κs = tt
+  moves_best_requires : Moves moves-lts.Need-best-requires
+  moves_best_requires c κs = tt
 
-  moves-empty-requires : Moves moves-lts.Need-empty-requires
-  moves-empty-requires c κs = tt
+  moves_empty_requires : Moves moves-lts.Need-empty-requires
+  moves_empty_requires c κs = tt
 
-  moves-loop-holds : Moves moves-lts.Need-loop-init
-  moves-loop-holds c = turn-first (begun c)
+  moves_loop_holds : Moves moves-lts.Need-loop-init
+  moves_loop_holds c = turn_first (begun c)
 
-  moves-next-requires : Moves moves-lts.Need-next-requires
-  moves-next-requires c κs = tt
+  moves_next_requires : Moves moves-lts.Need-next-requires
+  moves_next_requires c κs = tt
 
-  moves-is-none-requires : Moves moves-lts.Need-is-none-requires
-  moves-is-none-requires c κs = tt
+  moves_is_none_requires : Moves moves-lts.Need-is-none-requires
+  moves_is_none_requires c κs = tt
 
-  moves-of-requires : Moves moves-lts.Need-of-requires
-  moves-of-requires c κs = tt
+  moves_of_requires : Moves moves-lts.Need-of-requires
+  moves_of_requires c κs = tt
 
-  moves-same-length : Moves moves-lts.Need-same-length
-  moves-same-length c = c.before.before.before.before.before.loop.invariant.long
+  moves_same_length : Moves moves-lts.Need-same-length
+  moves_same_length c = c.before.before.before.before.before.loop.invariant.long
 
-  moves-returns : Moves moves-lts.Need-returns
-  moves-returns c =
-      turn-done (held c.before.before.before.before.before) c.before.before.before.before.next.ensures
+  moves_returns : Moves moves-lts.Need-returns
+  moves_returns c =
+      turn_done (held c.before.before.before.before.before) c.before.before.before.before.next.ensures
       (sym c.before.before.is_none.ensures ∙ c.before.if1.true) c.of.ensures
 
-  moves-below-requires : Moves moves-lts.Need-below-requires
-  moves-below-requires c κs =
-      let h = held c.before.before.before.before.before in (h.begun.ready.deep, h.begun.asked.beta-within, h.turn.score)
+  moves_below_requires : Moves moves-lts.Need-below-requires
+  moves_below_requires c κs =
+      let h = held c.before.before.before.before.before in (h.begun.ready.deep, h.begun.asked.beta_within, h.turn.score)
 
-  moves-is-leaf-requires : Moves moves-lts.Need-is-leaf-requires
-  moves-is-leaf-requires c κs = tt
+  moves_is_leaf_requires : Moves moves-lts.Need-is-leaf-requires
+  moves_is_leaf_requires c κs = tt
 
-  moves-stop-requires : Moves moves-lts.Need-stop-requires
-  moves-stop-requires c κs = tt
+  moves_stop_requires : Moves moves-lts.Need-stop-requires
+  moves_stop_requires c κs = tt
 
-  moves-same-length-2 : Moves moves-lts.Need-same-length-2
-  moves-same-length-2 c = words_long (stopped-below c)
+  moves_same_length_2 : Moves moves-lts.Need-same-length-2
+  moves_same_length_2 c = words_long (stopped_below c)
 
-  moves-returns-2 : Moves moves-lts.Need-returns-2
-  moves-returns-2 c = turn_stopped (stopped-below c)
+  moves_returns_2 : Moves moves-lts.Need-returns-2
+  moves_returns_2 c = turn_stopped (stopped_below c)
 
-  moves-enter-requires : Moves moves-lts.Need-enter-requires
-  moves-enter-requires c κs = may-count (met c.before.before.before.before.before) c.if3.false
+  moves_enter_requires : Moves moves-lts.Need-enter-requires
+  moves_enter_requires c κs = may_count (met c.before.before.before.before.before) c.if3.false
 
-  moves-leaf-requires : Moves moves-lts.Need-leaf-requires
-  moves-leaf-requires c κs =
-      may-tell-leaf (met c.before.before.before.before.before.before) c.before.if3.false c.enter.result c.enter.ensures
+  moves_leaf_requires : Moves moves-lts.Need-leaf-requires
+  moves_leaf_requires c κs =
+      may_tell_leaf (met c.before.before.before.before.before.before) c.before.if3.false c.enter.result c.enter.ensures
 
-  moves-evaluate-requires : Moves moves-lts.Need-evaluate-requires
-  moves-evaluate-requires c κs = (under-asked (met c.before.before.before.before.before.before.before)).valued
+  moves_evaluate_requires : Moves moves-lts.Need-evaluate-requires
+  moves_evaluate_requires c κs = (under_asked (met c.before.before.before.before.before.before.before)).valued
 
-  moves-minimax-requires : Moves moves-lts.Need-minimax-requires
-  moves-minimax-requires c κs =
+  moves_minimax_requires : Moves moves-lts.Need-minimax-requires
+  moves_minimax_requires c κs =
       let m = met c.before.before.before in (
         omega (
           arith,
-          under-lower m,
+          under_lower m,
           c.before.before.before.before.before.before.before.before.before.before.before.before.before.before.before.requires.0,
         ),
-        (under-asked m, under-counted m),
+        (under_asked m, under_counted m),
       )
 
-  moves-same-length-3 : Moves moves-lts.Need-same-length-3
-  moves-same-length-3 c = words_long (searched-below c.before c.if4.true)
+  moves_same_length_3 : Moves moves-lts.Need-same-length-3
+  moves_same_length_3 c = words_long (searched_below c.before c.if4.true)
 
-  moves-returns-3 : Moves moves-lts.Need-returns-3
-  moves-returns-3 c = turn_stopped (searched-below c.before c.if4.true)
+  moves_returns_3 : Moves moves-lts.Need-returns-3
+  moves_returns_3 c = turn_stopped (searched_below c.before c.if4.true)
 
-  moves-is-below-requires : Moves moves-lts.Need-is-below-requires
-  moves-is-below-requires c κs = score-within (whole c)
+  moves_is_below_requires : Moves moves-lts.Need-is-below-requires
+  moves_is_below_requires c κs = score_within (whole c)
 
-  moves-raise-requires : Moves moves-lts.Need-raise-requires
-  moves-raise-requires c κs = may-raise (whole c.before.before)
+  moves_raise_requires : Moves moves-lts.Need-raise-requires
+  moves_raise_requires c κs = may_raise (whole c.before.before)
 
-  moves-is-cut-requires : Moves moves-lts.Need-is-cut-requires
-  moves-is-cut-requires c κs = tt
+  moves_is_cut_requires : Moves moves-lts.Need-is-cut-requires
+  moves_is_cut_requires c κs = tt
 
-  moves-cut-requires : Moves moves-lts.Need-cut-requires
-  moves-cut-requires c κs = cut-room (whole c.before.before.before.before.before)
+  moves_cut_requires : Moves moves-lts.Need-cut-requires
+  moves_cut_requires c κs = cut_room (whole c.before.before.before.before.before)
 
-  moves-of-requires-2 : Moves moves-lts.Need-of-requires-2
-  moves-of-requires-2 c κs = tt
+  moves_of_requires_2 : Moves moves-lts.Need-of-requires-2
+  moves_of_requires_2 c κs = tt
 
-  moves-same-length-4 : Moves moves-lts.Need-same-length-4
-  moves-same-length-4 c = words_long (whole c.before.before.before.before.before.before.before)
+  moves_same_length_4 : Moves moves-lts.Need-same-length-4
+  moves_same_length_4 c = words_long (whole c.before.before.before.before.before.before.before)
 
-  moves-returns-4 : Moves moves-lts.Need-returns-4
-  moves-returns-4 c =
-      turn-cut (raised c.before.before.before.before) (sym c.before.before.before.is_cut.ensures
+  moves_returns_4 : Moves moves-lts.Need-returns-4
+  moves_returns_4 c =
+      turn_cut (raised c.before.before.before.before) (sym c.before.before.before.is_cut.ensures
       ∙ c.before.before.if6.true) c.before.cut.ensures c.of2.ensures
 
-  moves-loop-less : Moves moves-lts.Need-loop-smaller
-  moves-loop-less c = order-shorter (whole c.before.before.before.before.before)
+  moves_loop_less : Moves moves-lts.Need-loop-smaller
+  moves_loop_less c = order_shorter (whole c.before.before.before.before.before)
 
-  moves-loop-again : Moves moves-lts.Need-loop-preserved
-  moves-loop-again c = turn-better (raised c.before.before) (sym c.before.is_cut.ensures ∙ c.if6.false)
+  moves_loop_again : Moves moves-lts.Need-loop-preserved
+  moves_loop_again c = turn_better (raised c.before.before) (sym c.before.is_cut.ensures ∙ c.if6.false)
 
-  moves-loop-less-2 : Moves moves-lts.Need-loop-smaller-2
-  moves-loop-less-2 c = order-shorter (whole c.before.before)
+  moves_loop_less_2 : Moves moves-lts.Need-loop-smaller-2
+  moves_loop_less_2 c = order_shorter (whole c.before.before)
 
-  moves-loop-again-2 : Moves moves-lts.Need-loop-preserved-2
-  moves-loop-again-2 c = turn-not (whole c.before.before) (sym c.before.is_below.ensures ∙ c.if5.false)
+  moves_loop_again_2 : Moves moves-lts.Need-loop-preserved-2
+  moves_loop_again_2 c = turn_not (whole c.before.before) (sym c.before.is_below.ensures ∙ c.if5.false)
 
 pub +minimax-moves-spec : {M : Type 1} → statement M
-+minimax-moves-spec = close μ-minimax μ-moves (λ t. minimax-lts.spec (minimax-env t)
-    (minimax-at t)
++minimax-moves-spec = close μ_minimax μ_moves (λ t. minimax-lts.spec (minimax_env t)
+    (minimax_at t)
     minimax.Post
-    (minimax-stop-requires t)
-    (minimax-returns t)
-    (minimax-enter-requires t)
-    (minimax-is-leaf-requires t)
-    (minimax-leaf-requires t)
-    (minimax-evaluated-requires t)
-    (minimax-returns-2 t)
-    (minimax-none-requires t)
-    (minimax-zobrist-requires t)
-    (minimax-lookup-requires t)
-    (minimax-enum-told t)
-    (minimax-enum-known-held t)
-    (minimax-hit-requires t)
-    (minimax-suffices-requires t)
-    (minimax-suffice-requires t)
-    (minimax-known-requires t)
-    (minimax-same-length t)
-    (minimax-returns-3 t)
-    (minimax-moves-requires t)
-    (minimax-store-requires t)
-    (minimax-same-length-2 t)
-    (minimax-returns-4 t))
-    λ t. moves-lts.spec (moves-env t)
-    (moves-at t)
+    (minimax_stop_requires t)
+    (minimax_returns t)
+    (minimax_enter_requires t)
+    (minimax_is_leaf_requires t)
+    (minimax_leaf_requires t)
+    (minimax_evaluated_requires t)
+    (minimax_returns_2 t)
+    (minimax_none_requires t)
+    (minimax_zobrist_requires t)
+    (minimax_lookup_requires t)
+    (minimax_enum_told t)
+    (minimax_enum_known_held t)
+    (minimax_hit_requires t)
+    (minimax_suffices_requires t)
+    (minimax_suffice_requires t)
+    (minimax_known_requires t)
+    (minimax_same_length t)
+    (minimax_returns_3 t)
+    (minimax_moves_requires t)
+    (minimax_store_requires t)
+    (minimax_same_length_2 t)
+    (minimax_returns_4 t))
+    λ t. moves-lts.spec (moves_env t)
+    (moves_at t)
     moves.Post
-    moves-Inv-loop
-    moves-μ-loop
-    (moves-order-requires t)
-    (moves-best-requires t)
-    (moves-empty-requires t)
-    (moves-loop-holds t)
-    (moves-next-requires t)
-    (moves-is-none-requires t)
-    (moves-of-requires t)
-    (moves-same-length t)
-    (moves-returns t)
-    (moves-below-requires t)
-    (moves-is-leaf-requires t)
-    (moves-stop-requires t)
-    (moves-same-length-2 t)
-    (moves-returns-2 t)
-    (moves-enter-requires t)
-    (moves-leaf-requires t)
-    (moves-evaluate-requires t)
-    (moves-minimax-requires t)
-    (moves-same-length-3 t)
-    (moves-returns-3 t)
-    (moves-is-below-requires t)
-    (moves-raise-requires t)
-    (moves-is-cut-requires t)
-    (moves-cut-requires t)
-    (moves-of-requires-2 t)
-    (moves-same-length-4 t)
-    (moves-returns-4 t)
-    (moves-loop-less t)
-    (moves-loop-again t)
-    (moves-loop-less-2 t)
-    (moves-loop-again-2 t)
+    moves_invariant_loop
+    moves_measure_loop
+    (moves_order_requires t)
+    (moves_best_requires t)
+    (moves_empty_requires t)
+    (moves_loop_holds t)
+    (moves_next_requires t)
+    (moves_is_none_requires t)
+    (moves_of_requires t)
+    (moves_same_length t)
+    (moves_returns t)
+    (moves_below_requires t)
+    (moves_is_leaf_requires t)
+    (moves_stop_requires t)
+    (moves_same_length_2 t)
+    (moves_returns_2 t)
+    (moves_enter_requires t)
+    (moves_leaf_requires t)
+    (moves_evaluate_requires t)
+    (moves_minimax_requires t)
+    (moves_same_length_3 t)
+    (moves_returns_3 t)
+    (moves_is_below_requires t)
+    (moves_raise_requires t)
+    (moves_is_cut_requires t)
+    (moves_cut_requires t)
+    (moves_of_requires_2 t)
+    (moves_same_length_4 t)
+    (moves_returns_4 t)
+    (moves_loop_less t)
+    (moves_loop_again t)
+    (moves_loop_less_2 t)
+    (moves_loop_again_2 t)

@@ -5,7 +5,7 @@ use native.Mathlib.Omega.{arith}
 use lib.Bits.{bit_or}
 use lib.ListN.{set}
 use Rattle.base.proofs.Bits.{shl_one}
-use Rattle.order.specs.Order.{set-mark}
+use Rattle.order.specs.Order.{set_mark}
 use borrow.Author.Rules.{rules}
 use Rattle.order.proofs.Seen.with.Statement.{statement}
 use Rattle.order.proofs.Seen.with.Tie as tie
@@ -23,7 +23,7 @@ with-word-requires : tie.Need-with-word-requires
 with-word-requires c κs = search rules
 
 returns : tie.Need-returns
-unfolding set-mark
+unfolding set_mark
 returns c =
     let s = c.before.before.before.before.args in
     c.with-word.ensures

@@ -2,7 +2,7 @@
 use mathlib.Core.Path.{◌≡◌}
 use native.Mathlib.Omega.{arith}
 use borrow.Author.Rules.{rules}
-use Rattle.keys.proofs.KeysPast.{rest-is-past}
+use Rattle.keys.proofs.KeysPast.{rest_is_past}
 use Rattle.order.proofs.Seen.with_word.Statement.{statement}
 use Rattle.order.proofs.Seen.with_word.Tie as tie
 
@@ -29,7 +29,7 @@ returns-3 c = rw c.match.keys3
 
 returns-4 : tie.Need-returns-4
 returns-4 c =
-    let h = rest-is-past 3 _ c.match.rest in
+    let h = rest_is_past 3 _ c.match.rest in
     let e : c.before.args.i ≡ 3 = omega (arith, c.before.requires) in
     rw e
 

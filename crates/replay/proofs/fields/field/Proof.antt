@@ -6,7 +6,7 @@ use native.Mathlib.Omega.{arith}
 use lib.ListN.{length, drop}
 use borrow.Author.Rules.{rules}
 use Rattle.replay.specs.Fields.{field}
-use Rattle.replay.proofs.FieldsParted.{field_next, field-zero, until-at}
+use Rattle.replay.proofs.FieldsParted.{field_next, field_zero, until_at}
 use Rattle.replay.proofs.fields.field.Statement.{statement}
 use Rattle.replay.proofs.fields.field.Tie as tie
 
@@ -50,7 +50,7 @@ returns c =
     let line = c.before.before.before.before.before.args.line.now in
     let l = c.before.before.before.loop in
     let z : l.left ≡ 0 = omega arith in
-    until-at line l.at _ c.before.end-of-field.ensures.0 ∙ sym (field-zero (drop l.at line))
+    until_at line l.at _ c.before.end-of-field.ensures.0 ∙ sym (field_zero (drop l.at line))
     ∙ ap {B = List ℕ} (λ n. field n (drop l.at line)) (sym z) ∙ l.invariant.0
 
 pub field-spec : {M : Type 1} → statement M

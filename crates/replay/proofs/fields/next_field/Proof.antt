@@ -1,6 +1,6 @@
 -- The byte after the field's end, or no byte more.
 use native.Mathlib.Omega.{arith}
-use Rattle.replay.proofs.FieldsParted.{past-at, past_end}
+use Rattle.replay.proofs.FieldsParted.{past_at, past_end}
 use borrow.Author.Rules.{rules}
 use Rattle.replay.proofs.fields.next_field.Statement.{statement}
 use Rattle.replay.proofs.fields.next_field.Tie as tie
@@ -13,7 +13,7 @@ add-result c = search rules
 
 returns : tie.Need-returns
 returns c =
-    let a = c.before.before.before.args in (past-at a.line.now a.at _ c.before.end-of-field.ensures.0, omega arith)
+    let a = c.before.before.before.args in (past_at a.line.now a.at _ c.before.end-of-field.ensures.0, omega arith)
 
 returns-2 : tie.Need-returns-2
 returns-2 c =

@@ -7,7 +7,7 @@ use lib.Dec.{eqb}
 use lib.ListN.{length, drop}
 use borrow.Author.Rules.{rules}
 use Rattle.base.specs.Lists.{count}
-use Rattle.replay.proofs.FieldsParted.{tab-more, tab-here, tab-end}
+use Rattle.replay.proofs.FieldsParted.{tab_more, tab_here, tab_end}
 use Rattle.replay.proofs.fields.tabs.Statement.{statement}
 use Rattle.replay.proofs.fields.tabs.Tie as tie
 
@@ -38,7 +38,7 @@ loop-again c =
     ⊎_elim (λ w. (
       omega (
         arith,
-        tab-here c.before.before.before.before.args.line.now l.i
+        tab_here c.before.before.before.before.args.line.now l.i
             c.before.before.loop-test.true w.0.taken,
       ),
       omega arith,
@@ -47,7 +47,7 @@ loop-again c =
     (λ w. (
       omega (
         arith,
-        tab-more c.before.before.before.before.args.line.now l.i c.before.before.loop-test.true
+        tab_more c.before.before.before.before.args.line.now l.i c.before.before.loop-test.true
             w.0.left,
       ),
       omega arith,
@@ -55,7 +55,7 @@ loop-again c =
     )) c.if1.branch
 
 returns : tie.Need-returns invariant-loop decreases-loop
-returns c = let l = c.before.loop in omega (arith, tab-end c.before.before.args.line.now l.i c.loop-test.false)
+returns c = let l = c.before.loop in omega (arith, tab_end c.before.before.args.line.now l.i c.loop-test.false)
 
 pub tabs-spec : {M : Type 1} → statement M
 tabs-spec =

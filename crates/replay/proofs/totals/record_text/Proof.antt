@@ -2,7 +2,7 @@
 use mathlib.Core.List.{[]}
 use Rattle.text.specs.Bytes.{quoted}
 use Rattle.text.specs.ProgramLine.{decimal}
-use Rattle.replay.proofs.TotalsText.{then-text, then-byte}
+use Rattle.replay.proofs.TotalsText.{then_text, then_byte}
 use borrow.Author.Rules.{rules}
 use Rattle.replay.proofs.totals.record_text.Statement.{statement}
 use Rattle.replay.proofs.totals.record_text.Tie as tie
@@ -47,10 +47,10 @@ returns-3 : tie.Need-returns-3
 unfolding quoted
 returns-3 c =
     let n = c.before.before.before.before.before.before.before.args.number in
-    let t = then-text _ _ [] (quoted "differs: record ") c.before.before.before.before.new3.ensures
+    let t = then_text _ _ [] (quoted "differs: record ") c.before.before.before.before.new3.ensures
     c.before.before.text.ensures in
     rw c.before.before.before.before.before.enum-told3.given.1
-    (then-byte _ _ _ 10 (then-text _ _ _ (decimal n) t c.before.decimal.ensures) c.push.ensures)
+    (then_byte _ _ _ 10 (then_text _ _ _ (decimal n) t c.before.decimal.ensures) c.push.ensures)
 
 pub record-text-spec : {M : Type 1} → statement M
 record-text-spec =

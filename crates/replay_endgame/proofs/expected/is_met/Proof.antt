@@ -1,5 +1,5 @@
 -- All numbers were compared, so the record is the expected one.
-use Rattle.replay_endgame.proofs.RecordsCompared.{whole-is-record}
+use Rattle.replay_endgame.proofs.RecordsCompared.{whole_is_record}
 use borrow.Author.Rules.{rules}
 use Rattle.replay_endgame.proofs.expected.is_met.Statement.{statement}
 use Rattle.replay_endgame.proofs.expected.is_met.Tie as tie
@@ -15,7 +15,7 @@ is-whole-requires c κs = search rules
 
 returns : tie.Need-returns
 returns c =
-    whole-is-record _ _ c.before.before.with-analysis.ensures c.before.with-moves.ensures c.is_whole.ensures
+    whole_is_record _ _ c.before.before.with-analysis.ensures c.before.with-moves.ensures c.is_whole.ensures
 
 pub is-met-spec : {M : Type 1} → statement M
 is-met-spec =

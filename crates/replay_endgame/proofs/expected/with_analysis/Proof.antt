@@ -1,5 +1,5 @@
 -- What the analysis promises are the expected numbers.
-use Rattle.replay_endgame.proofs.RecordsCompared.{analysis-compared}
+use Rattle.replay_endgame.proofs.RecordsCompared.{analysis_compared}
 use borrow.Author.Rules.{rules}
 use Rattle.replay_endgame.proofs.expected.with_analysis.Statement.{statement}
 use Rattle.replay_endgame.proofs.expected.with_analysis.Tie as tie
@@ -32,7 +32,7 @@ returns : tie.Need-returns
 returns c =
     let at-number = c.before.before.before.before in
     let at-status = at-number.before.before in
-    analysis-compared _ _ _ _ at-status.before.new.ensures at-number.number.ensures at-status.status.ensures
+    analysis_compared _ _ _ _ at-status.before.new.ensures at-number.number.ensures at-status.status.ensures
     c.before.before.as_byte.ensures
     c.before.before.before.number2.ensures c.before.number3.ensures c.with-stats.ensures
 

@@ -1,5 +1,5 @@
 -- What judging promises are the expected numbers.
-use Rattle.replay_endgame.proofs.RecordsCompared.{move-compared}
+use Rattle.replay_endgame.proofs.RecordsCompared.{move_compared}
 use borrow.Author.Rules.{rules}
 use Rattle.replay_endgame.proofs.expected.with_move.Statement.{statement}
 use Rattle.replay_endgame.proofs.expected.with_move.Tie as tie
@@ -32,7 +32,7 @@ returns : tie.Need-returns
 returns c =
     let at-number = c.before.before.before in
     let at-judged = at-number.before.before.before.before in
-    move-compared _ _ _ _ _ at-judged.evaluate-move.ensures at-number.number2.ensures c.before.as_byte.ensures
+    move_compared _ _ _ _ _ at-judged.evaluate_move.ensures at-number.number2.ensures c.before.as_byte.ensures
     c.before.before.before.before.number.ensures c.before.before.number3.ensures c.number4.ensures
 
 pub with-move-spec : {M : Type 1} → statement M

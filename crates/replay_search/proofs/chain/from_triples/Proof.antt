@@ -3,18 +3,18 @@ use mathlib.Core.Path.{◌≡◌, sym, ap, ◌∙◌}
 use Prim.Native.Nat.{◌-◌, ◌≤◌}
 use native.Mathlib.Omega.{arith}
 use lib.ListN.{length, drop}
-use Rattle.theory.specs.Memory.{Responses, no-responses}
+use Rattle.theory.specs.Memory.{Responses, no_responses}
 use Rattle.minimax.specs.declared.Minimax.{Minimax}
-use Rattle.minimax.specs.Report.{responses-of}
-use Rattle.replay_search.specs.Chains.{with-responses}
-use Rattle.replay_search.proofs.Chains.{empty-is, triple-next, triples-end}
+use Rattle.minimax.specs.Report.{responses_of}
+use Rattle.replay_search.specs.Chains.{with_responses}
+use Rattle.replay_search.proofs.Chains.{empty_is, triple_next, triples_end}
 use borrow.Author.Rules.{rules}
 use Rattle.replay_search.proofs.chain.from_triples.Statement.{statement}
 use Rattle.replay_search.proofs.chain.from_triples.Tie as tie
 
 abbrev invariant-loop : tie.invariant-loop
 invariant-loop numbers state₀ i₀ state i =
-    (i ≤ length numbers) × (with-responses (responses-of state.responses) (drop i numbers) ≡ with-responses no-responses numbers)
+    (i ≤ length numbers) × (with_responses (responses_of state.responses) (drop i numbers) ≡ with_responses no_responses numbers)
 
 abbrev decreases-loop : tie.decreases-loop
 decreases-loop numbers state₀ i₀ state i = length numbers - i
@@ -26,8 +26,8 @@ loop-holds : tie.Need-loop-init invariant-loop decreases-loop
 loop-holds c =
     let ns = c.before.before.args.numbers.now in (
       search rules,
-      ap (λ (m : Minimax). with-responses (responses-of m.responses) ns) c.new.ensures
-          ∙ ap (λ (rs : Responses). with-responses rs ns) empty-is,
+      ap (λ (m : Minimax). with_responses (responses_of m.responses) ns) c.new.ensures
+          ∙ ap (λ (rs : Responses). with_responses rs ns) empty_is,
     )
 
 sub-loop : tie.Need-overflow-sub-loop invariant-loop decreases-loop
@@ -72,14 +72,14 @@ loop-again c =
     let l = at-loop.loop in
     let ns = at-loop.before.before.before.args.numbers.now in (
       omega (arith, c.before.before.before.before.loop-test.true),
-      triple-next ns l.i (responses-of l.state.responses) _ c.before.before.before.before.loop-test.true
-          c.with-response.ensures ∙ l.invariant.1,
+      triple_next ns l.i (responses_of l.state.responses) _ c.before.before.before.before.loop-test.true
+          c.with_response.ensures ∙ l.invariant.1,
     )
 
 returns : tie.Need-returns invariant-loop decreases-loop
 returns c =
     let l = c.before.loop in
-    sym (triples-end c.before.before.before.before.args.numbers.now l.i (responses-of l.state.responses)
+    sym (triples_end c.before.before.before.before.args.numbers.now l.i (responses_of l.state.responses)
     c.loop-test.false) ∙ l.invariant.1
 
 pub from-triples-spec : {M : Type 1} → statement M

@@ -4,7 +4,7 @@ use native.Mathlib.Omega.{arith}
 use lib.ListN.{length}
 use lib.Seq.{length-take-le}
 use Rattle.replay_search.specs.Chains.{run_of}
-use Rattle.replay_search.proofs.ChainsLines.{not-thirds, too_few, too_many, no-entries, no_room, is-run}
+use Rattle.replay_search.proofs.ChainsLines.{not_thirds, too_few, too_many, no_entries, no_room, is_run}
 use borrow.Author.Rules.{rules}
 use Rattle.replay_search.proofs.chain.outcome.Statement.{statement}
 use Rattle.replay_search.proofs.chain.outcome.Tie as tie
@@ -16,7 +16,7 @@ returns : tie.Need-returns
 returns c =
     let at-tabs = c.before in
     let a = at-tabs.before.before.before.args in
-    not-thirds (length a.words.now) a.line.now _ at-tabs.tabs.ensures c.if1.true
+    not_thirds (length a.words.now) a.line.now _ at-tabs.tabs.ensures c.if1.true
 
 returns-2 : tie.Need-returns-2
 returns-2 c =
@@ -47,7 +47,7 @@ returns-4 : tie.Need-returns-4
 returns-4 c =
     let at-tabs = c.before.before.before.before.before.before.before in
     let a = at-tabs.before.before.before.args in
-    no-entries (length a.words.now) a.line.now _ at-tabs.tabs.ensures
+    no_entries (length a.words.now) a.line.now _ at-tabs.tabs.ensures
     c.before.before.before.before.before.before.if1.false c.before.before.before.before.before.if2.false
     c.before.before.before.before.if3.false _
     c.before.before.before.field.ensures _ c.before.before.read_number.ensures c.enum_told.given.1
@@ -85,7 +85,7 @@ returns-6 : tie.Need-returns-6
 returns-6 c =
     let at-tabs = c.before.before.before.before.before.before.before.before.before.before.before.before.before in
     let a = at-tabs.before.before.before.args in
-    is-run (length a.words.now) a.line.now _ at-tabs.tabs.ensures
+    is_run (length a.words.now) a.line.now _ at-tabs.tabs.ensures
     c.before.before.before.before.before.before.before.before.before.before.before.before.if1.false
     c.before.before.before.before.before.before.before.before.before.before.before.if2.false
     c.before.before.before.before.before.before.before.before.before.before.if3.false _

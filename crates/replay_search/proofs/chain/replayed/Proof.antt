@@ -5,10 +5,10 @@ use Prim.Native.Nat.{◌-◌, ◌≤◌}
 use native.Mathlib.Omega.{arith}
 use lib.ListN.{length}
 use borrow.Author.Tests.{not-true, not-false}
-use Rattle.minimax.specs.Report.{responses-of}
+use Rattle.minimax.specs.Report.{responses_of}
 use Rattle.replay.specs.declared.totals.Comparison.TheVariants.{Agrees, Apart}
-use Rattle.replay_search.specs.Chains.{chain-of}
-use Rattle.replay_search.proofs.ChainsLines.{chain-start, chain-differs, chain_next, chain-end}
+use Rattle.replay_search.specs.Chains.{chain_of}
+use Rattle.replay_search.proofs.ChainsLines.{chain_start, chain_differs, chain_next, chain_end}
 use borrow.Author.Rules.{rules}
 use Rattle.replay_search.proofs.chain.replayed.Statement.{statement}
 use Rattle.replay_search.proofs.chain.replayed.Tie as tie
@@ -16,8 +16,8 @@ use Rattle.replay_search.proofs.chain.replayed.Tie as tie
 abbrev invariant-loop : tie.invariant-loop
 invariant-loop line draw-winner allowance count table₀ state₀ refused₀ k₀ table state refused k =
     (length table ≡ length table₀) × (k ≤ count)
-    × (chain-of line draw-winner allowance (count - k) k refused (responses-of state.responses) table
-    ≡ chain-of line draw-winner allowance count 0 false (responses-of state₀.responses) table₀)
+    × (chain_of line draw-winner allowance (count - k) k refused (responses_of state.responses) table
+    ≡ chain_of line draw-winner allowance count 0 false (responses_of state₀.responses) table₀)
 
 abbrev decreases-loop : tie.decreases-loop
 decreases-loop line draw-winner allowance count table₀ state₀ refused₀ k₀ table state refused k = count - k
@@ -27,7 +27,7 @@ loop-holds c =
     let a = c.before.before.args in (
       refl,
       search rules,
-      chain-start a.line.now a.draw-winner a.allowance a.count (responses-of a.begun.responses)
+      chain_start a.line.now a.draw-winner a.allowance a.count (responses_of a.begun.responses)
           a.table.now,
     )
 
@@ -43,7 +43,7 @@ returns c =
     let at-loop = at-searched.before.before.before in
     let l = at-loop.loop in
     let a = at-loop.before.before.before.args in
-    chain-differs a.line.now a.draw-winner a.allowance a.count l.k l.refused (responses-of l.state.responses)
+    chain_differs a.line.now a.draw-winner a.allowance a.count l.k l.refused (responses_of l.state.responses)
     l.table
     at-searched.searched.result _ at-searched.before.before.loop-test.true at-searched.searched.ensures
     (not-true _ c.if1.true) ∙ l.invariant.2
@@ -65,7 +65,7 @@ loop-again c =
     let a = at-loop.before.before.before.args in (
       search rules,
       omega (arith, at-searched.before.before.loop-test.true),
-      chain_next a.line.now a.draw-winner a.allowance a.count l.k l.refused (responses-of l.state.responses)
+      chain_next a.line.now a.draw-winner a.allowance a.count l.k l.refused (responses_of l.state.responses)
           l.table
           at-searched.searched.result _ at-searched.before.before.loop-test.true at-searched.searched.ensures _
           (not-false _ c.before.before.if1.false) c.before.either.ensures ∙ l.invariant.2,
@@ -78,7 +78,7 @@ returns-2 : tie.Need-returns-2 invariant-loop decreases-loop
 returns-2 c =
     let l = c.before.before.loop in
     let a = c.before.before.before.before.before.args in
-    sym (chain-end a.line.now a.draw-winner a.allowance a.count l.k l.refused (responses-of l.state.responses)
+    sym (chain_end a.line.now a.draw-winner a.allowance a.count l.k l.refused (responses_of l.state.responses)
     l.table c.before.loop-test.false
     ∙ ap (λ (b : Bool). cond b Apart Agrees) c.if2.true) ∙ l.invariant.2
 
@@ -89,7 +89,7 @@ returns-3 : tie.Need-returns-3 invariant-loop decreases-loop
 returns-3 c =
     let l = c.before.before.loop in
     let a = c.before.before.before.before.before.args in
-    sym (chain-end a.line.now a.draw-winner a.allowance a.count l.k l.refused (responses-of l.state.responses)
+    sym (chain_end a.line.now a.draw-winner a.allowance a.count l.k l.refused (responses_of l.state.responses)
     l.table c.before.loop-test.false
     ∙ ap (λ (b : Bool). cond b Apart Agrees) c.if2.false) ∙ l.invariant.2
 

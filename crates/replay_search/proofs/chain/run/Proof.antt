@@ -1,7 +1,7 @@
 -- What stands before the searches can't be read, or all of it and the searches.
 use lib.ListN.{length}
 use borrow.Author.Tests.{not-true, not-false}
-use Rattle.replay_search.proofs.ChainsLines.{run-no-draw, run-no-allowance, run-no-start, run_is}
+use Rattle.replay_search.proofs.ChainsLines.{run_no_draw, run_no_allowance, run_no_start, run_is}
 use borrow.Author.Rules.{rules}
 use Rattle.replay_search.proofs.chain.run.Statement.{statement}
 use Rattle.replay_search.proofs.chain.run.Tie as tie
@@ -21,8 +21,8 @@ enum_told c = search rules
 returns : tie.Need-returns
 returns c =
     let a = c.before.before.before.before.before.before.args in
-    run-no-draw a.line.now a.count (length a.table.now) _ c.before.before.before.field.ensures _
-    c.before.before.draw-of.ensures c.enum_told.given.1
+    run_no_draw a.line.now a.count (length a.table.now) _ c.before.before.before.field.ensures _
+    c.before.before.draw_of.ensures c.enum_told.given.1
 
 field-requires-2 : tie.Need-field-requires-2
 field-requires-2 c κs = search rules
@@ -40,8 +40,8 @@ returns-2 : tie.Need-returns-2
 returns-2 c =
     let at-draw = c.before.before.before.before.before.before.before in
     let a = at-draw.before.before.before.before.args in
-    run-no-allowance a.line.now a.count (length a.table.now) _ at-draw.before.field.ensures _ _
-    at-draw.draw-of.ensures c.before.before.before.before.before.draw-winner.given.1
+    run_no_allowance a.line.now a.count (length a.table.now) _ at-draw.before.field.ensures _ _
+    at-draw.draw_of.ensures c.before.before.before.before.before.draw-winner.given.1
     _ c.before.before.before.field2.ensures _ c.before.before.read_number.ensures c.enum-told2.given.1
 
 field-requires-3 : tie.Need-field-requires-3
@@ -54,8 +54,8 @@ returns-3 : tie.Need-returns-3
 returns-3 c =
     let at-draw = c.before.before.before.before.before.before.before.before.before.before.before.before in
     let a = at-draw.before.before.before.before.args in
-    run-no-start a.line.now a.count (length a.table.now) _ at-draw.before.field.ensures _ _
-    at-draw.draw-of.ensures c.before.before.before.before.before.before.before.before.before.before.draw-winner.given.1
+    run_no_start a.line.now a.count (length a.table.now) _ at-draw.before.field.ensures _ _
+    at-draw.draw_of.ensures c.before.before.before.before.before.before.before.before.before.before.draw-winner.given.1
     _ c.before.before.before.before.before.before.before.before.field2.ensures _
     c.before.before.before.before.before.before.before.read_number.ensures _
     c.before.before.before.before.before.allowance.given.1 _ c.before.before.before.field3.ensures
@@ -79,7 +79,7 @@ returns-4 c =
     let at-winner = at-number.before.before.before in
     let at-draw = at-winner.before.before in
     let a = at-draw.before.before.before.before.args in
-    run_is a.line.now a.count (length a.table.now) _ at-draw.before.field.ensures _ _ at-draw.draw-of.ensures
+    run_is a.line.now a.count (length a.table.now) _ at-draw.before.field.ensures _ _ at-draw.draw_of.ensures
     at-winner.draw-winner.given.1 _ at-number.before.field2.ensures _ at-number.read_number.ensures _
     at-allowance.allowance.given.1 _ at-begin.before.field3.ensures at-begin.begin.result at-begin.begin.ensures _ _
     (not-false _ c.before.before.before.before.before.before.before.before.if1.false)

@@ -4,11 +4,11 @@ use mathlib.Core.List.{List}
 use Prim.Native.Nat.{ℕ}
 use native.Mathlib.Omega.{arith}
 use lib.ListN.{length-replicate}
-use Rattle.minimax.specs.Report.{report-of}
+use Rattle.minimax.specs.Report.{report_of}
 use Rattle.replay.specs.Agreement.{same_numbers}
-use Rattle.replay_search.specs.Records.{search-numbers}
-use Rattle.replay_search.proofs.Chains.{numbers-read, none_read}
-use Rattle.replay_search.proofs.ChainsSearched.{no-position, no-depth, no-numbers, is-searched}
+use Rattle.replay_search.specs.Records.{search_numbers}
+use Rattle.replay_search.proofs.Chains.{numbers_read, none_read}
+use Rattle.replay_search.proofs.ChainsSearched.{no_position, no_depth, no_numbers, is_searched}
 use borrow.Author.Rules.{rules}
 use Rattle.replay_search.proofs.chain.searched.Statement.{statement}
 use Rattle.replay_search.proofs.chain.searched.Tie as tie
@@ -39,7 +39,7 @@ returns c =
     let start = c.before.before.before.before.before.before.before in
     let a = start.args in
     let at-parse = c.before.before.before in
-    no-position a.line.now a.draw-winner a.allowance a.k a.state a.table.now at-parse.before.field.result.now
+    no_position a.line.now a.draw-winner a.allowance a.k a.state a.table.now at-parse.before.field.result.now
     at-parse.before.field.ensures at-parse.parse.result at-parse.parse.ensures _ _ _
     c.before.enum-told2.given.1 c.differs.ensures
 
@@ -69,7 +69,7 @@ returns-2 c =
     let start = c.before.before.before.before.before.before.before.before.before.before.before in
     let a = start.args in
     let at-parse = c.before.before.before.before.before.before.before in
-    no-depth a.line.now a.draw-winner a.allowance a.k a.state a.table.now at-parse.before.field.result.now
+    no_depth a.line.now a.draw-winner a.allowance a.k a.state a.table.now at-parse.before.field.result.now
     at-parse.before.field.ensures at-parse.parse.result at-parse.parse.ensures
     c.before.before.before.before.before.enum_told.given.1 _ _ _ c.before.before.before.before.field2.ensures
     (sym c.before.before.before.read_number.ensures ∙ c.before.enum-told3.given.1)
@@ -101,14 +101,14 @@ differs-requires-3 c κs = search rules
 
 returns-3 : tie.Need-returns-3
 returns-3 c =
-    let at-depth = c.before.before.before.before.before.before.before.before.before.before in
-    let at-answer = at-depth.before.before in
+    let at_depth = c.before.before.before.before.before.before.before.before.before.before in
+    let at-answer = at_depth.before.before in
     let at-parse = at-answer.before.before in
     let a = at-parse.before.before.before.before.args in
-    no-numbers a.line.now a.draw-winner a.allowance a.k a.state a.table.now at-parse.before.field.result.now
+    no_numbers a.line.now a.draw-winner a.allowance a.k a.state a.table.now at-parse.before.field.result.now
     at-parse.before.field.ensures at-parse.parse.result at-parse.parse.ensures at-answer.enum_told.given.1 _ _
-    at-depth.before.field2.ensures
-    (sym at-depth.read_number.ensures ∙ c.before.before.before.before.before.before.before.before.max-depth.given.1)
+    at_depth.before.field2.ensures
+    (sym at_depth.read_number.ensures ∙ c.before.before.before.before.before.before.before.before.max_depth.given.1)
     _ c.before.before.before.before.before.before.field3.ensures _ _
     (none_read _ _ _ _ c.before.before.before.before.numbers2.ensures (length-replicate {A = ℕ} 1024 0)
     c.before.enum-told4.given.1)
@@ -119,16 +119,16 @@ analyze-requires c κs = search rules
 
 array-share-prefix-numbers : tie.Need-array-share-prefix-numbers
 array-share-prefix-numbers c =
-    let read = numbers-read _ _ _ _ c.before.before.before.before.before.before.before.before.before.numbers2.ensures
+    let read = numbers_read _ _ _ _ c.before.before.before.before.before.before.before.before.before.numbers2.ensures
     (length-replicate {A = ℕ} 1024 0) _ c.before.before.before.before.before.before.n.given.1 in
     omega (arith, read.fit)
 
 slice-aggregate-agrees : tie.Need-slice-aggregate-agrees
 slice-aggregate-agrees c =
-    let read = numbers-read _ _ _ _
+    let read = numbers_read _ _ _ _
     c.before.before.before.before.before.before.before.before.before.before.numbers2.ensures
     (length-replicate {A = ℕ} 1024 0) _ c.before.before.before.before.before.before.before.n.given.1 in
-    read.first-are
+    read.first_are
 
 agrees-requires : tie.Need-agrees-requires
 agrees-requires c κs = search rules
@@ -145,19 +145,19 @@ returns-4 c =
     let at_n = at-search.before.before.before in
     let at-numbers = at_n.before.before.before in
     let at-max-depth = at-numbers.before.before.before.before in
-    let at-depth = at-max-depth.before.before in
-    let at-answer = at-depth.before.before in
+    let at_depth = at-max-depth.before.before in
+    let at-answer = at_depth.before.before in
     let at-parse = at-answer.before.before in
     let a = at-parse.before.before.before.before.args in
-    let read = numbers-read _ _ _ _ at-numbers.numbers2.ensures (length-replicate {A = ℕ} 1024 0) _ at_n.n.given.1 in
+    let read = numbers_read _ _ _ _ at-numbers.numbers2.ensures (length-replicate {A = ℕ} 1024 0) _ at_n.n.given.1 in
     let after = at-search.analyze.new.1.1.1.0 in
-    is-searched a.line.now a.draw-winner a.allowance a.k a.state a.table.now at-parse.before.field.result.now
+    is_searched a.line.now a.draw-winner a.allowance a.k a.state a.table.now at-parse.before.field.result.now
     at-parse.before.field.ensures at-parse.parse.result at-parse.parse.ensures at-answer.enum_told.given.1 _ _
-    at-depth.before.field2.ensures (sym at-depth.read_number.ensures ∙ at-max-depth.max-depth.given.1)
-    _ at-numbers.before.before.field3.ensures read.numbers after at-search.analyze.result _ _ _ read.are-read
+    at_depth.before.field2.ensures (sym at_depth.read_number.ensures ∙ at-max-depth.max_depth.given.1)
+    _ at-numbers.before.before.field3.ensures read.numbers after at-search.analyze.result _ _ _ read.are_read
     at-search.analyze.ensures
     (c.before.agrees.ensures ∙ ap (λ (ns : List ℕ). same_numbers ns
-    (search-numbers (report-of at-search.analyze.result after))) read.stand-first)
+    (search_numbers (report_of at-search.analyze.result after))) read.stand_first)
     c.number.ensures refl
 
 pub searched-spec : {M : Type 1} → statement M

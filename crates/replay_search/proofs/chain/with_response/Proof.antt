@@ -1,5 +1,5 @@
 -- One of the two tables is changed.
-use Rattle.replay_search.proofs.Chains.{with-x, with-o}
+use Rattle.replay_search.proofs.Chains.{with_x, with_o}
 use borrow.Author.Rules.{rules}
 use Rattle.replay_search.proofs.chain.with_response.Statement.{statement}
 use Rattle.replay_search.proofs.chain.with_response.Tie as tie
@@ -11,13 +11,13 @@ array-set-from-x : tie.Need-array-set-from-x
 array-set-from-x c = search rules
 
 returns : tie.Need-returns
-returns c = let a = c.before.before.before.before.args in with-x a.state.responses a.side _ _ c.if1.true
+returns c = let a = c.before.before.before.before.args in with_x a.state.responses a.side _ _ c.if1.true
 
 array-set-from-o : tie.Need-array-set-from-o
 array-set-from-o c = search rules
 
 returns-2 : tie.Need-returns-2
-returns-2 c = let a = c.before.before.before.before.args in with-o a.state.responses a.side _ _ c.if1.false
+returns-2 c = let a = c.before.before.before.before.args in with_o a.state.responses a.side _ _ c.if1.false
 
 pub with-response-spec : {M : Type 1} → statement M
 with-response-spec =

@@ -5,14 +5,14 @@ use Prim.Native.Nat.{◌+◌, ◌-◌, ◌≤◌}
 use native.Mathlib.Omega.{arith}
 use lib.ListN.{length, drop}
 use borrow.Author.Tests.{eq-eqb, ne_eqb}
-use Rattle.replay_search.specs.Digests.{entry-count}
-use Rattle.replay_search.proofs.Digests.{entry_next, entries-end}
+use Rattle.replay_search.specs.Digests.{entry_count}
+use Rattle.replay_search.proofs.Digests.{entry_next, entries_end}
 use borrow.Author.Rules.{rules}
 use Rattle.replay_search.proofs.digest.entry_count.Statement.{statement}
 use Rattle.replay_search.proofs.digest.entry_count.Tie as tie
 
 abbrev invariant-loop : tie.invariant-loop
-invariant-loop words n₀ i₀ n i = (n + entry-count (drop i words) ≡ entry-count words) × (n ≤ i) × (i ≤ length words)
+invariant-loop words n₀ i₀ n i = (n + entry_count (drop i words) ≡ entry_count words) × (n ≤ i) × (i ≤ length words)
 
 abbrev decreases-loop : tie.decreases-loop
 decreases-loop words n₀ i₀ n i = length words - i
@@ -50,7 +50,7 @@ loop-again c =
 
 returns : tie.Need-returns invariant-loop decreases-loop
 returns c =
-    let l = c.before.loop in omega (arith, entries-end c.before.before.args.words.now l.i c.loop-test.false)
+    let l = c.before.loop in omega (arith, entries_end c.before.before.args.words.now l.i c.loop-test.false)
 
 pub entry-count-spec : {M : Type 1} → statement M
 entry-count-spec =

@@ -4,14 +4,14 @@ use Prim.Native.Nat.{◌-◌, ◌≤◌}
 use native.Mathlib.Omega.{arith}
 use lib.ListN.{length, drop}
 use Rattle.minimax.specs.Report.{bytes_of}
-use Rattle.replay_search.specs.Digests.{mixed-all}
-use Rattle.replay_search.proofs.Digests.{move-next, moves-end}
+use Rattle.replay_search.specs.Digests.{mixed_all}
+use Rattle.replay_search.proofs.Digests.{move_next, moves_end}
 use borrow.Author.Rules.{rules}
 use Rattle.replay_search.proofs.digest.mixed_moves.Statement.{statement}
 use Rattle.replay_search.proofs.digest.mixed_moves.Tie as tie
 
 abbrev invariant-loop : tie.invariant-loop
-invariant-loop h moves digest₀ i₀ digest i = (i ≤ 256) × (mixed-all digest (drop i (bytes_of moves)) ≡ mixed-all h (bytes_of moves))
+invariant-loop h moves digest₀ i₀ digest i = (i ≤ 256) × (mixed_all digest (drop i (bytes_of moves)) ≡ mixed_all h (bytes_of moves))
 
 abbrev decreases-loop : tie.decreases-loop
 decreases-loop h moves digest₀ i₀ digest i = 256 - i
@@ -37,7 +37,7 @@ loop-again c =
     let n : length start.args.t2 ≡ 256 = start.well-formed.1.0.1.0.1 in
     let l = c.before.before.before.loop in (
       omega arith,
-      move-next start.args.t2 l.i l.digest _ (omega (arith, c.before.before.loop-test.true)) c.mixed.ensures
+      move_next start.args.t2 l.i l.digest _ (omega (arith, c.before.before.loop-test.true)) c.mixed.ensures
           ∙ l.invariant.1,
     )
 
@@ -46,7 +46,7 @@ returns c =
     let start = c.before.before in
     let n : length start.args.t2 ≡ 256 = start.well-formed.1.0.1.0.1 in
     let l = c.before.loop in
-    sym (moves-end start.args.t2 l.i l.digest (omega (arith, c.loop-test.false))) ∙ l.invariant.1
+    sym (moves_end start.args.t2 l.i l.digest (omega (arith, c.loop-test.false))) ∙ l.invariant.1
 
 pub mixed-moves-spec : {M : Type 1} → statement M
 mixed-moves-spec =

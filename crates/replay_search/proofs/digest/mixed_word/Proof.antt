@@ -2,14 +2,14 @@
 use mathlib.Core.Path.{◌≡◌, refl, sym, ◌∙◌}
 use Prim.Native.Nat.{◌≤◌}
 use native.Mathlib.Omega.{arith}
-use Rattle.replay_search.specs.Digests.{mixed-all, low-bytes}
-use Rattle.replay_search.proofs.Digests.{byte_next, bytes-end}
+use Rattle.replay_search.specs.Digests.{mixed_all, low_bytes}
+use Rattle.replay_search.proofs.Digests.{byte_next, bytes_end}
 use borrow.Author.Rules.{rules}
 use Rattle.replay_search.proofs.digest.mixed_word.Statement.{statement}
 use Rattle.replay_search.proofs.digest.mixed_word.Tie as tie
 
 abbrev invariant-loop : tie.invariant-loop
-invariant-loop h word digest₀ left₀ k₀ digest left k = (k ≤ 8) × (mixed-all digest (low-bytes k left) ≡ mixed-all h (low-bytes 8 word))
+invariant-loop h word digest₀ left₀ k₀ digest left k = (k ≤ 8) × (mixed_all digest (low_bytes k left) ≡ mixed_all h (low_bytes 8 word))
 
 abbrev decreases-loop : tie.decreases-loop
 decreases-loop h word digest₀ left₀ k₀ digest left k = k
@@ -35,7 +35,7 @@ loop-again c =
     (omega arith, byte_next l.digest l.k l.left _ c.before.loop-test.true c.mixed.ensures ∙ l.invariant.1)
 
 returns : tie.Need-returns invariant-loop decreases-loop
-returns c = let l = c.before.loop in sym (bytes-end l.digest l.k l.left c.loop-test.false) ∙ l.invariant.1
+returns c = let l = c.before.loop in sym (bytes_end l.digest l.k l.left c.loop-test.false) ∙ l.invariant.1
 
 pub mixed-word-spec : {M : Type 1} → statement M
 mixed-word-spec =

@@ -4,15 +4,15 @@ use Prim.Native.Nat.{◌-◌, ◌≤◌}
 use native.Mathlib.Omega.{arith}
 use lib.ListN.{length, drop}
 use borrow.Author.Rules.{rules}
-use Rattle.base.specs.Lists.{concat-map}
-use Rattle.replay_search.specs.Digests.{mixed-all, low-bytes, table-digest}
-use Rattle.replay_search.proofs.Digests.{word_next, words-end}
+use Rattle.base.specs.Lists.{concat_map}
+use Rattle.replay_search.specs.Digests.{mixed_all, low_bytes, table_digest}
+use Rattle.replay_search.proofs.Digests.{word_next, words_end}
 use Rattle.replay_search.proofs.digest.of_table.Statement.{statement}
 use Rattle.replay_search.proofs.digest.of_table.Tie as tie
 
 abbrev invariant-loop : tie.invariant-loop
 invariant-loop words digest₀ i₀ digest i = (i ≤ length words) ×
-    (mixed-all digest (concat-map (low-bytes 8) (drop i words)) ≡ table-digest words)
+    (mixed_all digest (concat_map (low_bytes 8) (drop i words)) ≡ table_digest words)
 
 abbrev decreases-loop : tie.decreases-loop
 decreases-loop words digest₀ i₀ digest i = length words - i
@@ -46,7 +46,7 @@ loop-again c =
 returns : tie.Need-returns invariant-loop decreases-loop
 returns c =
     let l = c.before.loop in
-    sym (words-end c.before.before.before.args.words.now l.digest l.i c.loop-test.false) ∙ l.invariant.1
+    sym (words_end c.before.before.before.args.words.now l.digest l.i c.loop-test.false) ∙ l.invariant.1
 
 pub of-table-spec : {M : Type 1} → statement M
 of-table-spec =

@@ -6,12 +6,12 @@ use lib.Dec.{eqb}
 use borrow.Author.Rules.{rules}
 use Rattle.rules.specs.Play.{no_move}
 use Rattle.minimax.specs.Report.{bytes_of}
-use Rattle.replay_search.proofs.Digests.{count-append}
+use Rattle.replay_search.proofs.Digests.{count_append}
 use Rattle.replay_search.proofs.digest.response_count.Statement.{statement}
 use Rattle.replay_search.proofs.digest.response_count.Tie as tie
 
-abbrev is-response : ℕ → Bool
-is-response m = not (eqb m no_move)
+abbrev is_response : ℕ → Bool
+is_response m = not (eqb m no_move)
 
 responses-to-requires : tie.Need-responses-to-requires
 responses-to-requires c κs = search rules
@@ -28,8 +28,8 @@ returns c =
     omega (
       arith,
       c.responses-to2.ensures.0,
-      c.before.responses-to.ensures.0,
-      count-append is-response (bytes_of rs.x)
+      c.before.responses_to.ensures.0,
+      count_append is_response (bytes_of rs.x)
           (bytes_of rs.o),
     )
 

@@ -9,7 +9,7 @@ use lib.ListN.{length, drop}
 use Rattle.base.specs.Lists.{count}
 use Rattle.rules.specs.Play.{no_move}
 use Rattle.minimax.specs.Report.{bytes_of}
-use Rattle.replay_search.proofs.Digests.{count_next, count-end}
+use Rattle.replay_search.proofs.Digests.{count_next, count_end}
 use borrow.Author.Rules.{rules}
 use Rattle.replay_search.proofs.digest.responses_to.Statement.{statement}
 use Rattle.replay_search.proofs.digest.responses_to.Tie as tie
@@ -55,7 +55,7 @@ returns c =
     let start = c.before.before in
     let n : length start.args.t1 ≡ 256 = start.well-formed.0.1.0.1 in
     let l = c.before.loop in
-    (omega (arith, count-end start.args.t1 l.i (λ m. not (eqb m no_move)) (omega (arith, c.loop-test.false))), omega arith)
+    (omega (arith, count_end start.args.t1 l.i (λ m. not (eqb m no_move)) (omega (arith, c.loop-test.false))), omega arith)
 
 pub responses-to-spec : {M : Type 1} → statement M
 responses-to-spec =

@@ -1,5 +1,5 @@
 -- By halves, of which what is above 2^64 falls away.
-use Rattle.replay_search.proofs.Digests.{times-prime-is}
+use Rattle.replay_search.proofs.Digests.{times_prime_is}
 use borrow.Author.Rules.{rules}
 use Rattle.replay_search.proofs.digest.times_prime.Statement.{statement}
 use Rattle.replay_search.proofs.digest.times_prime.Tie as tie
@@ -26,7 +26,7 @@ add-result : tie.Need-overflow-add-result
 add-result c = search rules
 
 returns : tie.Need-returns
-returns c = times-prime-is c.args.x c.ranges.x.fits
+returns c = times_prime_is c.args.x c.ranges.x.fits
 
 pub times-prime-spec : {M : Type 1} → statement M
 times-prime-spec =

@@ -1,6 +1,6 @@
 -- All numbers, compared one after the other.
-use Rattle.minimax.specs.Report.{report-of}
-use Rattle.replay_search.proofs.Records.{whole-agrees}
+use Rattle.minimax.specs.Report.{report_of}
+use Rattle.replay_search.proofs.Records.{whole_agrees}
 use borrow.Author.Rules.{rules}
 use Rattle.replay_search.proofs.expected.agrees.Statement.{statement}
 use Rattle.replay_search.proofs.expected.agrees.Tie as tie
@@ -28,8 +28,8 @@ returns c =
     let at-numbers = c.before.before.before in
     let at_head = at-numbers.before.before.before.before in
     let a = at_head.before.before.before.args in
-    whole-agrees a.numbers.now (report-of a.found a.table.now) _ _ _ _ _ at_head.head-numbers.ensures
-    at-numbers.numbers.ensures c.before.before.with-line.ensures c.before.with-stats.ensures c.is_whole.ensures
+    whole_agrees a.numbers.now (report_of a.found a.table.now) _ _ _ _ _ at_head.head_numbers.ensures
+    at-numbers.numbers.ensures c.before.before.with_line.ensures c.before.with-stats.ensures c.is_whole.ensures
 
 pub agrees-spec : {M : Type 1} → statement M
 agrees-spec =

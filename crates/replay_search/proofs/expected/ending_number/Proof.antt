@@ -2,9 +2,9 @@
 use mathlib.Core.Path.{sym, ap}
 use Rattle.base.specs.Branch.{if◌then◌else◌}
 use Rattle.minimax.specs.declared.Ending.{Ending}
-use Rattle.minimax.specs.Report.{ending-number, ending-stopped}
+use Rattle.minimax.specs.Report.{ending_number, ending_stopped}
 use Rattle.replay_search.specs.Records.{ending}
-use Rattle.replay_search.proofs.Records.{refused-ending}
+use Rattle.replay_search.proofs.Records.{refused_ending}
 use borrow.Author.Rules.{rules}
 use Rattle.replay_search.proofs.expected.ending_number.Statement.{statement}
 use Rattle.replay_search.proofs.expected.ending_number.Tie as tie
@@ -23,14 +23,14 @@ number-requires c κs = search rules
 
 returns : tie.Need-returns
 unfolding ending if◌then◌else◌
-returns c = ap (λ (e : Ending). ending (ending-number e) (ending-stopped e)) (sym c.enum_told.given.1)
+returns c = ap (λ (e : Ending). ending (ending_number e) (ending_stopped e)) (sym c.enum_told.given.1)
 
 returns-2 : tie.Need-returns-2
 unfolding ending if◌then◌else◌
-returns-2 c = ap (λ (e : Ending). ending (ending-number e) (ending-stopped e)) (sym c.enum-told2.given.1)
+returns-2 c = ap (λ (e : Ending). ending (ending_number e) (ending_stopped e)) (sym c.enum-told2.given.1)
 
 returns-3 : tie.Need-returns-3
-returns-3 c = refused-ending _ _ _ c.before.before.e.given.1 c.number.ensures
+returns-3 c = refused_ending _ _ _ c.before.before.e.given.1 c.number.ensures
 
 pub ending-number-spec : {M : Type 1} → statement M
 ending-number-spec =

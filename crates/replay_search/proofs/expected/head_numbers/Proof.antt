@@ -35,11 +35,11 @@ returns c =
     let at_sign = at_size.before.before in
     let at-ending = at_sign.before.before in
     let s = at-ending.before.before.before.args.found.score in
-    nine _ _ _ _ _ _ _ _ _ _ _ _ _ _ _ _ at-ending.ending-number.ensures
+    nine _ _ _ _ _ _ _ _ _ _ _ _ _ _ _ _ at-ending.ending_number.ensures
     (at_sign.sign.ensures ∙ ap sign (to_z-of_z {z = s} (record { sfits = at_sign.before.struct_told.given.1.1.1.0.1 })))
     (at_size.size.ensures ∙ ap nat_abs (to_z-of_z {z = s} (record { sfits = at_size.before.struct-told2.given.1.1.1.0.1 })))
-    c.before.before.before.of-responses.ensures c.before.before.response-count.ensures c.before.of-table.ensures
-    c.entry-count.ensures
+    c.before.before.before.of-responses.ensures c.before.before.response_count.ensures c.before.of-table.ensures
+    c.entry_count.ensures
 
 pub head-numbers-spec : {M : Type 1} → statement M
 head-numbers-spec =

@@ -5,23 +5,23 @@ use Prim.Native.Nat.{ℕ, ◌-◌, ◌≤◌}
 use native.Mathlib.Omega.{arith}
 use lib.ListN.{length, take, length-map}
 use Rattle.theory.specs.Deepening.{Stats as Meant}
-use Rattle.minimax.specs.Report.{stats-of}
-use Rattle.replay.specs.Agreement.{compared-all}
-use Rattle.replay_search.specs.Records.{depths-numbers}
-use Rattle.replay_search.proofs.Records.{depths-next, taken-all}
+use Rattle.minimax.specs.Report.{stats_of}
+use Rattle.replay.specs.Agreement.{compared_all}
+use Rattle.replay_search.specs.Records.{depths_numbers}
+use Rattle.replay_search.proofs.Records.{depths_next, taken_all}
 use borrow.Author.Rules.{rules}
 use Rattle.replay_search.proofs.expected.with_stats.Statement.{statement}
 use Rattle.replay_search.proofs.expected.with_stats.Tie as tie
 
 abbrev invariant-loop : tie.invariant-loop
 invariant-loop numbers depth stats so-far₀ i₀ so_far i =
-    (i ≤ 81) × (i ≤ depth) × (so_far ≡ compared-all numbers so-far₀ (depths-numbers (take i (map stats-of stats))))
+    (i ≤ 81) × (i ≤ depth) × (so_far ≡ compared_all numbers so-far₀ (depths_numbers (take i (map stats_of stats))))
 
 abbrev decreases-loop : tie.decreases-loop
 decreases-loop numbers depth stats so-far₀ i₀ so_far i = 81 - i
 
 loop-holds : tie.Need-loop-init invariant-loop decreases-loop
-unfolding depths-numbers
+unfolding depths_numbers
 loop-holds c = (search rules, search rules, refl)
 
 returns : tie.Need-returns invariant-loop decreases-loop
@@ -29,8 +29,8 @@ returns c =
     let start = c.before.before.before.before in
     let l = c.before.before.loop in
     let n : l.i ≡ start.args.depth = omega (arith, c.if1.true, l.invariant.1) in
-    l.invariant.2 ∙ ap (λ (k : ℕ). compared-all start.args.numbers.now start.args.begun
-    (depths-numbers (take k (map stats-of start.args.t4)))) n
+    l.invariant.2 ∙ ap (λ (k : ℕ). compared_all start.args.numbers.now start.args.begun
+    (depths_numbers (take k (map stats_of start.args.t4)))) n
 
 mul-depth-numbers : tie.Need-overflow-mul-depth-numbers invariant-loop decreases-loop
 mul-depth-numbers c = search rules
@@ -62,9 +62,9 @@ loop-again c =
     let n : length start.args.t4 ≡ 81 = start.well-formed.1.1.1.0.1.0.1 in (
       omega arith,
       omega (arith, c.before.before.before.before.if1.false),
-      depths-next ns start.args.begun l.so_far _ start.args.t4 l.i _
+      depths_next ns start.args.begun l.so_far _ start.args.t4 l.i _
           (omega (arith, c.before.before.before.before.before.loop-test.true)) l.invariant.2
-          (c.numbers.ensures ∙ ap (compared-all ns l.so_far) c.before.before.depth-numbers.ensures),
+          (c.numbers.ensures ∙ ap (compared_all ns l.so_far) c.before.before.depth_numbers.ensures),
     )
 
 returns-2 : tie.Need-returns-2 invariant-loop decreases-loop
@@ -72,9 +72,9 @@ returns-2 c =
     let start = c.before.before.before in
     let l = c.before.loop in
     let n : length start.args.t4 ≡ 81 = start.well-formed.1.1.1.0.1.0.1 in
-    let h : length (map stats-of start.args.t4) ≤ l.i = simp length-map (omega (arith, c.loop-test.false)) in
-    l.invariant.2 ∙ ap (λ (ss : List Meant). compared-all start.args.numbers.now start.args.begun (depths-numbers ss))
-    (taken-all (map stats-of start.args.t4) l.i start.args.depth h l.invariant.1)
+    let h : length (map stats_of start.args.t4) ≤ l.i = simp length-map (omega (arith, c.loop-test.false)) in
+    l.invariant.2 ∙ ap (λ (ss : List Meant). compared_all start.args.numbers.now start.args.begun (depths_numbers ss))
+    (taken_all (map stats_of start.args.t4) l.i start.args.depth h l.invariant.1)
 
 pub with-stats-spec : {M : Type 1} → statement M
 with-stats-spec =

@@ -3,7 +3,7 @@ use mathlib.Core.Path.{ap}
 use Prim.Native.Nat.{ℕ, ◌+◌}
 use native.Mathlib.Omega.{arith}
 use borrow.Author.Rules.{rules}
-use Rattle.rules.proofs.Board.{state-most}
+use Rattle.rules.proofs.Board.{state_most}
 use Rattle.rules.proofs.Effect.number.Statement.{statement}
 use Rattle.rules.proofs.Effect.number.Tie as tie
 
@@ -11,7 +11,7 @@ number-requires : tie.Need-number-requires
 number-requires c κs = search rules
 
 add-result : tie.Need-overflow-add-result
-add-result c = record { fits = omega (arith, c.before.number.ensures, state-most c.before.before.args.self.board) }
+add-result c = record { fits = omega (arith, c.before.number.ensures, state_most c.before.before.args.self.board) }
 
 returns : tie.Need-returns
 returns c = rw c.if1.true (ap (λ (n : ℕ). n + 4) c.before.number.ensures)

@@ -1,19 +1,19 @@
 -- The three tests in turn.
 use borrow.Author.Tests.{le-leb, lt-leb}
-use Rattle.rules.specs.Evaluation.{accepted-weights}
+use Rattle.rules.specs.Evaluation.{accepted_weights}
 use Rattle.rules.proofs.Weights.are_accepted.Statement.{statement}
 use Rattle.rules.proofs.Weights.are_accepted.Tie as tie
 
 returns : tie.Need-returns
-unfolding accepted-weights
+unfolding accepted_weights
 returns c = simp (lt-leb _ _ c.if1.true)
 
 returns-2 : tie.Need-returns-2
-unfolding accepted-weights
+unfolding accepted_weights
 returns-2 c = simp (le-leb _ _ c.before.before.if1.false, lt-leb _ _ c.if2.true)
 
 returns-3 : tie.Need-returns-3
-unfolding accepted-weights
+unfolding accepted_weights
 returns-3 c =
     simp (
       le-leb _ _ c.before.before.before.before.if1.false,
@@ -22,7 +22,7 @@ returns-3 c =
     )
 
 returns-4 : tie.Need-returns-4
-unfolding accepted-weights
+unfolding accepted_weights
 returns-4 c =
     simp (
       le-leb _ _ c.before.before.before.before.if1.false,

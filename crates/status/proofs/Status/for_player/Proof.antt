@@ -1,8 +1,8 @@
 -- Each side has its constructor.
 use mathlib.Core.Path.{◌∙◌, sym, ap}
 use Rattle.rules.specs.declared.Player.{Player}
-use Rattle.rules.specs.Status.{for-player}
-use Rattle.status.specs.Sets.{status-of}
+use Rattle.rules.specs.Status.{for_player}
+use Rattle.status.specs.Sets.{status_of}
 use borrow.Author.Rules.{rules}
 use Rattle.status.proofs.Status.for_player.Statement.{statement}
 use Rattle.status.proofs.Status.for_player.Tie as tie
@@ -20,10 +20,10 @@ o-requires : tie.Need-o-requires
 o-requires c κs = search rules
 
 returns : tie.Need-returns
-returns c = c.x.ensures ∙ sym (ap (λ (w : Player). status-of (for-player w)) c.before.enum_told.given.1)
+returns c = c.x.ensures ∙ sym (ap (λ (w : Player). status_of (for_player w)) c.before.enum_told.given.1)
 
 returns-2 : tie.Need-returns-2
-returns-2 c = c.o.ensures ∙ sym (ap (λ (w : Player). status-of (for-player w)) c.before.enum-told2.given.1)
+returns-2 c = c.o.ensures ∙ sym (ap (λ (w : Player). status_of (for_player w)) c.before.enum-told2.given.1)
 
 pub for-player-spec : {M : Type 1} → statement M
 for-player-spec =

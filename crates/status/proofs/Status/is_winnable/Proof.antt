@@ -2,8 +2,8 @@
 use mathlib.Core.Path.{◌∙◌, sym, ap}
 use Rattle.rules.specs.declared.Player.{Player}
 use Rattle.rules.specs.Status.{allows}
-use Rattle.status.specs.Sets.{set-of}
-use Rattle.status.proofs.Sets.{lowest-bit-test, next-bit-test}
+use Rattle.status.specs.Sets.{set_of}
+use Rattle.status.proofs.Sets.{lowest_bit_test, next_bit_test}
 use borrow.Author.Rules.{rules}
 use Rattle.status.proofs.Status.is_winnable.Statement.{statement}
 use Rattle.status.proofs.Status.is_winnable.Tie as tie
@@ -16,12 +16,12 @@ enum-told-2 c = search rules
 
 returns : tie.Need-returns
 returns c =
-    lowest-bit-test _ ∙ sym (ap (λ (w : Player). allows (set-of c.before.before.before.args.self) w)
+    lowest_bit_test _ ∙ sym (ap (λ (w : Player). allows (set_of c.before.before.before.args.self) w)
     c.before.enum_told.given.1)
 
 returns-2 : tie.Need-returns-2
 returns-2 c =
-    next-bit-test _ ∙ sym (ap (λ (w : Player). allows (set-of c.before.before.before.args.self) w)
+    next_bit_test _ ∙ sym (ap (λ (w : Player). allows (set_of c.before.before.before.args.self) w)
     c.before.enum-told2.given.1)
 
 pub is-winnable-spec : {M : Type 1} → statement M

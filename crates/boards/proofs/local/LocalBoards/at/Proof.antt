@@ -2,7 +2,7 @@
 use mathlib.Core.Path.{◌≡◌, sym}
 use native.Mathlib.Omega.{arith}
 use lib.ListN.{length, length-map}
-use Rattle.boards.proofs.Packed.{cell-past-cell, reads-x, reads-o, reads_none}
+use Rattle.boards.proofs.Packed.{cell_past_cell, reads_x, reads_o, reads_none}
 use borrow.Author.Rules.{rules}
 use Rattle.boards.proofs.local.LocalBoards.at.Statement.{statement}
 use Rattle.boards.proofs.local.LocalBoards.at.Tie as tie
@@ -11,7 +11,7 @@ three : (c : tie.Start) → length c.args.self.rows ≡ 3
 three c = simp length-map at c.well-formed.0.1.1.0.1.0.1
 
 returns : tie.Need-returns
-returns c = sym (cell-past-cell _ _ _ c.if1.true)
+returns c = sym (cell_past_cell _ _ _ c.if1.true)
 
 row-requires : tie.Need-row-requires
 row-requires c κs = search rules
@@ -29,7 +29,7 @@ shr-if2 : tie.Need-overflow-shr-if2
 shr-if2 c = search rules
 
 returns-2 : tie.Need-returns-2
-returns-2 c = reads-x _ _ _ _ (three c.before.before.before.before) (omega arith) c.before.before.row.ensures c.if2.true
+returns-2 c = reads_x _ _ _ _ (three c.before.before.before.before) (omega arith) c.before.before.row.ensures c.if2.true
 
 cast-if3 : tie.Need-overflow-cast-if3
 cast-if3 c = search rules
@@ -39,7 +39,7 @@ shr-if3 c = search rules
 
 returns-3 : tie.Need-returns-3
 returns-3 c =
-    reads-o _ _ _ _ (three c.before.before.before.before.before.before) (omega arith)
+    reads_o _ _ _ _ (three c.before.before.before.before.before.before) (omega arith)
     c.before.before.before.before.row.ensures c.before.before.if2.false c.if3.true
 
 returns-4 : tie.Need-returns-4

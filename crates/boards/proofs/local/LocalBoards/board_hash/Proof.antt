@@ -1,6 +1,6 @@
 -- The keys of the cells while the board is in play, else the key of its state.
 use Rattle.base.specs.Branch.{if◌then◌else◌}
-use Rattle.rules.specs.Hash.{board-hash}
+use Rattle.rules.specs.Hash.{board_hash}
 use borrow.Author.Rules.{rules}
 use Rattle.boards.proofs.local.LocalBoards.board_hash.Statement.{statement}
 use Rattle.boards.proofs.local.LocalBoards.board_hash.Tie as tie
@@ -24,15 +24,15 @@ for-board-requires-2 : tie.Need-for-board-requires-2
 for-board-requires-2 c κs = search rules
 
 returns : tie.Need-returns
-unfolding board-hash if◌then◌else◌
-returns c = rw c.before.enum_told.given.1 c.cells-hash.ensures
+unfolding board_hash if◌then◌else◌
+returns c = rw c.before.enum_told.given.1 c.cells_hash.ensures
 
 returns-2 : tie.Need-returns-2
-unfolding board-hash if◌then◌else◌
+unfolding board_hash if◌then◌else◌
 returns-2 c = rw (c.for-board.ensures, c.before.enum-told2.given.1)
 
 returns-3 : tie.Need-returns-3
-unfolding board-hash if◌then◌else◌
+unfolding board_hash if◌then◌else◌
 returns-3 c = rw (c.for-board2.ensures, c.before.enum-told3.given.1)
 
 pub board-hash-spec : {M : Type 1} → statement M

@@ -6,23 +6,23 @@ use lib.Bits.{bit_xor, xor_zero_r}
 use lib.ListN.{drop}
 use borrow.Author.Rules.{rules}
 use Rattle.rules.specs.Board.{nine}
-use Rattle.rules.specs.Hash.{cell-key, xors, cells-hash}
-use Rattle.keys.specs.Keys.{cell-key-in}
+use Rattle.rules.specs.Hash.{cell_key, xors, cells_hash}
+use Rattle.keys.specs.Keys.{cell_key_in}
 use Rattle.boards.specs.Packed.{cell_at}
-use Rattle.boards.proofs.RowsHash.{one_more, key-of-cell}
+use Rattle.boards.proofs.RowsHash.{one_more, key_of_cell}
 use Rattle.boards.proofs.local.LocalBoards.cells_hash.Statement.{statement}
 use Rattle.boards.proofs.local.LocalBoards.cells_hash.Tie as tie
 
 abbrev invariant-loop : tie.invariant-loop
 invariant-loop self global hash₀ i₀ hash i =
-    (i ≤ 9) × (bit_xor hash (xors (λ k. cell-key global k (cell_at self global k)) (drop i nine))
-    ≡ cells-hash global (cell_at self global))
+    (i ≤ 9) × (bit_xor hash (xors (λ k. cell_key global k (cell_at self global k)) (drop i nine))
+    ≡ cells_hash global (cell_at self global))
 
 abbrev decreases-loop : tie.decreases-loop
 decreases-loop self global hash₀ i₀ hash i = 9 - i
 
 loop-holds : tie.Need-loop-init invariant-loop decreases-loop
-unfolding cells-hash
+unfolding cells_hash
 loop-holds c = (search rules, refl)
 
 at-requires : tie.Need-at-requires invariant-loop decreases-loop
@@ -43,9 +43,9 @@ loop-again c =
     let l = c.before.before.before.loop in
     let h = c.before.before.loop-test.true in (
       search rules,
-      one_more (λ k. cell-key a.global k (cell_at a.self a.global k)) l.i h l.hash c.for-cell.result _
-          (c.for-cell.ensures ∙ ap (cell-key-in a.global l.i) c.before.at.ensures
-          ∙ key-of-cell a.self a.global l.i h) l.invariant.1,
+      one_more (λ k. cell_key a.global k (cell_at a.self a.global k)) l.i h l.hash c.for-cell.result _
+          (c.for-cell.ensures ∙ ap (cell_key_in a.global l.i) c.before.at.ensures
+          ∙ key_of_cell a.self a.global l.i h) l.invariant.1,
     )
 
 returns : tie.Need-returns invariant-loop decreases-loop

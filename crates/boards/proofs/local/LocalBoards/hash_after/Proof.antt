@@ -32,7 +32,7 @@ returns c = rw c.enum_told.given.1
 
 returns-2 : tie.Need-returns-2
 unfolding closing if◌then◌else◌
-returns-2 c = rw (c.before.cells-hash.ensures, c.for-board.ensures, c.before.before.enum-told2.given.1)
+returns-2 c = rw (c.before.cells_hash.ensures, c.for-board.ensures, c.before.before.enum-told2.given.1)
 
 returns-3 : tie.Need-returns-3
 unfolding closing if◌then◌else◌

@@ -1,7 +1,7 @@
 -- A cell is taken where one of the two digits is set.
 use mathlib.Core.Path.{◌≡◌}
 use lib.ListN.{length, length-map}
-use Rattle.boards.proofs.Packed.{taken-cells}
+use Rattle.boards.proofs.Packed.{taken_cells}
 use borrow.Author.Rules.{rules}
 use Rattle.boards.proofs.local.LocalBoards.mask.Statement.{statement}
 use Rattle.boards.proofs.local.LocalBoards.mask.Tie as tie
@@ -21,7 +21,7 @@ shr-result c = search rules
 returns : tie.Need-returns
 returns c =
     let n : length c.before.before.args.self.rows ≡ 3 = simp length-map at c.before.before.well-formed.0.1.1.0.1.0.1 in
-    taken-cells _ _ _ n c.before.row.ensures
+    taken_cells _ _ _ n c.before.row.ensures
 
 pub mask-spec : {M : Type 1} → statement M
 mask-spec = tie.close (tie.spec row-requires mul-result cast-result shr-result returns)

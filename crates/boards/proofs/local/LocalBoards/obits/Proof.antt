@@ -2,7 +2,7 @@
 use mathlib.Core.Path.{◌≡◌}
 use lib.ListN.{length, length-map}
 use native.Mathlib.Omega.{arith}
-use Rattle.boards.proofs.Packed.{o-cells}
+use Rattle.boards.proofs.Packed.{o_cells}
 use borrow.Author.Rules.{rules}
 use Rattle.boards.proofs.local.LocalBoards.obits.Statement.{statement}
 use Rattle.boards.proofs.local.LocalBoards.obits.Tie as tie
@@ -23,7 +23,7 @@ returns : tie.Need-returns
 returns c =
     let n : length c.before.before.before.args.self.rows ≡ 3 = simp length-map at
     c.before.before.before.well-formed.0.1.1.0.1.0.1 in
-    o-cells _ _ _ n c.before.before.row.ensures (omega arith)
+    o_cells _ _ _ n c.before.before.row.ensures (omega arith)
 
 pub obits-spec : {M : Type 1} → statement M
 obits-spec = tie.close (tie.spec row-requires mul-result cast-result shr-result returns)

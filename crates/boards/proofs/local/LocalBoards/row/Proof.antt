@@ -3,7 +3,7 @@ use mathlib.Core.Path.{sym}
 use native.Mathlib.Omega.{arith}
 use lib.ListN.{get_or-eq_default, length-map}
 use borrow.Author.Rules.{rules}
-use Rattle.keys.proofs.KeysPast.{rest-is-past}
+use Rattle.keys.proofs.KeysPast.{rest_is_past}
 use Rattle.boards.specs.Packed.{no_row}
 use Rattle.boards.proofs.local.LocalBoards.row.Statement.{statement}
 use Rattle.boards.proofs.local.LocalBoards.row.Tie as tie
@@ -29,7 +29,7 @@ returns-3 c = rw c.before.match.keys3
 returns-4 : tie.Need-returns-4
 returns-4 c =
     let n = simp length-map at c.before.well-formed.0.1.1.0.1.0.1 in
-    let h = rest-is-past 3 _ c.match.rest in
+    let h = rest_is_past 3 _ c.match.rest in
     sym (get_or-eq_default c.before.args.t1.rows no_row (omega arith))
 
 pub row-spec : {M : Type 1} → statement M

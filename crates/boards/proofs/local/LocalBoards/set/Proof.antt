@@ -1,13 +1,13 @@
 -- Over range nothing changes; else one bit more in the row of the board.
 use native.Mathlib.Omega.{arith}
-use Rattle.keys.proofs.KeysPast.{rest-is-past}
-use Rattle.boards.proofs.With.{with-past-board, with-past-cell, with_row}
+use Rattle.keys.proofs.KeysPast.{rest_is_past}
+use Rattle.boards.proofs.With.{with_past_board, with_past_cell, with_row}
 use borrow.Author.Rules.{rules}
 use Rattle.boards.proofs.local.LocalBoards.set.Statement.{statement}
 use Rattle.boards.proofs.local.LocalBoards.set.Tie as tie
 
 returns : tie.Need-returns
-returns c = with-past-cell _ _ _ _ c.if1.true
+returns c = with_past_cell _ _ _ _ c.if1.true
 
 mul-idx : tie.Need-overflow-mul-idx
 mul-idx c = search rules
@@ -55,7 +55,7 @@ returns-4 : tie.Need-returns-4
 returns-4 c = with_row _ _ _ _ 2 _ c.before.before.match.keys3 (omega arith) (omega arith) c.with3.ensures
 
 returns-5 : tie.Need-returns-5
-returns-5 c = let h = rest-is-past 3 _ c.match.rest in with-past-board _ _ _ _ (omega arith)
+returns-5 c = let h = rest_is_past 3 _ c.match.rest in with_past_board _ _ _ _ (omega arith)
 
 pub set_spec : {M : Type 1} → statement M
 set_spec =

@@ -1,7 +1,7 @@
 -- The digits of X at the nine places of the board.
 use mathlib.Core.Path.{◌≡◌}
 use lib.ListN.{length, length-map}
-use Rattle.boards.proofs.Packed.{x-cells}
+use Rattle.boards.proofs.Packed.{x_cells}
 use borrow.Author.Rules.{rules}
 use Rattle.boards.proofs.local.LocalBoards.xbits.Statement.{statement}
 use Rattle.boards.proofs.local.LocalBoards.xbits.Tie as tie
@@ -21,7 +21,7 @@ shr-result c = search rules
 returns : tie.Need-returns
 returns c =
     let n : length c.before.before.args.self.rows ≡ 3 = simp length-map at c.before.before.well-formed.0.1.1.0.1.0.1 in
-    x-cells _ _ _ n c.before.row.ensures
+    x_cells _ _ _ n c.before.row.ensures
 
 pub xbits-spec : {M : Type 1} → statement M
 xbits-spec = tie.close (tie.spec row-requires mul-result cast-result shr-result returns)

@@ -2,7 +2,7 @@
 use native.Mathlib.Omega.{arith}
 use lib.Bits.{bit_and, mask_lt}
 use lib.Count.{ones-le}
-use Rattle.boards.proofs.Cursor.{left-length}
+use Rattle.boards.proofs.Cursor.{left_length}
 use Rattle.boards.proofs.moves.MoveIterator.count.Statement.{statement}
 use Rattle.boards.proofs.moves.MoveIterator.count.Tie as tie
 
@@ -48,7 +48,7 @@ add-result-2 c =
     )
 
 returns : tie.Need-returns
-returns c = left-length _
+returns c = left_length _
 
 pub count_spec : {M : Type 1} → statement M
 count_spec = tie.close (tie.spec cast-top cast-middle cast-bottom add-result add-result-2 returns)

@@ -1,5 +1,5 @@
 -- The digits that one of the two has.
-use Rattle.boards.proofs.Packed.{done-states}
+use Rattle.boards.proofs.Packed.{done_states}
 use borrow.Author.Rules.{rules}
 use Rattle.boards.proofs.states.GlobalStates.donebits.Statement.{statement}
 use Rattle.boards.proofs.states.GlobalStates.donebits.Tie as tie
@@ -11,7 +11,7 @@ cast-result-2 : tie.Need-overflow-cast-result-2
 cast-result-2 c = search rules
 
 returns : tie.Need-returns
-returns c = done-states _
+returns c = done_states _
 
 pub donebits-spec : {M : Type 1} → statement M
 donebits-spec = tie.close (tie.spec cast-result cast-result-2 returns)

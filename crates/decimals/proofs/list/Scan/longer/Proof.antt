@@ -17,10 +17,10 @@ spoilt-requires : tie.Need-spoilt-requires
 spoilt-requires c κs = search rules
 
 returns : tie.Need-returns
-returns c = rw (sym c.before.before.before.with-digit.ensures ∙ c.before.value.given.1)
+returns c = rw (sym c.before.before.before.with_digit.ensures ∙ c.before.value.given.1)
 
 returns-2 : tie.Need-returns-2
-returns-2 c = c.spoilt.ensures ∙ rw (sym c.before.before.before.with-digit.ensures ∙ c.before.enum_told.given.1)
+returns-2 c = c.spoilt.ensures ∙ rw (sym c.before.before.before.with_digit.ensures ∙ c.before.enum_told.given.1)
 
 pub longer-spec : {M : Type 1} → statement M
 longer-spec =

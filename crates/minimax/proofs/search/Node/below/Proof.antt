@@ -2,9 +2,9 @@
 use mathlib.Core.Path.{ap, ◌∙◌}
 use Prim.Native.Nat.{ℕ, ◌-◌}
 use lib.ListN.{set}
-use Rattle.game.specs.Meaning.{position-of}
-use Rattle.evaluation.specs.Values.{board-value}
-use Rattle.minimax.proofs.StateScores.{minus-fits, minus-reads}
+use Rattle.game.specs.Meaning.{position_of}
+use Rattle.evaluation.specs.Values.{board_value}
+use Rattle.minimax.proofs.StateScores.{minus_fits, minus_reads}
 use borrow.Author.Rules.{rules}
 use Rattle.minimax.proofs.search.Node.below.Statement.{statement}
 use Rattle.minimax.proofs.search.Node.below.Tie as tie
@@ -19,10 +19,10 @@ sub-t10 : tie.Need-overflow-sub-t10
 sub-t10 c = search rules
 
 sub-t11 : tie.Need-overflow-sub-t11
-sub-t11 c = minus-fits _ c.before.before.before.before.before.before.before.before.requires.1
+sub-t11 c = minus_fits _ c.before.before.before.before.before.before.before.before.requires.1
 
 sub-t12 : tie.Need-overflow-sub-t12
-sub-t12 c = minus-fits _ c.before.before.before.before.before.before.before.before.before.before.requires.2
+sub-t12 c = minus_fits _ c.before.before.before.before.before.before.before.before.before.before.requires.2
 
 returns : tie.Need-returns
 returns c =
@@ -30,10 +30,10 @@ returns c =
     let start = called.before.before.before.before.before in
     let a = start.args.self in
     let child = start.args.child in
-    let x = minus-reads _ start.requires.1 in
-    let y = minus-reads _ start.requires.2 in
+    let x = minus_reads _ start.requires.1 in
+    let y = minus_reads _ start.requires.2 in
     let v = called.after.ensures ∙ ap (λ (b : ℕ). record {
-      boards = set a.values.boards b (board-value a.values.weights (position-of child.game) b);
+      boards = set a.values.boards b (board_value a.values.weights (position_of child.game) b);
       weights = a.values.weights;
     }) called.before.global.ensures in
     λ i. record {

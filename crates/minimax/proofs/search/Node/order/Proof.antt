@@ -1,5 +1,5 @@
 -- The second move is the hint.
-use Rattle.minimax.proofs.StateOutcomes.{order-candidates}
+use Rattle.minimax.proofs.StateOutcomes.{order_candidates}
 use borrow.Author.Rules.{rules}
 use Rattle.minimax.proofs.search.Node.order.Statement.{statement}
 use Rattle.minimax.proofs.search.Node.order.Tie as tie
@@ -19,7 +19,7 @@ new-requires c κs = search rules
 returns : tie.Need-returns
 returns c =
     let start = c.before.before.before.before.before.before in
-    λ words. order-candidates start.args.self start.args.state words start.args.pv _ _ _ start.args.first _
+    λ words. order_candidates start.args.self start.args.state words start.args.pv _ _ _ start.args.first _
     c.new.ensures c.before.hint.ensures (c.before.before.before.response-to.ensures words)
     (c.before.before.first.ensures _ start.requires.0)
 

@@ -1,6 +1,6 @@
 -- Nothing is stored after a stop; else the entry has the score, its bound and the variation's first move.
 use mathlib.Core.Path.{refl}
-use Rattle.minimax.proofs.StateOutcomes.{told-nothing, told-found}
+use Rattle.minimax.proofs.StateOutcomes.{told_nothing, told_found}
 use Rattle.base.proofs.Signed.{reads}
 use Rattle.minimax.proofs.StateScores.{told}
 use borrow.Author.Rules.{rules}
@@ -8,7 +8,7 @@ use Rattle.minimax.proofs.search.Node.store.Statement.{statement}
 use Rattle.minimax.proofs.search.Node.store.Tie as tie
 
 returns : tie.Need-returns
-returns c = told-nothing c.before.before.args.self c.before.before.args.found _ c.if1.true
+returns c = told_nothing c.before.before.args.self c.before.before.args.found _ c.if1.true
 
 bound-of-requires : tie.Need-bound-of-requires
 bound-of-requires c κs = search rules
@@ -32,7 +32,7 @@ returns-2 c =
     let at-if1 = at-bound-of.before.before.before in
     let at_place = at-if1.before.before in
     let s = at_place in
-    told-found s.args.self s.args.found _ _ _
+    told_found s.args.self s.args.found _ _ _
     (record {
       value = reads s.args.found.score;
       depth = s.args.self.depth;

@@ -3,7 +3,7 @@ use mathlib.Core.Path.{refl, ap₂}
 use lib.Signed.{le_z}
 use Rattle.table.specs.declared.Bound.TheVariants.{Exact, AtLeast, AtMost}
 use Rattle.minimax.proofs.StateScores.{told}
-use Rattle.minimax.proofs.StateEntries.{too_shallow, by-bound}
+use Rattle.minimax.proofs.StateEntries.{too_shallow, by_bound}
 use borrow.Author.Rules.{rules}
 use Rattle.minimax.proofs.search.Node.suffices.Statement.{statement}
 use Rattle.minimax.proofs.search.Node.suffices.Tie as tie
@@ -24,7 +24,7 @@ enum-told-3 c = search rules
 
 returns-2 : tie.Need-returns-2
 returns-2 c =
-    by-bound c.before.before.before.before.before.args.e c.before.before.before.before.before.args.self.depth
+    by_bound c.before.before.before.before.before.args.e c.before.before.before.before.before.args.self.depth
     c.before.before.before.before.before.args.self.alpha c.before.before.before.before.before.args.self.beta
     c.before.before.if1.false Exact _ c.enum_told.given.1 refl
 
@@ -32,7 +32,7 @@ returns-3 : tie.Need-returns-3
 returns-3 c =
     let at-if1 = c.before.before.before.before.before.before in
     let start = at-if1.before.before.before in
-    by-bound start.args.e start.args.self.depth start.args.self.alpha start.args.self.beta at-if1.if1.false AtLeast _
+    by_bound start.args.e start.args.self.depth start.args.self.alpha start.args.self.beta at-if1.if1.false AtLeast _
     c.before.before.before.before.enum-told2.given.1 (ap₂ le_z
     (told start.args.self.beta c.before.before.struct_told.given.1.1.1.0.1)
     (told start.args.e.value c.struct-told2.given.0.1))
@@ -41,7 +41,7 @@ returns-4 : tie.Need-returns-4
 returns-4 c =
     let at-if1 = c.before.before.before.before.before.before in
     let start = at-if1.before.before.before in
-    by-bound start.args.e start.args.self.depth start.args.self.alpha start.args.self.beta at-if1.if1.false AtMost _
+    by_bound start.args.e start.args.self.depth start.args.self.alpha start.args.self.beta at-if1.if1.false AtMost _
     c.before.before.before.before.enum-told3.given.1 (ap₂ le_z
     (told start.args.e.value c.before.before.struct-told3.given.0.1)
     (told start.args.self.alpha c.struct-told4.given.1.1.0.1))

@@ -4,7 +4,7 @@ use Prim.Native.Nat.{◌-◌, ◌≤◌}
 use native.Mathlib.Omega.{arith}
 use lib.ListN.{length, length-map}
 use borrow.Author.Rules.{rules}
-use Rattle.minimax.proofs.StatePv.{placed, placed-none, placed-more, placed-all}
+use Rattle.minimax.proofs.StatePv.{placed, placed_none, placed_more, placed_all}
 use Rattle.minimax.proofs.search.Pv.with_pv.Statement.{statement}
 use Rattle.minimax.proofs.search.Pv.with_pv.Tie as tie
 
@@ -21,7 +21,7 @@ sub-n : tie.Need-overflow-sub-n invariant-loop decreases-loop
 sub-n c = search rules
 
 loop-holds : tie.Need-loop-init invariant-loop decreases-loop
-loop-holds c = (placed-none _ _, omega arith)
+loop-holds c = (placed_none _ _, omega arith)
 
 element-copy-out-pv : tie.Need-element-copy-out-pv invariant-loop decreases-loop
 element-copy-out-pv c = search rules
@@ -43,7 +43,7 @@ loop-again c =
     let s = c.before.before.before in
     let n : length s.args.self.moves ≡ 81 = simp length-map at s.well-formed.0.1.1.0.1.0.1 in
     let b : length s.args.t3.moves ≡ 81 = simp length-map at s.well-formed.1.1.0.1.1.0.1.0.1 in (
-      placed-more s.args.self.moves s.args.t3.moves _ s.args.m c.before.before.loop.i _
+      placed_more s.args.self.moves s.args.t3.moves _ s.args.m c.before.before.loop.i _
           c.before.before.loop.invariant.0 (omega (arith, c.before.loop-test.true, s.requires.1))
           (omega (arith, c.before.loop-test.true, s.requires.1)),
       omega (arith, c.before.loop-test.true),
@@ -54,7 +54,7 @@ returns c =
     let s = c.before.before in
     let n : length s.args.self.moves ≡ 81 = simp length-map at s.well-formed.0.1.1.0.1.0.1 in
     let b : length s.args.t3.moves ≡ 81 = simp length-map at s.well-formed.1.1.0.1.1.0.1.0.1 in
-    placed-all s.args.self.moves s.args.t3.moves _ s.args.m s.args.depth c.before.loop.i
+    placed_all s.args.self.moves s.args.t3.moves _ s.args.m s.args.depth c.before.loop.i
     (omega (arith, c.before.loop.invariant.1, c.loop-test.false, s.requires.0)) (omega arith)
     (omega (arith, c.before.loop.invariant.1, s.requires.1)) c.before.loop.invariant.0
 

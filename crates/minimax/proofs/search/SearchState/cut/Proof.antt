@@ -1,5 +1,5 @@
 -- One count rises by one, and one place is set.
-use Rattle.minimax.proofs.StateSteps.{cut-x, cut-o}
+use Rattle.minimax.proofs.StateSteps.{cut_x, cut_o}
 use borrow.Author.Rules.{rules}
 use Rattle.minimax.proofs.search.SearchState.cut.Statement.{statement}
 use Rattle.minimax.proofs.search.SearchState.cut.Tie as tie
@@ -24,12 +24,12 @@ element-set-from-m-2 c = search rules
 
 returns : tie.Need-returns
 returns c =
-    λ words. cut-x c.before.before.before.args.self words c.before.before.before.args.prev
+    λ words. cut_x c.before.before.before.args.self words c.before.before.before.args.prev
     c.before.before.before.args.m _ c.enum_told.given.1
 
 returns-2 : tie.Need-returns-2
 returns-2 c =
-    λ words. cut-o c.before.before.before.args.self words c.before.before.before.args.prev
+    λ words. cut_o c.before.before.before.args.self words c.before.before.before.args.prev
     c.before.before.before.args.m _ c.enum-told2.given.1
 
 pub cut_spec : {M : Type 1} → statement M

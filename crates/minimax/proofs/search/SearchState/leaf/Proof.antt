@@ -1,5 +1,5 @@
 -- One count rises by one.
-use Rattle.minimax.proofs.StateSteps.{leaf-reached}
+use Rattle.minimax.proofs.StateSteps.{leaf_reached}
 use borrow.Author.Rules.{rules}
 use Rattle.minimax.proofs.search.SearchState.leaf.Statement.{statement}
 use Rattle.minimax.proofs.search.SearchState.leaf.Tie as tie
@@ -8,7 +8,7 @@ add-s : tie.Need-overflow-add-s
 add-s c = search rules
 
 returns : tie.Need-returns
-returns c = leaf-reached c.before.args.self
+returns c = leaf_reached c.before.args.self
 
 pub leaf-spec : {M : Type 1} → statement M
 leaf-spec = tie.close (tie.spec add-s returns)

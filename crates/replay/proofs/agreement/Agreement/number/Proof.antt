@@ -1,5 +1,5 @@
 -- The next number is there and is n, is another, or is lacking.
-use Rattle.replay.proofs.AgreementCompared.{number-agrees, number-differs, number-lacks}
+use Rattle.replay.proofs.AgreementCompared.{number_agrees, number_differs, number_lacks}
 use native.Mathlib.Omega.{arith}
 use borrow.Author.Rules.{rules}
 use Rattle.replay.proofs.agreement.Agreement.number.Statement.{statement}
@@ -15,13 +15,13 @@ add-t11 : tie.Need-overflow-add-t11
 add-t11 c = search rules
 
 returns : tie.Need-returns
-returns c = number-agrees _ _ _ c.before.before.if1.true c.if2.true
+returns c = number_agrees _ _ _ c.before.before.if1.true c.if2.true
 
 returns-2 : tie.Need-returns-2
-returns-2 c = number-differs _ _ _ c.before.before.if1.true c.if2.false
+returns-2 c = number_differs _ _ _ c.before.before.if1.true c.if2.false
 
 returns-3 : tie.Need-returns-3
-returns-3 c = number-lacks _ _ _ (omega arith)
+returns-3 c = number_lacks _ _ _ (omega arith)
 
 pub number-spec : {M : Type 1} → statement M
 number-spec =

@@ -3,14 +3,14 @@ use mathlib.Core.Path.{◌≡◌, refl}
 use Prim.Native.Nat.{◌≤◌, ◌-◌}
 use native.Mathlib.Omega.{arith}
 use lib.ListN.{length, take}
-use Rattle.replay.specs.Agreement.{compared-all}
-use Rattle.replay.proofs.AgreementCompared.{compared-next, compared-last}
+use Rattle.replay.specs.Agreement.{compared_all}
+use Rattle.replay.proofs.AgreementCompared.{compared_next, compared_last}
 use borrow.Author.Rules.{rules}
 use Rattle.replay.proofs.agreement.Agreement.numbers.Statement.{statement}
 use Rattle.replay.proofs.agreement.Agreement.numbers.Tie as tie
 
 abbrev invariant-loop : tie.invariant-loop
-invariant-loop words ns so-far₀ i₀ so_far i = (i ≤ length ns) × (so_far ≡ compared-all words so-far₀ (take i ns))
+invariant-loop words ns so-far₀ i₀ so_far i = (i ≤ length ns) × (so_far ≡ compared_all words so-far₀ (take i ns))
 
 abbrev decreases-loop : tie.decreases-loop
 decreases-loop words ns so-far₀ i₀ so_far i = length ns - i
@@ -36,12 +36,12 @@ loop-less c = omega arith
 loop-again : tie.Need-loop-preserved invariant-loop decreases-loop
 loop-again c =
     let l = c.before.before.before.loop in
-    (omega arith, compared-next _ _ _ _ _ _ c.before.before.loop-test.true l.invariant.1 c.number.ensures)
+    (omega arith, compared_next _ _ _ _ _ _ c.before.before.loop-test.true l.invariant.1 c.number.ensures)
 
 returns : tie.Need-returns invariant-loop decreases-loop
 returns c =
     let l = c.before.loop in let a = c.before.before.before.before.args in
-    compared-last a.words.now a.self _ a.ns.now l.i (omega arith) l.invariant.1
+    compared_last a.words.now a.self _ a.ns.now l.i (omega arith) l.invariant.1
 
 pub numbers-spec : {M : Type 1} → statement M
 numbers-spec =

@@ -2,7 +2,7 @@
 use mathlib.Core.Path.{sym}
 use native.Mathlib.Omega.{arith}
 use lib.Seq.{length-take-le}
-use Rattle.answer_text.proofs.AnswerBytes.{text-room}
+use Rattle.answer_text.proofs.AnswerBytes.{text_room}
 use Rattle.replay.proofs.TotalsCount.{concluded}
 use borrow.Author.Rules.{rules}
 use Rattle.replay.proofs.totals.Totals.conclude.Statement.{statement}
@@ -15,7 +15,7 @@ written-requires : tie.Need-written-requires
 written-requires c κs = search rules
 
 array-share-prefix-bytes : tie.Need-array-share-prefix-bytes
-array-share-prefix-bytes c = omega (arith, text-room _ _ c.before.before.last-text.ensures, c.written.ensures)
+array-share-prefix-bytes c = omega (arith, text_room _ _ c.before.before.last_text.ensures, c.written.ensures)
 
 slice-aggregate-write-all : tie.Need-slice-aggregate-write-all
 slice-aggregate-write-all c = sym (length-take-le _ _ (array-share-prefix-bytes c.before))
@@ -33,7 +33,7 @@ written-requires-2 : tie.Need-written-requires-2
 written-requires-2 c κs = search rules
 
 array-share-prefix-bytes-2 : tie.Need-array-share-prefix-bytes-2
-array-share-prefix-bytes-2 c = omega (arith, text-room _ _ c.before.before.told.ensures, c.written2.ensures)
+array-share-prefix-bytes-2 c = omega (arith, text_room _ _ c.before.before.told.ensures, c.written2.ensures)
 
 slice-aggregate-write-all-2 : tie.Need-slice-aggregate-write-all-2
 slice-aggregate-write-all-2 c = sym (length-take-le _ _ (array-share-prefix-bytes-2 c.before))
@@ -47,7 +47,7 @@ returns c =
     let at-printed = at_told.before in
     let at_last = at-printed.before.before.before.before.before in
     let a = at_last.before.before.args in
-    concluded a.self a.said.now a.input.failed at-printed.before.write-all.result _ _ _ _ at_last.last-text.ensures
+    concluded a.self a.said.now a.input.failed at-printed.before.write-all.result _ _ _ _ at_last.last_text.ensures
     at-printed.before.before.before.written.ensures at-printed.printed.ensures at_told.told.ensures
 
 pub conclude-spec : {M : Type 1} → statement M

@@ -1,5 +1,5 @@
 -- The text has the number of the record that is counted.
-use Rattle.replay.proofs.TotalsCount.{counted-with}
+use Rattle.replay.proofs.TotalsCount.{counted_with}
 use borrow.Author.Rules.{rules}
 use Rattle.replay.proofs.totals.Totals.counted.Statement.{statement}
 use Rattle.replay.proofs.totals.Totals.counted.Tie as tie
@@ -13,7 +13,7 @@ record-text-requires c κs = search rules
 returns : tie.Need-returns
 returns c =
     let a = c.before.before.args in
-    counted-with a.self _ a.outcome _ c.before.with-record.ensures c.record-text.ensures
+    counted_with a.self _ a.outcome _ c.before.with_record.ensures c.record_text.ensures
 
 pub counted_spec : {M : Type 1} → statement M
 counted_spec = tie.close (tie.spec with-record-requires record-text-requires returns)

@@ -1,7 +1,7 @@
 -- By whether reading failed, and whether all was written.
 use mathlib.Core.Path.{sym, ap, ◌∙◌}
-use Rattle.answer_text.specs.AnswerBytes.{text-of-bytes}
-use Rattle.replay.proofs.TotalsText.{verdict-last}
+use Rattle.answer_text.specs.AnswerBytes.{text_of_bytes}
+use Rattle.replay.proofs.TotalsText.{verdict_last}
 use borrow.Author.Rules.{rules}
 use Rattle.replay.proofs.totals.Totals.last_text.Statement.{statement}
 use Rattle.replay.proofs.totals.Totals.last_text.Tie as tie
@@ -22,7 +22,7 @@ returns-2 : tie.Need-returns-2
 returns-2 c =
     let a = c.before.before.before.before.args in
     c.verdict.ensures
-    ∙ sym (ap text-of-bytes (verdict-last a.self a.said.now a.failed c.before.before.if1.false c.before.if2.true))
+    ∙ sym (ap text_of_bytes (verdict_last a.self a.said.now a.failed c.before.before.if1.false c.before.if2.true))
 
 returns-3 : tie.Need-returns-3
 returns-3 c = rw (c.before.before.if1.false, c.before.if2.false) c.new2.ensures

@@ -1,7 +1,7 @@
 -- Nothing, or a message and a line feed.
 use mathlib.Core.List.{[]}
 use Rattle.text.specs.Bytes.{quoted}
-use Rattle.replay.proofs.TotalsText.{then-text, then-byte}
+use Rattle.replay.proofs.TotalsText.{then_text, then_byte}
 use borrow.Author.Rules.{rules}
 use Rattle.replay.proofs.totals.Totals.told.Statement.{statement}
 use Rattle.replay.proofs.totals.Totals.told.Tie as tie
@@ -21,9 +21,9 @@ push-requires c κs = search rules
 returns : tie.Need-returns
 unfolding quoted
 returns c =
-    let t = then-text _ _ [] (quoted "reading failed: the list is not whole") c.before.before.before.new.ensures
+    let t = then_text _ _ [] (quoted "reading failed: the list is not whole") c.before.before.before.new.ensures
     c.before.text.ensures in
-    rw c.before.before.before.before.if1.true (then-byte _ _ _ 10 t c.push.ensures)
+    rw c.before.before.before.before.if1.true (then_byte _ _ _ 10 t c.push.ensures)
 
 new-requires-2 : tie.Need-new-requires-2
 new-requires-2 c κs = search rules
@@ -46,10 +46,10 @@ push-requires-2 c κs = search rules
 returns-3 : tie.Need-returns-3
 unfolding quoted
 returns-3 c =
-    let t = then-text _ _ [] (quoted "writing failed: not all is printed") c.before.before.before.new3.ensures
+    let t = then_text _ _ [] (quoted "writing failed: not all is printed") c.before.before.before.new3.ensures
     c.before.text2.ensures in
     rw (c.before.before.before.before.before.if1.false, c.before.before.before.before.if2.false)
-    (then-byte _ _ _ 10 t c.push2.ensures)
+    (then_byte _ _ _ 10 t c.push2.ensures)
 
 pub told-spec : {M : Type 1} → statement M
 told-spec =

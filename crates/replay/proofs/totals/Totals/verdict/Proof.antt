@@ -2,7 +2,7 @@
 use mathlib.Core.List.{[]}
 use Rattle.text.specs.Bytes.{quoted}
 use Rattle.text.specs.ProgramLine.{decimal}
-use Rattle.replay.proofs.TotalsText.{then-text, then-byte, verdict-without, verdict-with}
+use Rattle.replay.proofs.TotalsText.{then_text, then_byte, verdict_without, verdict_with}
 use borrow.Author.Rules.{rules}
 use Rattle.replay.proofs.totals.Totals.verdict.Statement.{statement}
 use Rattle.replay.proofs.totals.Totals.verdict.Tie as tie
@@ -39,11 +39,11 @@ returns c =
     let at-text = at-decimal2.before in
     let at-decimal = at-text.before.before in
     let t = at-decimal.before.before.before.args.self in
-    let agreed = then-text _ _ [] (decimal t.agreed) at-decimal.before.new.ensures at-decimal.decimal.ensures in
-    let of = then-text _ _ _ (quoted " of ") agreed at-text.text.ensures in
-    let records = then-text _ _ _ (decimal t.records) of at-decimal2.decimal2.ensures in
-    let agree = then-text _ _ _ (quoted " records agree") records at-text2.text2.ensures in
-    verdict-without t _ _ c.before.if1.true (then-byte _ _ _ 10 agree c.push.ensures)
+    let agreed = then_text _ _ [] (decimal t.agreed) at-decimal.before.new.ensures at-decimal.decimal.ensures in
+    let of = then_text _ _ _ (quoted " of ") agreed at-text.text.ensures in
+    let records = then_text _ _ _ (decimal t.records) of at-decimal2.decimal2.ensures in
+    let agree = then_text _ _ _ (quoted " records agree") records at-text2.text2.ensures in
+    verdict_without t _ _ c.before.if1.true (then_byte _ _ _ 10 agree c.push.ensures)
 
 slice-aggregate-text-3 : tie.Need-slice-aggregate-text-3
 slice-aggregate-text-3 c = search rules
@@ -79,15 +79,15 @@ returns-2 c =
     let at-decimal = at-text.before.before in
     let a = at-decimal.before.before.before.args in
     let t = a.self in
-    let agreed = then-text _ _ [] (decimal t.agreed) at-decimal.before.new.ensures at-decimal.decimal.ensures in
-    let of = then-text _ _ _ (quoted " of ") agreed at-text.text.ensures in
-    let records = then-text _ _ _ (decimal t.records) of at-decimal2.decimal2.ensures in
-    let agree = then-text _ _ _ (quoted " records agree") records at-text2.text2.ensures in
-    let comma = then-text _ _ _ (quoted ", ") agree at-text3.text3.ensures in
-    let apart = then-text _ _ _ (decimal t.apart) comma at-decimal3.decimal3.ensures in
-    let of-them = then-text _ _ _ (quoted " of them ") apart at-text4.text4.ensures in
-    let said = then-text _ _ _ a.said.now of-them c.before.text5.ensures in
-    verdict-with t _ _ at-if.if1.false (then-byte _ _ _ 10 said c.push2.ensures)
+    let agreed = then_text _ _ [] (decimal t.agreed) at-decimal.before.new.ensures at-decimal.decimal.ensures in
+    let of = then_text _ _ _ (quoted " of ") agreed at-text.text.ensures in
+    let records = then_text _ _ _ (decimal t.records) of at-decimal2.decimal2.ensures in
+    let agree = then_text _ _ _ (quoted " records agree") records at-text2.text2.ensures in
+    let comma = then_text _ _ _ (quoted ", ") agree at-text3.text3.ensures in
+    let apart = then_text _ _ _ (decimal t.apart) comma at-decimal3.decimal3.ensures in
+    let of-them = then_text _ _ _ (quoted " of them ") apart at-text4.text4.ensures in
+    let said = then_text _ _ _ a.said.now of-them c.before.text5.ensures in
+    verdict_with t _ _ at-if.if1.false (then_byte _ _ _ 10 said c.push2.ensures)
 
 pub verdict-spec : {M : Type 1} → statement M
 verdict-spec =
