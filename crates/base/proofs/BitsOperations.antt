@@ -52,15 +52,23 @@ module _ (f : ℕ → ℕ → ℕ) (g : Bool → Bool → Bool) (c : (p q : Bool
   two_digits (suc zero) (suc (suc q)) h k = absurd (omega arith)
   two_digits (suc (suc p)) q h k = absurd (omega arith)
 
+or_digits : (p q : Bool) → T (ltb (max (digit p) (digit q)) 2) × (eqb (max (digit p) (digit q)) 1 ≡ p || q)
+or_digits true true = (tt, refl)
+or_digits true false = (tt, refl)
+or_digits false true = (tt, refl)
+or_digits false false = (tt, refl)
+
 pub bit-bit_or : (a b k : ℕ) → bit (bit_or a b) k ≡ (bit a k || bit b k)
-bit-bit_or =
-    bit_op bit_or max ◌||◌ or_shr or_step (two_digits max ◌||◌ λ p q. elim p
-    [ true ↦ elim q [ true ↦ (tt, refl) | false ↦ (tt, refl) ] | false ↦ elim q [ true ↦ (tt, refl) | false ↦ (tt, refl) ] ])
+bit-bit_or = bit_op bit_or max ◌||◌ or_shr or_step (two_digits max ◌||◌ or_digits)
+
+and_digits : (p q : Bool) → T (ltb (min (digit p) (digit q)) 2) × (eqb (min (digit p) (digit q)) 1 ≡ p && q)
+and_digits true true = (tt, refl)
+and_digits true false = (tt, refl)
+and_digits false true = (tt, refl)
+and_digits false false = (tt, refl)
 
 pub bit-bit_and : (a b k : ℕ) → bit (bit_and a b) k ≡ (bit a k && bit b k)
-bit-bit_and =
-    bit_op bit_and min ◌&&◌ and_shr and_step (two_digits min ◌&&◌ λ p q. elim p
-    [ true ↦ elim q [ true ↦ (tt, refl) | false ↦ (tt, refl) ] | false ↦ elim q [ true ↦ (tt, refl) | false ↦ (tt, refl) ] ])
+bit-bit_and = bit_op bit_and min ◌&&◌ and_shr and_step (two_digits min ◌&&◌ and_digits)
 
 abbrev pub xor : Bool → Bool → Bool
 xor true true = false
@@ -68,10 +76,14 @@ xor true false = true
 xor false true = true
 xor false false = false
 
+xor_digits : (p q : Bool) → T (ltb (differ (digit p) (digit q)) 2) × (eqb (differ (digit p) (digit q)) 1 ≡ xor p q)
+xor_digits true true = (tt, refl)
+xor_digits true false = (tt, refl)
+xor_digits false true = (tt, refl)
+xor_digits false false = (tt, refl)
+
 pub bit-bit_xor : (a b k : ℕ) → bit (bit_xor a b) k ≡ xor (bit a k) (bit b k)
-bit-bit_xor =
-    bit_op bit_xor differ xor xor_shr xor_step (two_digits differ xor λ p q. elim p
-    [ true ↦ elim q [ true ↦ (tt, refl) | false ↦ (tt, refl) ] | false ↦ elim q [ true ↦ (tt, refl) | false ↦ (tt, refl) ] ])
+bit-bit_xor = bit_op bit_xor differ xor xor_shr xor_step (two_digits differ xor xor_digits)
 
 -- one more digit
 pub bit_suc : (n k : ℕ) → bit n (suc k) ≡ bit (n / 2) k

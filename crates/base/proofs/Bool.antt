@@ -53,7 +53,7 @@ Always (suc n) f = (b : Bool) → Always n (f b)
 pub always : (n : ℕ) (f : Law n) → T (law n f) → Always n f
 always zero f t = t
 always (suc n) f t =
-    λ b. elim b [
+    λ b. elim b as (λ b. Always n (f b)) [
       | true ↦ always n (f true) (and→ (law n (f true)) _ t).0
       | false ↦ always n (f false) (and→ (law n (f true)) _ t).1
     ]

@@ -80,7 +80,7 @@ module _ (weights : Weights) (accepted : T (accepted_weights weights)) (ms : Lis
       fits = z.fits;
       next_too_many = z.next_too_many;
       right_so_far = stopped_right (game sc) (rules_lawful sc accepted) n (suc k) p g s table_off (omega arith) z.marked;
-      nothing_so_far = λ e. z.whole-is ∙ ap (λ (d : ℕ). (analyze (game sc) unlimited d p s).completed) e;
+      nothing_so_far = λ e. z.whole_is ∙ ap (λ (d : ℕ). (analyze (game sc) unlimited d p s).completed) e;
     }
 
   -- ---- with no draw winner, what the endgame status says

@@ -203,11 +203,11 @@ first_bad_is (c ∷ cs) = if_ind (BadMarks (c ∷ cs)) (known (overall_mark c)) 
     (λ n. record { inside = omega arith; before = λ k h. absurd (omega arith); bad = T_not (known (overall_mark c)) n })
   where
     go : (r : Option ℕ) → T (known (overall_mark c)) → BadMarks cs r → BadMarks (c ∷ cs) (one_on r)
-    go none t f = λ k. elim k [ zero ↦ λ _. t | suc k ↦ λ h. f k (omega arith) ]
+    go none t f = λ k. elim k as (λ k. k < length (c ∷ cs) → Known (c ∷ cs) k) [ zero ↦ λ _. t | suc k ↦ λ h. f k (omega arith) ]
     go (some i) t f =
         record {
           inside = omega (arith, f.inside);
-          before = λ k. elim k [ zero ↦ λ _. t | suc k ↦ λ h. f.before k (omega arith) ];
+          before = λ k. elim k as (λ k. k < suc i → Known (c ∷ cs) k) [ zero ↦ λ _. t | suc k ↦ λ h. f.before k (omega arith) ];
           bad = f.bad;
         }
 
@@ -227,10 +227,12 @@ abbrev pub NoneAt : List ℕ → ℕ → Type 0
 NoneAt os i = (k : ℕ) → i ≤ k → k < length os → get_or os k 0 ≡ at_mark → ⊥
 
 none_at_later : (c : ℕ) (cs : List ℕ) (i : ℕ) → NoneAt cs i → NoneAt (c ∷ cs) (suc i)
-none_at_later c cs i f k = elim k [ zero ↦ λ h. absurd (omega arith) | suc k ↦ λ h l. f k (omega arith) (omega arith) ]
+none_at_later c cs i f zero h l = absurd (omega arith)
+none_at_later c cs i f (suc k) h l = f k (omega arith) (omega arith)
 
 none_at_all : (c : ℕ) (cs : List ℕ) → (c ≡ at_mark → ⊥) → NoneAt cs 0 → NoneAt (c ∷ cs) 0
-none_at_all c cs n f k = elim k [ zero ↦ λ _ _. n | suc k ↦ λ _ l. f k (omega arith) (omega arith) ]
+none_at_all c cs n f zero _ _ = n
+none_at_all c cs n f (suc k) _ l = f k (omega arith) (omega arith)
 
 -- it is the last place that holds `@`, or with none what was due before
 pub last_at_cases {κ} : (P : NextBoard → Type κ) (i : ℕ) (os : List ℕ) (d : NextBoard) →
