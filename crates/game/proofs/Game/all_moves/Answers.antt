@@ -4,4 +4,4 @@ use Rattle.game.proofs.MeaningMoves.{moves_cursor}
 use Rattle.game.proofs.Game.all_moves.Goals as goal
 
 pub returns : goal.returns
-returns c = c.Free-in.ensures ∙ moves_cursor c.args.self _ c.playable.ensures
+returns c = c.free_in.ensures ∙ moves_cursor c.args.self _ c.playable.ensures

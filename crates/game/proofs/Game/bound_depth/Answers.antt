@@ -7,5 +7,5 @@ use Rattle.game.proofs.Game.bound_depth.Goals as goal
 
 pub returns : goal.returns
 returns c =
-    c.count.ensures ∙ ap (λ it. length (moves_left it)) c.Free-in.ensures
+    c.count.ensures ∙ ap (λ it. length (moves_left it)) c.free_in.ensures
     ∙ depth_counted c.args.self _ c.openbits.ensures

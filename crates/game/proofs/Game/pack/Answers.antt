@@ -19,9 +19,9 @@ loop-board-preserved c =
     let l = c.loop-board in
     let h = c.loop-board-test.true in (
       search rules,
-      one_more (λ b. board_hash b (cell_at a.local-boards b) (state_at a.global-states b)) l.board h l.hash
+      one_more (λ b. board_hash b (cell_at a.local_boards b) (state_at a.global_states b)) l.board h l.hash
           c.board_hash-hash.result _
-          (c.board_hash-hash.ensures ∙ ap (board_hash l.board (cell_at a.local-boards l.board)) c.at.ensures)
+          (c.board_hash-hash.ensures ∙ ap (board_hash l.board (cell_at a.local_boards l.board)) c.at.ensures)
           l.invariant.1,
     )
 
@@ -30,5 +30,5 @@ unfolding packed xors
 returns c =
     let a = c.args in
     let e : c.loop-board.board ≡ 9 = omega arith in
-    ap (with_hash (parts a.next-player a.next_board a.local-boards a.global-states a.game-state))
+    ap (with_hash (parts a.next_player a.next_board a.local_boards a.global_states a.game_state))
     (sym (xor_zero_r c.loop-board.hash) ∙ (rw e at c.loop-board.invariant.1))

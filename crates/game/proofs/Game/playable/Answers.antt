@@ -10,25 +10,19 @@ returns-then-game_over c = none_over (position_of c.args.self) (not-true _ (sym 
 
 pub returns-in-Any : goal.returns-in-Any
 returns-in-Any c =
-    let opened = c in
-    let unfinished = opened in
-    all_open (position_of unfinished.args.self) _
-    (not-false _ (sym unfinished.game_over.ensures ∙ unfinished.if-game_over.false))
-    opened.openbits-open.ensures
+    all_open (position_of c.args.self) _
+    (not-false _ (sym c.game_over.ensures ∙ c.if-game_over.false))
+    c.openbits-open.ensures
     c.in-Any.is
 
 pub returns-then-b-gt8 : goal.returns-then-b-gt8
 returns-then-b-gt8 c =
-    let next = c in
-    none_due (position_of next.args.self) _ next.in-Only.is c.if-b-gt8.true
+    none_due (position_of c.args.self) _ c.in-Only.is c.if-b-gt8.true
 
 pub returns-else-b-gt8 : goal.returns-else-b-gt8
 returns-else-b-gt8 c =
-    let next = c in
-    let opened = next in
-    let unfinished = opened in
-    one_open (position_of unfinished.args.self) _
-    (not-false _ (sym unfinished.game_over.ensures ∙ unfinished.if-game_over.false))
-    opened.openbits-open.ensures _
-    next.in-Only.is
+    one_open (position_of c.args.self) _
+    (not-false _ (sym c.game_over.ensures ∙ c.if-game_over.false))
+    c.openbits-open.ensures _
+    c.in-Only.is
     c.if-b-gt8.false
