@@ -8,14 +8,6 @@ pub returns-then-not-within : goal.returns-then-not-within
 returns-then-not-within c =
     no_digit c.args.value c.args.b (sym c.within.ensures ∙ c.if-not-within.true)
 
-pub overflow_sub-digit : goal.overflow_sub-digit
-overflow_sub-digit c = (within_bounds c.args.b 48 57 (sym c.within.ensures ∙ c.if-not-within.false)).0
-
-pub overflow_add-result : goal.overflow_add-result
-overflow_add-result c =
-    let w = within_bounds c.args.b 48 57 (sym c.within.ensures
-    ∙ c.if-not-within.false) in omega arith
-
 pub returns-then-value-lt1844674407370955161 : goal.returns-then-value-lt1844674407370955161
 returns-then-value-lt1844674407370955161 c =
     let w = within_bounds c.args.b 48 57 (sym c.within.ensures

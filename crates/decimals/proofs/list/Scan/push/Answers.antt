@@ -1,4 +1,5 @@
 -- The ways of a byte.
+use borrow.Author.Tests.{not-true, not-false}
 use Rattle.decimals.proofs.Lists.{goes_on, nothing, room, no_room}
 use Rattle.decimals.proofs.list.Scan.push.Goals as goal
 
@@ -9,14 +10,14 @@ returns-then-b-ne32 c =
 pub returns-then-not-self : goal.returns-then-not-self
 returns-then-not-self c =
     let a = c.args in nothing a.self a.b a.words.now _
-    c.if-b-ne32.false (c.if-not-self.true) c.spoilt.ensures
+    c.if-b-ne32.false (not-true _ c.if-not-self.true) c.spoilt.ensures
 
 pub returns-then-at-words : goal.returns-then-at-words
 returns-then-at-words c =
     let a = c.args in room a.self a.b a.words.now
-    c.if-b-ne32.false (c.if-not-self.false) c.if-at-words.true
+    c.if-b-ne32.false (not-false _ c.if-not-self.false) c.if-at-words.true
 
 pub returns : goal.returns
 returns c =
     let a = c.args in no_room a.self a.b a.words.now _
-    c.if-b-ne32.false (c.if-not-self.false) c.if-at-words.false c.spoilt-2.ensures
+    c.if-b-ne32.false (not-false _ c.if-not-self.false) c.if-at-words.false c.spoilt-2.ensures
