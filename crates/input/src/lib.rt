@@ -1,11 +1,12 @@
 // Lines of standard input, of any length, read into lent memory of any size.
 #![tactic(auto)]
 
-ghost use Rattle.std.specs.Prelude.{◌≡◌, min, length, set};
+ghost use Rattle.std.specs.Prelude.{◌≡◌, ◌≤ℤ◌, pos, negsuc, min, length, set};
 ghost use Rattle.input.specs.Lines.{one_longer, count_on, complete_line, new_input, no_line_came, begun, refilled};
 ghost use Rattle.input.specs.Lines.{TakesLine, ReadsLine};
 
-use libc::STDIN_FILENO;
+use std::io::Read;
+use std::rt::Stdin;
 
 const LONGEST: usize = 18446744073709551615;
 
@@ -31,6 +32,17 @@ pub fn one_more(n: usize) -> usize
     ensures { result ≡ count_on n }
 {
     if n < LONGEST { n + 1 } else { n }
+}
+
+// One read into the buffer: how many bytes came, or -1 if the read failed.
+fn read_of(mut stdin: Stdin, buffer: &mut [u8]) -> isize
+    ensures low { negsuc 0 ≤ℤ result }
+    ensures high { result ≤ℤ pos (length buffer.new) }
+{
+    match stdin.read(buffer) {
+        Ok(n) => n as isize,
+        Err(_) => -1,
+    }
 }
 
 fn least(a: usize, b: usize) -> usize
@@ -154,7 +166,7 @@ impl Input {
     }
 
     // The next line: reads until its end is met, the input ends or a read fails.
-    pub fn next_line(self, buffer: &mut [u8], kept: &mut [u8]) -> Input
+    pub fn next_line(self, stdin: Stdin, buffer: &mut [u8], kept: &mut [u8]) -> Input
         ensures { ReadsLine self buffer.old kept.old result buffer.new kept.new }
     {
         let mut input = self.begun();
@@ -164,7 +176,7 @@ impl Input {
             if input.found {
                 return input;
             }
-            let got = libc::read(STDIN_FILENO, buffer);
+            let got = read_of(stdin, buffer);
             input = input.refilled(got, buffer);
             if input.end == 0 {
                 return input;
