@@ -201,9 +201,9 @@ module _ (ok : ℕ → Bool) where
   pub left_accepted : (seen : ℕ → Bool) (ms : List ℕ) (m : ℕ) (rest : List ℕ) → unmarked ok seen ms ≡ m ∷ rest → T (ok m)
   unfolding unmarked
   left_accepted seen [] m rest = λ e. absurd (let z : ◌≡◌ {A = ℕ} 0 1 = cc in omega arith)
-  left_accepted seen (x ∷ ms) m rest = if_ind (λ l. l ≡ m ∷ rest → T (ok m)) (seen x) _ _ (λ _ e. left_accepted _ ms m rest e)
+  left_accepted seen (x ∷ ms) m rest = if_ind (λ l. l ≡ m ∷ rest → T (ok m)) (seen x) _ _ (λ _ e. left_accepted seen ms m rest e)
       (λ _. if_ind (λ l. l ≡ m ∷ rest → T (ok m)) (ok x) _ _ (λ t e. let q : x ≡ m = cc in subst (λ (z : ℕ). T (ok z)) q t)
-      (λ _ e. left_accepted _ ms m rest e))
+      (λ _ e. left_accepted (with_mark seen x) ms m rest e))
 
   -- a step gives the first of those left, and leaves the others
   abbrev FirstOf : List ℕ → Step → Type 0

@@ -6,6 +6,7 @@ use Rattle.theory.specs.Table.{to_word, replaces}
 use Rattle.table.specs.Entries.{entry_means}
 use Rattle.table.proofs.EntriesRows.{held_at, store_off, store_refused, store_wrote}
 use mir.Facts.{to_z-of_z}
+use mir.Syntax.{w64}
 use Rattle.table.proofs.store.Goals as goal
 
 pub returns-then-n-lt3 : goal.returns-then-n-lt3
@@ -30,7 +31,7 @@ returns c =
     let decision : c.replaces.result ≡ replaces c.args.e.depth (held_at c.args.words.now c.slot-i.result) = c.replaces.ensures ∙ ap (replaces c.args.e.depth)
     c.entry_of-held.ensures in
     let e = c.args.e in
-    let value = to_z-of_z {z = e.value} (record { sfits = c.struct_told-1.given.0.1 }) in
+    let value = to_z-of_z {w = w64} {z = e.value} (record { sfits = c.struct_told-1.given.0.1 }) in
     store_wrote _ _ _ c.if-n-lt3.false c.slot-i.ensures.0 (entry_means e) _ _
     (c.to_word.ensures ∙ ap to_word value) c.rest_of.ensures
     (sym decision ∙ c.if-not-replaces.false)
