@@ -1,0 +1,19 @@
+-- A search over the moves comes between a position and the positions below it; each turn over the moves is one of the definition's.
+use Prim.Native.Nat.{◌+◌, ◌*◌}
+use lib.ListN.{length}
+use Rattle.order.specs.Order.{order_left}
+use Rattle.minimax.proofs.StateMoves.{stand, Turn}
+use Rattle.minimax.proofs.search.+minimax_moves.Given as goal
+
+abbrev pub decreases-minimax : goal.decreases-minimax
+decreases-minimax l = 2 * l.a.depth + 1
+
+abbrev pub decreases-moves : goal.decreases-moves
+decreases-moves l = 2 * l.a.depth
+
+abbrev pub invariant-moves-loop-a : goal.invariant-moves-loop-a
+invariant-moves-loop-a l =
+    Turn l.a (stand l.initial.words l.initial.order l.initial.s l.initial.best l.initial.local) (stand l.words l.order l.s l.best l.local)
+
+abbrev pub decreases-moves-loop-a : goal.decreases-moves-loop-a
+decreases-moves-loop-a l = length (order_left l.a.game l.order)
