@@ -22,7 +22,8 @@ returns-then-not-is_sound c =
     analyses_as _ _ _
     (analysis_unsound p (passes _ (not-false (unfinished p) (sym c.game_over.ensures ∙ c.if-game_over.false)))
     (passes _ (ap not (sym c.is_sound.ensures ∙ c.if-not-is_sound.true))))
-    (ap analysis_number c.unanalysed-then-not-is_sound.ensures.0) c.unanalysed-then-not-is_sound.ensures.1 c.unanalysed-then-not-is_sound.ensures.2
+    (ap analysis_number c.unanalysed-then-not-is_sound.ensures.0)
+    c.unanalysed-then-not-is_sound.ensures.1 c.unanalysed-then-not-is_sound.ensures.2
 
 pub analysed-requires : goal.analysed-requires
 analysed-requires c =
