@@ -1,10 +1,5 @@
 use borrow.Author.Rules.{rules}
 use Rattle.rules.specs.Hash.{board_key}
-use Rattle.keys.proofs.for_board.Reads as reads
-use Rattle.keys.proofs.for_board.Lts as lts
-use Rattle.keys.proofs.board_drawn.Reads as board-drawn-reads
-use Rattle.keys.proofs.board_o.Reads as board-o-reads
-use Rattle.keys.proofs.board_x.Reads as board-x-reads
 use Rattle.keys.proofs.for_board.Goals as goal
 
 pub returns-in-InPlay : goal.returns-in-InPlay

@@ -1,10 +1,7 @@
 -- The checks of the rules stand in their order, and the first that fails gives the number.
-use mathlib.Core.Path.{◌≡◌, ap}
+use mathlib.Core.Path.{ap}
 use mathlib.Core.Bool.{true, false, not}
 use Rattle.rules.specs.Board.{blank}
-use Rattle.rules.specs.Play.{play}
-use Rattle.game.specs.Meaning.{position_of}
-use Rattle.game.specs.After.{refusal}
 use Rattle.game.proofs.AfterRefusals.{over_board, over_cell, finished, shut, elsewhere, looked}
 use Rattle.game.proofs.Game.check_move.Goals as goal
 

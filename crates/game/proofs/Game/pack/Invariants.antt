@@ -2,7 +2,6 @@ use mathlib.Core.Path.{◌≡◌}
 use Prim.Native.Nat.{◌≤◌}
 use lib.ListN.{drop}
 use lib.Bits.{bit_xor}
-use borrow.Author.Rules.{rules}
 use Rattle.rules.specs.Hash.{board_hash, xors, hash}
 use Rattle.rules.specs.Board.{nine}
 use Rattle.boards.specs.Packed.{cell_at, state_at}

@@ -1,7 +1,6 @@
 -- The cell is what its two digits say, and the row of a board over 8 has none.
-use mathlib.Core.Path.{◌≡◌, sym}
+use mathlib.Core.Path.{sym}
 use native.Mathlib.Omega.{arith}
-use lib.ListN.{length, length-map}
 use Rattle.boards.proofs.Packed.{cell_past_cell, reads_x, reads_o, reads_none}
 use Rattle.boards.proofs.local.LocalBoards.at.Goals as goal
 

@@ -1,6 +1,6 @@
 -- The digits of O, without those of X, at the nine places of the board.
 use mathlib.Core.Path.{◌≡◌}
-use lib.ListN.{length, length-map}
+use lib.ListN.{length}
 use native.Mathlib.Omega.{arith}
 use Rattle.boards.proofs.Packed.{o_cells}
 use Rattle.boards.proofs.local.LocalBoards.obits.Goals as goal

@@ -1,6 +1,5 @@
 -- The rows are the same, one by one.
 use mathlib.Core.Path.{sym, ◌∙◌}
-use borrow.Author.Tests.{not-true, not-false}
 use Rattle.boards.proofs.local.LocalBoards.same_in.Goals as goal
 
 pub returns-then-not-same_in : goal.returns-then-not-same_in
