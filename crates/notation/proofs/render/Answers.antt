@@ -8,9 +8,6 @@ use Rattle.notation.proofs.render.Goals as goal
 pub loop-i-init : goal.loop-i-init
 loop-i-init c = (search rules, none_rendered _ _ refl)
 
-pub bounds-out-i : goal.bounds-out-i
-bounds-out-i c = omega (arith, c.loop-i.invariant.1.size)
-
 pub loop-i-preserved : goal.loop-i-preserved
 loop-i-preserved c = (omega arith, one_rendered _ _ _ _ c.loop-i-test.true c.loop-i.invariant.1 c.render_at.ensures)
 
