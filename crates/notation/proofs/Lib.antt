@@ -1,4 +1,3 @@
-pub mod PartsFinding
 pub mod PartsMarks
 pub mod PartsOverall
 pub mod PartsCells

@@ -101,7 +101,12 @@ fn find(text: &[u8], from: usize, byte: u8) -> usize
     requires { from ≤ length text.now }
     ensures { Finds text.now from byte result }
 {
-    bytes::scan::find(text, from, text.len(), byte)
+    for i in from..text.len() {
+        if text[i] == byte {
+            return i;
+        }
+    }
+    text.len()
 }
 
 pub fn parse(text: &[u8]) -> Parsed

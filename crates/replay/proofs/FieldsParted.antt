@@ -7,9 +7,8 @@ use native.Mathlib.Numerals.{add-one}
 use native.Mathlib.Omega.{arith}
 use lib.Dec.{eqb}
 use lib.ListN.{length, get_or, take, drop, drop_of_length-le}
-use lib.Seq.{drop-cons, drop-drop, take_all}
+use lib.Seq.{drop-cons, drop-drop}
 use borrow.Author.Tests.{eq-eqb, ne_eqb}
-use Rattle.bytes.specs.Bytes.{slice, index_after, index_of}
 use Rattle.base.specs.Branch.{if◌then◌else◌}
 use Rattle.base.specs.Lists.{count}
 use Rattle.replay.specs.Fields.{until_tab, past_tab, field}
@@ -26,28 +25,23 @@ module _ (line : List ℕ) (i : ℕ) (h : i < length line) where
   unfolding count
   tab_here e = rw (next_byte, eq-eqb 9 (get_or line i 0) (sym e)) (omega arith)
 
+  -- a tab ends a field, and no other byte does
+  pub until_more : (get_or line i 0 ≡ 9 → ⊥) → length (until_tab (drop i line)) ≡ suc (length (until_tab (drop (i + 1) line)))
+  unfolding until_tab if◌then◌else◌
+  until_more ne = rw (next_byte, ne_eqb (get_or line i 0) 9 ne)
+
+  pub until_here : get_or line i 0 ≡ 9 → length (until_tab (drop i line)) ≡ 0
+  unfolding until_tab if◌then◌else◌
+  until_here e = rw (next_byte, eq-eqb (get_or line i 0) 9 e)
+
 module _ (line : List ℕ) (i : ℕ) (h : length line ≤ i) where
   pub tab_end : count (eqb 9) (drop i line) ≡ 0
   unfolding count
   tab_end = rw (drop_of_length-le line h)
 
--- ---- the kit's `find` answers where a field ends
-until_index : (bs : List ℕ) → index_of 9 bs ≡ length (until_tab bs)
-unfolding until_tab index_of index_after if◌then◌else◌
-until_index [] = refl
-until_index (b ∷ bs) = go (eqb b 9) (until_index bs)
-  where
-    go : (c : Bool) → index_of 9 bs ≡ length (until_tab bs) → index_after c (index_of 9 bs)
-        ≡ length (if c then (λ _. []) else λ _. b ∷ until_tab bs)
-    go true e = refl
-    go false e = ap suc e
-
-pub ends_at : (line : List ℕ) (at r : ℕ) → r ≡ at + index_of 9 (slice at (length line) line) →
-    r ≡ at + length (until_tab (drop at line))
-unfolding slice
-ends_at line at r e =
-    e ∙ ap (λ (bs : List ℕ). at + index_of 9 (drop at bs)) (take_all (length line) line (omega arith))
-    ∙ ap (λ (n : ℕ). at + n) (until_index (drop at line))
+  pub until_end : length (until_tab (drop i line)) ≡ 0
+  unfolding until_tab
+  until_end = rw (drop_of_length-le line h)
 
 -- ---- a field and the rest are parts of the line
 until_step : (c : Bool) (b : ℕ) (bs u : List ℕ) → u ≡ take (length u) bs →

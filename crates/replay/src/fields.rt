@@ -9,7 +9,12 @@ fn end_of_field(line: &[u8], at: usize) -> usize
     requires { at ≤ length line.now }
     ensures { (result ≡ at + length (until_tab (drop at line.now))) × (result ≤ length line.now) }
 {
-    bytes::scan::find(line, at, line.len(), TAB)
+    for i in at..line.len() {
+        if line[i] == TAB {
+            return i;
+        }
+    }
+    line.len()
 }
 
 // The byte after the first tab from `at` on, or the line's end.

@@ -6,7 +6,10 @@ ghost use Rattle.replay.specs.Totals.{record_text, verdict_text, last_text, told
 
 use answer_text::AnswerText;
 use input::{Input, one_more};
-use libc::{STDERR_FILENO, STDOUT_FILENO};
+
+const STDOUT_FILENO: i32 = 1;
+
+const STDERR_FILENO: i32 = 2;
 
 // What is found of a record. `Apart`: it agrees, with document 01's answer in place of the Rust's.
 #[derive(Clone, Copy)]
