@@ -5,6 +5,7 @@ usage: respell.py [--look]        at the top of the repository, once, after port
 
 Words are joined by `_`, types are in upper camel case. Names that come from the code, from std or from the prover keep their spelling: in a
 proof of a function only the names of laws, definitions and fields change. Comments and pages change where a name stands between backquotes.
+The choice `if .. then .. else ..` of crates/base, whose parts wait, is `when .. then .. else ..`: the library has the other name for its own.
 The definition `result` is `result_of`, since in a clause `result` is what the function returns. Of the code: the clauses that still bind
 what is returned, the derives of types that are copied, and the line that lets the check try its tactics.
 """
@@ -124,6 +125,19 @@ def definition_of_results(path, text):
     return text
 
 
+def choice(text, is_code):
+    """The choice's name and its uses, outside comments; in code, where a line of a clause has one."""
+    out = []
+    for line in text.split("\n"):
+        m = re.search(r"(^|\s)(--|//)(\s|$|/|!)", line)
+        at = m.start(2) if m else len(line)
+        part = line[:at].replace("if◌then◌else◌", "when◌then◌else◌")
+        if not is_code or re.search(r"\bif\b.*\bthen \(λ", part):
+            part = re.sub(r"(?<![\w.'-])if(?![\w'◌-])", "when", part)
+        out.append(part + line[at:])
+    return "\n".join(out)
+
+
 def form_of_code(path, text):
     text = re.sub(r"(ghost use Rattle\.rules\.specs\.Board\.\{[^}]*\b)result\b", r"\1result_of", text)
     text = BOUND.sub(lambda m: "ensures { result ≡ " + re.sub(r"\bresult\b", "result_of", m.group(1)) + " }", text)
@@ -166,7 +180,7 @@ def main(argv):
             bare = re.sub(r"(?m)(^|\s)--.*", "", text)
             local = {m.group() for m in TOKEN.finditer(bare) if re.match(r"[A-Za-z][\w₀-₉'-]*-", m.group()) and m.group() not in own and m.group() not in kept}
         new = turn_code(text, change)
-        new = form_of_code(path, new) if rt else definition_of_results(path, new)
+        new = choice(form_of_code(path, new) if rt else definition_of_results(path, new), rt)
         words = {m.group() for m in TOKEN.finditer(text)}
         for n in words:
             c = change(n, " ")

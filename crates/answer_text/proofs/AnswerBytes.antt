@@ -10,7 +10,7 @@ use lib.IntN.{ℤ}
 use lib.ListN.{length, take, get_or, set, length-append}
 use lib.Seq.{take_all, take-suc, take-length}
 use borrow.Author.Tests.{lt-ltb, le-ltb}
-use Rattle.base.specs.Branch.{if◌then◌else◌}
+use Rattle.base.specs.Branch.{when◌then◌else◌}
 use Rattle.rules.specs.Status.{Status}
 use Rattle.text.specs.Bytes.{space}
 use Rattle.text.specs.ProgramLine.{decimal, signed, shown, status_letters, moves_text, spaced, answer_text}
@@ -21,11 +21,11 @@ use Rattle.text.proofs.Padded.{length_padded, set_padded, padded_full, take_padd
 -- ---- one byte
 pub added_with_room : (o : AnswerText) (b : ℕ) → o.len < 224 → record { bytes = set o.bytes o.len b; len = o.len + 1 }
     ≡ added o b
-unfolding added if◌then◌else◌
+unfolding added when◌then◌else◌
 added_with_room o b h = rw (lt-ltb o.len 224 h)
 
 pub added_when_full : (o : AnswerText) (b : ℕ) → 224 ≤ o.len → o ≡ added o b
-unfolding added if◌then◌else◌
+unfolding added when◌then◌else◌
 added_when_full o b h = rw (le-ltb o.len 224 h)
 
 -- ---- several

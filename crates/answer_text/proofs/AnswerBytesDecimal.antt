@@ -6,7 +6,7 @@ use native.Mathlib.Nat.{pow-suc}
 use native.Mathlib.Omega.{arith}
 use borrow.Author.Tests.{lt-ltb, le-ltb}
 use Rattle.io.specs.Digits.{hex_digit_ascii, last_digits, IsDigitCount}
-use Rattle.base.specs.Branch.{if◌then◌else◌}
+use Rattle.base.specs.Branch.{when◌then◌else◌}
 use Rattle.text.specs.ProgramLine.{in_places, decimal}
 
 glyph_of : (d : ℕ) → d < 10 → hex_digit_ascii d ≡ 48 + d
@@ -18,11 +18,11 @@ above (suc j) = let p = pow-suc 10 j in let r = above j in omega arith
 
 module _ (f n : ℕ) where
   one_place : n < 10 → in_places (suc f) n ≡ (48 + n) ∷ []
-  unfolding in_places if◌then◌else◌
+  unfolding in_places when◌then◌else◌
   one_place h = rw (lt-ltb n 10 h)
 
   more_places : 10 ≤ n → in_places (suc f) n ≡ in_places f (n / 10) ++ ((48 + n % 10) ∷ [])
-  unfolding in_places if◌then◌else◌
+  unfolding in_places when◌then◌else◌
   more_places h = rw (le-ltb n 10 h)
 
 less_one : (k : ℕ) → k ≡ suc k - 1

@@ -8,7 +8,7 @@ use native.Mathlib.Omega.{arith}
 use lib.Dec.{eqb}
 use lib.ListN.{length, get_or, drop, drop_of_length-le, length-map, get_or-map}
 use lib.Seq.{drop-cons}
-use Rattle.base.specs.Branch.{if◌then◌else◌}
+use Rattle.base.specs.Branch.{when◌then◌else◌}
 use Rattle.rules.specs.Play.{no_move}
 use Rattle.text.specs.MoveText.{move_text}
 use Rattle.text.specs.ProgramLine.{move_letters, or_minus, moves_text}
@@ -19,11 +19,11 @@ use Rattle.answer_text.proofs.AnswerBytes.{added_append}
 
 -- ---- the first move
 none_first : (m : ℕ) (ms : List ℕ) → eqb m no_move ≡ true → move_letters (m ∷ ms) ≡ []
-unfolding move_letters if◌then◌else◌
+unfolding move_letters when◌then◌else◌
 none_first m ms e = rw e
 
 some_first : (m : ℕ) (ms : List ℕ) → eqb m no_move ≡ false → move_letters (m ∷ ms) ≡ move_text m ++ move_letters ms
-unfolding move_letters if◌then◌else◌
+unfolding move_letters when◌then◌else◌
 some_first m ms e = rw e
 
 module _ (o : AnswerText) (line : List Move) (d : Move) where

@@ -1,6 +1,6 @@
 -- The bytes of an answer, in a row with room for 224.
 use Rattle.std.specs.Prelude.{List, [], ◌∷◌, map, ℕ, ◌+◌, min, ltb, length, take, set}
-use Rattle.base.specs.Branch.{if◌then◌else◌}
+use Rattle.base.specs.Branch.{when◌then◌else◌}
 use Rattle.boards.specs.declared.moves.Move.{Move}
 use Rattle.answer_text.specs.declared.AnswerText.{AnswerText}
 use Rattle.text.specs.Padded.{padded}
@@ -10,7 +10,7 @@ no_text = record { bytes = padded 224 []; len = 0 }
 
 -- one byte more; where there is no room it is dropped
 unfoldable pub added : AnswerText → ℕ → AnswerText
-added o b = if ltb o.len 224 then (λ _. record { bytes = set o.bytes o.len b; len = o.len + 1 }) else λ _. o
+added o b = when ltb o.len 224 then (λ _. record { bytes = set o.bytes o.len b; len = o.len + 1 }) else λ _. o
 
 abbrev pub added_all : AnswerText → List ℕ → AnswerText
 added_all o [] = o

@@ -9,7 +9,7 @@ use lib.Bits.{bit_and, and_step, and_self}
 use lib.Count.{ones, ones_step, count_trailing_zeros, under}
 use lib.Dec.{lit<}
 use lib.ListN.{length, length-map}
-use Rattle.base.specs.Branch.{if◌then◌else◌}
+use Rattle.base.specs.Branch.{when◌then◌else◌}
 use Rattle.base.specs.Bits.{bit}
 use Rattle.base.specs.Lists.{filter, from}
 use Rattle.base.proofs.ListsAgree.{filter_same}
@@ -28,11 +28,11 @@ module _ (w n : ℕ) where
       ∙ ap (map suc) (filter_same (λ k. bit n (suc k)) (bit (n / 2)) (from 0 w) (λ k i. bit_suc n k))
 
   odd : n % 2 ≡ 1 → set_digits (suc w) n ≡ 0 ∷ map suc (set_digits w (n / 2))
-  unfolding filter if◌then◌else◌
+  unfolding filter when◌then◌else◌
   odd e = rw (bit_low n, e) (ap (◌∷◌ 0) halves)
 
   even : n % 2 ≡ 0 → set_digits (suc w) n ≡ map suc (set_digits w (n / 2))
-  unfolding filter if◌then◌else◌
+  unfolding filter when◌then◌else◌
   even e = rw (bit_low n, e) halves
 
 parity : (n : ℕ) (P : Type 0) → (n % 2 ≡ 1 → P) → (n % 2 ≡ 0 → P) → P

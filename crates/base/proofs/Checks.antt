@@ -6,7 +6,7 @@ use mathlib.Core.Logic.{inl, inr}
 use Prim.Native.Nat.{ℕ, ◌<◌}
 use native.Mathlib.Omega.{arith}
 use lib.Dec.{T, ltb, ltb→lt, lt→ltb, not_T}
-use Rattle.base.specs.Branch.{if◌then◌else◌}
+use Rattle.base.specs.Branch.{when◌then◌else◌}
 use Rattle.base.specs.Lists.{all, In}
 use Rattle.base.specs.Checks.{all_pass, first_failed}
 use Rattle.base.proofs.Bool.{and→, is}
@@ -17,7 +17,7 @@ Checks = List (Bool × ℕ)
 
 -- ---- the number is 0 exactly if all pass, where no check has the number 0
 pub all_pass_0 : (cs : Checks) → T (all_pass cs) → first_failed cs ≡ 0
-unfolding all_pass all first_failed if◌then◌else◌
+unfolding all_pass all first_failed when◌then◌else◌
 all_pass_0 [] t = refl
 all_pass_0 ((true, n) ∷ cs) t = all_pass_0 cs t
 all_pass_0 ((false, n) ∷ cs) t = absurd t
@@ -29,7 +29,7 @@ some_failed cs h = not_T (all_pass cs) (λ t. h (all_pass_0 cs t))
 -- what holds of each check's number holds of that of the first that fails
 pub failed_number : (f : ℕ → Bool) (cs : Checks) → T (all (λ (t : Bool × ℕ). f t.1) cs) → T (not (all_pass cs)) →
     T (f (first_failed cs))
-unfolding all_pass all first_failed if◌then◌else◌
+unfolding all_pass all first_failed when◌then◌else◌
 failed_number f [] a t = absurd t
 failed_number f ((true, n) ∷ cs) a t = failed_number f cs (and→ (f n) _ a).1 t
 failed_number f ((false, n) ∷ cs) a t = (and→ (f n) _ a).0
@@ -46,7 +46,7 @@ pub 0_all_pass : (cs : Checks) → T (numbered cs) → first_failed cs ≡ 0 →
 -- ---- else it is that of the first that fails: all before it pass
 pub failed_at : (before rest : Checks) (a : Bool) (n : ℕ) → T (all_pass before) → T (not a) →
     first_failed (before ++ ((a, n) ∷ rest)) ≡ n
-unfolding all_pass all first_failed if◌then◌else◌
+unfolding all_pass all first_failed when◌then◌else◌
 failed_at [] rest true n t u = absurd u
 failed_at [] rest false n t u = refl
 failed_at ((true, m) ∷ before) rest a n t u = failed_at before rest a n t u
@@ -59,7 +59,7 @@ pub record FirstFailed (cs : Checks) : Type 0 where
   pub passed : T (all_pass before)
 
 pub first_failed_parts : (cs : Checks) → T (not (all_pass cs)) → FirstFailed cs
-unfolding all_pass all first_failed if◌then◌else◌
+unfolding all_pass all first_failed when◌then◌else◌
 first_failed_parts [] t = absurd t
 first_failed_parts ((true, n) ∷ cs) t = let r = first_failed_parts cs t in record {
   before = (true, n) ∷ r.before;
@@ -71,13 +71,13 @@ first_failed_parts ((false, n) ∷ cs) t = record { before = []; rest = cs; part
 
 -- ---- two lists, one after the other
 pub passed_++ : (cs ds : Checks) → T (all_pass cs) → first_failed (cs ++ ds) ≡ first_failed ds
-unfolding all_pass all first_failed if◌then◌else◌
+unfolding all_pass all first_failed when◌then◌else◌
 passed_++ [] ds t = refl
 passed_++ ((true, n) ∷ cs) ds t = passed_++ cs ds t
 passed_++ ((false, n) ∷ cs) ds t = absurd t
 
 pub failed_++ : (cs ds : Checks) → T (not (all_pass cs)) → first_failed (cs ++ ds) ≡ first_failed cs
-unfolding all_pass all first_failed if◌then◌else◌
+unfolding all_pass all first_failed when◌then◌else◌
 failed_++ [] ds t = absurd t
 failed_++ ((true, n) ∷ cs) ds t = failed_++ cs ds t
 failed_++ ((false, n) ∷ cs) ds t = refl
@@ -114,7 +114,7 @@ rising_over n (c ∷ cs) r t (inr i) =
     let k = rising_over c.1 cs (and→ (ltb n c.1) _ r).1 t i in omega (arith, h, k)
 
 pub first_in_order : (n : ℕ) (cs : Checks) → T (rising n cs) → T (not (all_pass cs)) → InOrder (first_failed cs) cs
-unfolding rising all_pass all first_failed if◌then◌else◌
+unfolding rising all_pass all first_failed when◌then◌else◌
 first_in_order n [] r t = absurd t
 first_in_order n ((true, k) ∷ cs) r t =
     let later = (and→ (ltb n k) _ r).1 in

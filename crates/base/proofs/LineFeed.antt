@@ -9,7 +9,7 @@ use lib.Dec.{eqb}
 use lib.ListN.{length, get_or, drop, drop_of_length-le, length-append, length-drop}
 use lib.Seq.{drop-cons, drop-drop, drop-append_seam}
 use borrow.Author.Tests.{eq-eqb, ne_eqb}
-use Rattle.base.specs.Branch.{if◌then◌else◌}
+use Rattle.base.specs.Branch.{when◌then◌else◌}
 use Rattle.base.specs.LineFeed.{line_feed, UpToFeed, up_to_feed}
 use Rattle.base.proofs.Branch.{if_ind}
 
@@ -17,12 +17,12 @@ module _ {S : Type 0} (push : S → ℕ → S) where
   -- ---- one byte
   pub byte_taken : (s : S) (b : ℕ) (bs : List ℕ) → (b ≡ line_feed → ⊥) →
       up_to_feed push s (b ∷ bs) ≡ up_to_feed push (push s b) bs
-  unfolding up_to_feed if◌then◌else◌
+  unfolding up_to_feed when◌then◌else◌
   byte_taken s b bs n = rw (ne_eqb b line_feed n)
 
   pub feed_found : (s : S) (b : ℕ) (bs : List ℕ) → b ≡ line_feed →
       up_to_feed push s (b ∷ bs) ≡ record { line = s; left = bs; found = true }
-  unfolding up_to_feed if◌then◌else◌
+  unfolding up_to_feed when◌then◌else◌
   feed_found s b bs e = rw (eq-eqb b line_feed e)
 
   -- ---- bytes one after the other
@@ -31,10 +31,10 @@ module _ {S : Type 0} (push : S → ℕ → S) where
 
   after_byte : (c : Bool) (s : S) (xs ys : List ℕ) (m : List ℕ → UpToFeed S) →
       ((m xs).found ≡ false → m (xs ++ ys) ≡ up_to_feed push (m xs).line ys) →
-      (if c then (λ _. met s xs) else λ _. m xs).found ≡ false →
-      (if c then (λ _. met s (xs ++ ys)) else λ _. m (xs ++ ys))
-      ≡ up_to_feed push (if c then (λ _. met s xs) else λ _. m xs).line ys
-  unfolding if◌then◌else◌
+      (when c then (λ _. met s xs) else λ _. m xs).found ≡ false →
+      (when c then (λ _. met s (xs ++ ys)) else λ _. m (xs ++ ys))
+      ≡ up_to_feed push (when c then (λ _. met s xs) else λ _. m xs).line ys
+  unfolding when◌then◌else◌
   after_byte true s xs ys m h e = let z : ◌≡◌ {A = ℕ} 0 1 = cc in absurd (omega arith)
   after_byte false s xs ys m h e = h e
 

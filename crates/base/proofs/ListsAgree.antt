@@ -4,7 +4,7 @@ use mathlib.Core.Bool.{Bool, true, false, ◌||◌, ◌&&◌}
 use mathlib.Core.List.{List, [], ◌∷◌}
 use mathlib.Core.Logic.{inl, inr}
 use lib.Dec.{T}
-use Rattle.base.specs.Branch.{if◌then◌else◌}
+use Rattle.base.specs.Branch.{when◌then◌else◌}
 use Rattle.base.specs.Lists.{any, all, filter, In}
 
 pub false_by : (b : Bool) → (T b → ⊥) → b ≡ false
@@ -32,4 +32,4 @@ module _ {A : Type 0} (f g : A → Bool) where
   unfolding filter
   filter_same [] e = refl
   filter_same (x ∷ xs) e =
-      ap₂ (λ (p : Bool) (ys : List A). if p then (λ _. x ∷ ys) else λ _. ys) (e x (inl refl)) (filter_same xs (λ y i. e y (inr i)))
+      ap₂ (λ (p : Bool) (ys : List A). when p then (λ _. x ∷ ys) else λ _. ys) (e x (inl refl)) (filter_same xs (λ y i. e y (inr i)))

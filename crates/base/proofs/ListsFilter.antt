@@ -5,14 +5,14 @@ use mathlib.Core.List.{List, [], ◌∷◌, ◌++◌, map}
 use mathlib.Core.Logic.{inl, inr}
 use Prim.Native.Nat.{ℕ, zero, suc}
 use lib.Dec.{eqb}
-use Rattle.base.specs.Branch.{if◌then◌else◌}
+use Rattle.base.specs.Branch.{when◌then◌else◌}
 use Rattle.base.specs.Lists.{filter, In, elem, from}
 use Rattle.base.proofs.ListsAgree.{same_by}
 use Rattle.base.proofs.Lists.{filter_in, in_filter, in_elem, elem_in}
 
 choice_of {ℓ κ} : {A : Type ℓ} {B : Type κ} (f : A → B) (c : Bool) (x y : Unit {0} → A) →
-    (if c then (λ u. f (x u)) else λ u. f (y u)) ≡ f (if c then x else y)
-unfolding if◌then◌else◌
+    (when c then (λ u. f (x u)) else λ u. f (y u)) ≡ f (when c then x else y)
+unfolding when◌then◌else◌
 choice_of f true x y = refl
 choice_of f false x y = refl
 
@@ -20,14 +20,14 @@ pub filter_map : (f : ℕ → Bool) (g : ℕ → ℕ) (xs : List ℕ) → filter
 unfolding filter
 filter_map f g [] = refl
 filter_map f g (x ∷ xs) =
-    ap (λ (ys : List ℕ). if f (g x) then (λ _. g x ∷ ys) else λ _. ys) (filter_map f g xs)
+    ap (λ (ys : List ℕ). when f (g x) then (λ _. g x ∷ ys) else λ _. ys) (filter_map f g xs)
     ∙ choice_of (map g) (f (g x)) (λ _. x ∷ filter (λ x. f (g x)) xs) (λ _. filter (λ x. f (g x)) xs)
 
 pub filter_join : (f : ℕ → Bool) (xs ys : List ℕ) → filter f (xs ++ ys) ≡ filter f xs ++ filter f ys
 unfolding filter
 filter_join f [] ys = refl
 filter_join f (x ∷ xs) ys =
-    ap (λ (zs : List ℕ). if f x then (λ _. x ∷ zs) else λ _. zs) (filter_join f xs ys)
+    ap (λ (zs : List ℕ). when f x then (λ _. x ∷ zs) else λ _. zs) (filter_join f xs ys)
     ∙ choice_of (λ (zs : List ℕ). zs ++ filter f ys) (f x) (λ _. x ∷ filter f xs) (λ _. filter f xs)
 
 -- a run of numbers, one on

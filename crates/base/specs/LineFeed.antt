@@ -1,6 +1,6 @@
 -- Bytes up to a line feed: what they make of a line, the bytes left after the feed, and whether one was met.
 use Rattle.std.specs.Prelude.{Bool, true, false, List, [], ◌∷◌, ℕ, eqb}
-use Rattle.base.specs.Branch.{if◌then◌else◌}
+use Rattle.base.specs.Branch.{when◌then◌else◌}
 
 abbrev pub line_feed : ℕ
 line_feed = 0x0a
@@ -15,4 +15,4 @@ module _ {S : Type 0} (push : S → ℕ → S) where
   unfoldable pub up_to_feed : S → List ℕ → UpToFeed S
   up_to_feed s [] = record { line = s; left = []; found = false }
   up_to_feed s (b ∷ bs) =
-      if eqb b line_feed then (λ _. record { line = s; left = bs; found = true }) else λ _. up_to_feed (push s b) bs
+      when eqb b line_feed then (λ _. record { line = s; left = bs; found = true }) else λ _. up_to_feed (push s b) bs

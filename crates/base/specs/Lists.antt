@@ -1,6 +1,6 @@
 -- Tests over lists, membership, and runs of numbers.
 use Rattle.std.specs.Prelude.{◌≡◌, Bool, true, false, not, cond, ◌||◌, ◌&&◌, List, [], ◌∷◌, ◌++◌, ◌⊎◌, ℕ, zero, suc, ◌+◌, eqb}
-use Rattle.base.specs.Branch.{if◌then◌else◌}
+use Rattle.base.specs.Branch.{when◌then◌else◌}
 
 module _ {A : Type 0} where
   unfoldable pub any : (A → Bool) → List A → Bool
@@ -14,7 +14,7 @@ module _ {A : Type 0} where
   -- those that pass a test, in their order
   unfoldable pub filter : (A → Bool) → List A → List A
   filter f [] = []
-  filter f (x ∷ xs) = if f x then (λ _. x ∷ filter f xs) else λ _. filter f xs
+  filter f (x ∷ xs) = when f x then (λ _. x ∷ filter f xs) else λ _. filter f xs
 
   -- how many pass a test
   unfoldable pub count : (A → Bool) → List A → ℕ

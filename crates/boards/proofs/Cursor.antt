@@ -10,7 +10,7 @@ use lib.Bits.{bit_and, and_mask, and_le_l, mask_lt}
 use lib.Count.{ones, count_trailing_zeros}
 use lib.Dec.{T, lit<}
 use lib.ListN.{length, length-map, length-append}
-use Rattle.base.specs.Branch.{if◌then◌else◌}
+use Rattle.base.specs.Branch.{when◌then◌else◌}
 use Rattle.base.specs.Bits.{bit, digits}
 use Rattle.base.specs.Lists.{filter, In, elem, from, concat_map}
 use Rattle.base.proofs.ListsAgree.{same_by, false_by, filter_same}
@@ -115,7 +115,7 @@ unfolding row_moves
 row_first r n z = sym (row_masked r n) ∙ ap (map (move_at r)) (lowest_first 27 32 (bit_and n 134217727) (omega arith) (mask_lt n 27) z)
 
 row_none : (r n : ℕ) → bit_and n 134217727 ≡ 0 → row_moves r n ≡ []
-unfolding row_moves filter if◌then◌else◌
+unfolding row_moves filter when◌then◌else◌
 row_none r n e =
     sym (row_masked r n) ∙ ap (row_moves r) e
     ∙ ap (map (move_at r)) (filter_same (bit 0) (λ _. false) (from 0 27) (λ k i. bit_nought k))

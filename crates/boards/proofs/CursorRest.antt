@@ -6,7 +6,7 @@ use Prim.Native.Nat.{ℕ}
 use native.Mathlib.Omega.{arith}
 use lib.Dec.{T, eqb, eqb→eq, lit<, T_not}
 use lib.ListN.{drop}
-use Rattle.base.specs.Branch.{if◌then◌else◌}
+use Rattle.base.specs.Branch.{when◌then◌else◌}
 use Rattle.base.specs.Bits.{bit, digits}
 use Rattle.base.specs.Lists.{filter, In, elem, unique, concat_map}
 use Rattle.base.proofs.ListsAgree.{filter_same, false_by}
@@ -34,9 +34,9 @@ module _ (f : ℕ → Bool) (m : ℕ) where
 
   -- by the test's answer at the first
   step : (x : ℕ) (xs ms : List ℕ) → T (unique (x ∷ xs)) → (filter f xs ≡ m ∷ ms → filter others xs ≡ ms) → (b : Bool)
-      → (if b then (λ _. x ∷ filter f xs) else λ _. filter f xs) ≡ m ∷ ms
-      → (if (b && not (eqb x m)) then (λ _. x ∷ filter others xs) else λ _. filter others xs) ≡ ms
-  unfolding unique if◌then◌else◌
+      → (when b then (λ _. x ∷ filter f xs) else λ _. filter f xs) ≡ m ∷ ms
+      → (when (b && not (eqb x m)) then (λ _. x ∷ filter others xs) else λ _. filter others xs) ≡ ms
+  unfolding unique when◌then◌else◌
   step x xs ms t r true h =
       let p : x ≡ m = cc in
       rw (eq-eqb x m p) (absent xs (subst (λ (z : ℕ). T (not (elem z xs))) p (and→ (not (elem x xs)) _ t).0) ∙ (cc))
@@ -49,7 +49,7 @@ module _ (f : ℕ → Bool) (m : ℕ) where
 
 -- ---- the cursor over nothing
 nothing_left : moves_left (cursor_over []) ≡ []
-unfolding moves_left row_moves row_over digits bit filter elem if◌then◌else◌
+unfolding moves_left row_moves row_over digits bit filter elem when◌then◌else◌
 nothing_left = refl
 
 -- ---- what a cursor has left is a part of the 81 places

@@ -13,7 +13,7 @@ use Rattle.rules.specs.declared.CellState.{CellState}
 use Rattle.rules.specs.declared.CellState.TheVariants.{Empty, Played}
 use Rattle.rules.specs.declared.GameState.{GameState}
 use Rattle.rules.specs.declared.GameState.TheVariants.{InPlay}
-use Rattle.base.specs.Branch.{if◌then◌else◌}
+use Rattle.base.specs.Branch.{when◌then◌else◌}
 use Rattle.base.specs.Bits.{bit, digits}
 use Rattle.base.proofs.BitsOperations.{bit_yes, bit_no, bit-bit_and, bit-bit_or, bit_not, bit_shr, bit_nought}
 use Rattle.base.proofs.Bits.{masked, digit_test}
@@ -27,15 +27,15 @@ use Rattle.boards.specs.Rows.{row_cell}
 -- ---- a cell
 module _ (l : LocalBoards) (b c : ℕ) where
   pub cell_in : b < 9 → c < 9 → cell_at l b c ≡ row_cell (row_of l b) (place b c)
-  unfolding cell_at if◌then◌else◌
+  unfolding cell_at when◌then◌else◌
   cell_in h k = rw (lt-ltb b 9 h, lt-ltb c 9 k)
 
   pub cell_past_board : 9 ≤ b → cell_at l b c ≡ Empty
-  unfolding cell_at if◌then◌else◌
+  unfolding cell_at when◌then◌else◌
   cell_past_board h = rw (le-ltb b 9 h)
 
   pub cell_past_cell : 9 ≤ c → cell_at l b c ≡ Empty
-  unfolding cell_at if◌then◌else◌
+  unfolding cell_at when◌then◌else◌
   cell_past_cell h = rw (le-ltb c 9 h, and-false (ltb b 9))
 
   row_past : 9 ≤ b → length l.rows ≤ 3 → row_of l b ≡ no_row
@@ -119,11 +119,11 @@ module _ (l : LocalBoards) (b : ℕ) (r : Row) (h : length l.rows ≡ 3) (e : r 
 -- ---- a state
 module _ (s : GlobalStates) (b : ℕ) where
   pub state_in : b < 9 → state_at s b ≡ state_of_bits (bit s.x b) (bit s.o b)
-  unfolding state_at if◌then◌else◌
+  unfolding state_at when◌then◌else◌
   state_in h = rw (lt-ltb b 9 h)
 
   pub state_past : 9 ≤ b → state_at s b ≡ InPlay
-  unfolding state_at if◌then◌else◌
+  unfolding state_at when◌then◌else◌
   state_past h = rw (le-ltb b 9 h)
 
   -- what the two digits that were read say

@@ -14,7 +14,7 @@ use Rattle.rules.specs.declared.CellState.{CellState}
 use Rattle.rules.specs.declared.CellState.TheVariants.{Played}
 use Rattle.rules.specs.declared.GameState.{GameState}
 use Rattle.rules.specs.declared.GameState.TheVariants.{InPlay, Drawn, Won}
-use Rattle.base.specs.Branch.{if◌then◌else◌}
+use Rattle.base.specs.Branch.{when◌then◌else◌}
 use Rattle.base.specs.Bits.{bit}
 use Rattle.base.specs.Update.{update}
 use Rattle.base.proofs.Update.{update_at, update_off}
@@ -39,15 +39,15 @@ module _ {A : Type 0} (f : ℕ → A) (i : ℕ) (a : A) where
 -- ---- the boards with a cell more
 module _ (l : LocalBoards) (b c : ℕ) (w : Player) where
   with_in : b < 9 → c < 9 → with_cell l b c w ≡ record { rows = set l.rows (b / 3) (row_with w (row_of l b) (place b c)) }
-  unfolding with_cell if◌then◌else◌
+  unfolding with_cell when◌then◌else◌
   with_in h k = rw (lt-ltb b 9 h, lt-ltb c 9 k)
 
   pub with_past_board : 9 ≤ b → l ≡ with_cell l b c w
-  unfolding with_cell if◌then◌else◌
+  unfolding with_cell when◌then◌else◌
   with_past_board h = rw (le-ltb b 9 h)
 
   pub with_past_cell : 9 ≤ c → l ≡ with_cell l b c w
-  unfolding with_cell if◌then◌else◌
+  unfolding with_cell when◌then◌else◌
   with_past_cell h = rw (le-ltb c 9 h, and-false (ltb b 9))
 
   -- as the code has it, in the arm for row i
@@ -120,11 +120,11 @@ module _ (l : LocalBoards) (b c : ℕ) (w : Player) (n : length l.rows ≡ 3) (h
 -- ---- the states with one board's more
 module _ (s : GlobalStates) (b : ℕ) (g : GameState) where
   pub with_state_in : b < 9 → with_state s b g ≡ state_with s b g
-  unfolding with_state if◌then◌else◌
+  unfolding with_state when◌then◌else◌
   with_state_in h = rw (lt-ltb b 9 h)
 
   pub with_state_past : 9 ≤ b → s ≡ with_state s b g
-  unfolding with_state if◌then◌else◌
+  unfolding with_state when◌then◌else◌
   with_state_past h = rw (le-ltb b 9 h)
 
   -- as the code has it, in the arm for state h

@@ -6,7 +6,7 @@ use Rattle.rules.specs.declared.CellState.{CellState}
 use Rattle.rules.specs.declared.CellState.TheVariants.{Empty, Played}
 use Rattle.rules.specs.declared.GameState.{GameState}
 use Rattle.rules.specs.declared.GameState.TheVariants.{InPlay, Drawn, Won}
-use Rattle.base.specs.Branch.{if◌then◌else◌}
+use Rattle.base.specs.Branch.{when◌then◌else◌}
 use Rattle.base.specs.Bits.{bit}
 use Rattle.boards.specs.declared.local.Row.{Row}
 use Rattle.boards.specs.declared.local.LocalBoards.{LocalBoards}
@@ -31,7 +31,7 @@ place b c = b % 3 * 9 + c
 
 unfoldable pub cell_at : LocalBoards → ℕ → ℕ → CellState
 cell_at l b c =
-    if ltb b 9 && ltb c 9
+    when ltb b 9 && ltb c 9
     then (λ _. cell_of_bits (bit (row_of l b).x (place b c)) (bit (row_of l b).o (place b c)))
     else λ _. Empty
 
@@ -43,4 +43,4 @@ state_of_bits false true = Won O
 state_of_bits false false = InPlay
 
 unfoldable pub state_at : GlobalStates → ℕ → GameState
-state_at s b = if ltb b 9 then (λ _. state_of_bits (bit s.x b) (bit s.o b)) else λ _. InPlay
+state_at s b = when ltb b 9 then (λ _. state_of_bits (bit s.x b) (bit s.o b)) else λ _. InPlay

@@ -4,7 +4,7 @@ use Rattle.std.specs.Prelude.{Bool, not, ◌&&◌, ◌||◌, ℕ, ◌/◌, ◌^�
 use Rattle.std.specs.Int.Bits.{bit_xor}
 use Rattle.rules.specs.declared.CellState.{CellState}
 use Rattle.rules.specs.declared.GameState.{GameState}
-use Rattle.base.specs.Branch.{if◌then◌else◌}
+use Rattle.base.specs.Branch.{when◌then◌else◌}
 use Rattle.base.specs.Bits.{bit, digits}
 use Rattle.base.specs.Lists.{all, from}
 use Rattle.rules.specs.Board.{blank, in_play, same_cell}
@@ -41,4 +41,4 @@ same_cells l m boards =
 
 -- a hash h that has a board's cells, once the board closes: the key of its state for those of its cells
 unfoldable pub closing : ℕ → ℕ → (ℕ → CellState) → GameState → ℕ
-closing h b row g = if in_play g then (λ _. h) else λ _. bit_xor (bit_xor h (cells_hash b row)) (board_key b g)
+closing h b row g = when in_play g then (λ _. h) else λ _. bit_xor (bit_xor h (cells_hash b row)) (board_key b g)

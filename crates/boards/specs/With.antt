@@ -5,7 +5,7 @@ use Rattle.rules.specs.declared.Player.{Player}
 use Rattle.rules.specs.declared.Player.TheVariants.{X, O}
 use Rattle.rules.specs.declared.GameState.{GameState}
 use Rattle.rules.specs.declared.GameState.TheVariants.{InPlay, Drawn, Won}
-use Rattle.base.specs.Branch.{if◌then◌else◌}
+use Rattle.base.specs.Branch.{when◌then◌else◌}
 use Rattle.boards.specs.declared.local.Row.{Row}
 use Rattle.boards.specs.declared.local.LocalBoards.{LocalBoards}
 use Rattle.boards.specs.declared.states.GlobalStates.{GlobalStates}
@@ -17,7 +17,7 @@ row_with O r k = record { x = r.x; o = bit_or r.o (2 ^ k) }
 
 unfoldable pub with_cell : LocalBoards → ℕ → ℕ → Player → LocalBoards
 with_cell l b c w =
-    if ltb b 9 && ltb c 9
+    when ltb b 9 && ltb c 9
     then (λ _. record { rows = set l.rows (b / 3) (row_with w (row_of l b) (place b c)) })
     else λ _. l
 
@@ -28,4 +28,4 @@ state_with s k (Won X) = record { x = bit_or s.x (2 ^ k); o = s.o }
 state_with s k (Won O) = record { x = s.x; o = bit_or s.o (2 ^ k) }
 
 unfoldable pub with_state : GlobalStates → ℕ → GameState → GlobalStates
-with_state s b g = if ltb b 9 then (λ _. state_with s b g) else λ _. s
+with_state s b g = when ltb b 9 then (λ _. state_with s b g) else λ _. s

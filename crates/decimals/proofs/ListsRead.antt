@@ -10,7 +10,7 @@ use lib.Dec.{eqb, eqb→eq}
 use lib.ListN.{length, drop, length-append}
 use lib.Seq.{append_snoc, set-append_seam}
 use borrow.Author.Tests.{lt-ltb, le-ltb, le-leb, lt-leb}
-use Rattle.base.specs.Branch.{if◌then◌else◌}
+use Rattle.base.specs.Branch.{when◌then◌else◌}
 use Rattle.base.proofs.Branch.{if_ind}
 use Rattle.text.specs.Bytes.{space}
 use Rattle.text.specs.Reading.{first_longer}
@@ -99,7 +99,7 @@ part_ends : (any : Bool) (value : ℕ) (done rest : List ℕ) (said : Option (Li
     ((done rest : List ℕ) → Outcome done rest said (next (state false 0 done) (done ++ rest))) →
     Outcome done rest (number_before (part_from any value []) said)
     (next (scanned (state any value done) space (length (done ++ rest))) (words_after (state any value done) space (done ++ rest)))
-unfolding scanned words_after if◌then◌else◌ digits_after read_number
+unfolding scanned words_after when◌then◌else◌ digits_after read_number
 part_ends false value done rest said next bad more =
     refused (λ ns e. absurd (none-ne-some ns e)) (bad _ _ refl)
 part_ends true value done [] said next bad more =
@@ -134,9 +134,9 @@ TextRead text any value done rest =
 byte_read : (any : Bool) (value b : ℕ) (bs done rest : List ℕ) → (any ≡ false → value ≡ 0) →
     ((any : Bool) (value : ℕ) (done rest : List ℕ) → (any ≡ false → value ≡ 0) → TextRead bs any value done rest) →
     (c : Bool) → eqb b space ≡ c →
-    Outcome done rest (numbers_from any value (if c then (λ _. [] ∷ text_parts bs) else λ _. first_longer b (text_parts bs)))
+    Outcome done rest (numbers_from any value (when c then (λ _. [] ∷ text_parts bs) else λ _. first_longer b (text_parts bs)))
     (scanned_all (scanned (state any value done) b (length (done ++ rest))) (words_after (state any value done) b (done ++ rest)) bs)
-unfolding if◌then◌else◌ scanned words_after
+unfolding when◌then◌else◌ scanned words_after
 byte_read any value b bs done rest z more true e =
     let s : b ≡ space = eqb→eq b space (rw e tt) in
     rw s (part_ends any value done rest (numbers_of (text_parts bs)) (λ s words. scanned_all s words bs) (all_bad bs)
@@ -160,7 +160,7 @@ module _ (text words : List ℕ) where
   answered : (said : Option (List ℕ)) (r : Scanned) → Outcome [] words said r →
       (counted r.scan ≡ count_of (at_most (length words) said)) ×
       ((ns : List ℕ) → at_most (length words) said ≡ some ns → r.words ≡ ns ++ drop (length ns) words)
-  unfolding counted if◌then◌else◌
+  unfolding counted when◌then◌else◌
   answered said r (all_read ns e l g c ws) = rw (e, g, le-leb (length ns) (length words) l) (
     rw c (ap Of (zero-add (length ns))),
     λ ms h. let same : ns ≡ ms = ap (λ (o : Option (List ℕ)). get_or o []) h in rw (← same) ws,

@@ -8,7 +8,7 @@ use native.Mathlib.Omega.{arith}
 use lib.Dec.{eqb, leb, eqb→eq}
 use lib.ListN.{length, drop}
 use borrow.Author.Tests.{le-leb, leb-true, ne_eqb}
-use Rattle.base.specs.Branch.{if◌then◌else◌}
+use Rattle.base.specs.Branch.{when◌then◌else◌}
 use Rattle.base.proofs.Branch.{if_ind}
 use Rattle.text.specs.Bytes.{space, quoted}
 use Rattle.text.specs.ProgramLine.{decimal, spaced}
@@ -45,12 +45,12 @@ EachBlankless [] = Unit {0}
 EachBlankless (p ∷ ps) = Blankless p × EachBlankless ps
 
 one_part : (p : List ℕ) → Blankless p → text_parts p ≡ p ∷ []
-unfolding text_parts if◌then◌else◌
+unfolding text_parts when◌then◌else◌
 one_part [] h = refl
 one_part (b ∷ bs) h = rw (ne_eqb b space h.0, one_part bs h.1)
 
 part_before : (p rest : List ℕ) → Blankless p → text_parts (p ++ (space ∷ rest)) ≡ p ∷ text_parts rest
-unfolding text_parts if◌then◌else◌
+unfolding text_parts when◌then◌else◌
 part_before [] rest h = refl
 part_before (b ∷ bs) rest h = rw (ne_eqb b space h.0, part_before bs rest h.1)
 
@@ -86,7 +86,7 @@ decimals_read (n ∷ ns) h = rw (number_reads_back n h.0, decimals_read ns h.1)
 
 module _ (room n : ℕ) (ns : List ℕ) (small : EachBelow (2 ^ 64) (n ∷ ns)) where
   pub list_reads_back : length (n ∷ ns) ≤ room → list_of room (list_text (n ∷ ns)) ≡ some (n ∷ ns)
-  unfolding if◌then◌else◌
+  unfolding when◌then◌else◌
   list_reads_back fits =
       rw (
         spaced_parts (decimal n) (map decimal ns) (decimals_blankless (n ∷ ns) small),
@@ -126,11 +126,11 @@ parts_are_decimals (p ∷ ps) ns e = go (read_number p) refl (numbers_of ps) ref
 
 said_by : (room : ℕ) (said : Option (List ℕ)) (ns : List ℕ) → at_most room said ≡ some ns →
     (said ≡ some ns) × (length ns ≤ room)
-unfolding if◌then◌else◌
+unfolding when◌then◌else◌
 said_by room none ns e = absurd (none-ne-some ns e)
 said_by room (some ms) ns e = go (leb (length ms) room) refl e
   where
-    go : (c : Bool) → leb (length ms) room ≡ c → (if c then (λ _. some ms) else λ _. none) ≡ some ns →
+    go : (c : Bool) → leb (length ms) room ≡ c → (when c then (λ _. some ms) else λ _. none) ≡ some ns →
         (some ms ≡ some ns) × (length ns ≤ room)
     go true h e = (e, rw (← same_list ms ns e) (leb-true (length ms) room h))
     go false h e = absurd (none-ne-some ns e)
@@ -142,7 +142,7 @@ read_is_text room text ns e =
 
 -- ---- texts at the edges
 computing : Unit {0}
-unfolding quoted text_parts numbers_of read_number digits_after with_digit if◌then◌else◌
+unfolding quoted text_parts numbers_of read_number digits_after with_digit when◌then◌else◌
 computing = tt
 
 -- leading zeros count for nothing; the largest number; as many as there is room for

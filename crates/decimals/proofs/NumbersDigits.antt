@@ -9,7 +9,7 @@ use lib.ListN.{length, get_or, take, drop, drop_of_length-le}
 use lib.Seq.{drop-cons, take_all}
 use lib.Dec.{leb}
 use borrow.Author.Tests.{leb-true, lt-ltb, le-ltb, eq-eqb, ne_eqb}
-use Rattle.base.specs.Branch.{if◌then◌else◌}
+use Rattle.base.specs.Branch.{when◌then◌else◌}
 use Rattle.decimals.specs.declared.number.Number.TheVariants.{Is, Bad}
 use Rattle.decimals.specs.declared.number.Signed.TheVariants.{Bad as None}
 use Rattle.decimals.specs.Numbers.{between, with_digit, digits_after, read_number, positive_of, negative_of, read_signed}
@@ -21,15 +21,15 @@ within_bounds b low high e = let p = (and-eq-true_iff (leb low b) (leb b high)).
 -- ---- a digit more
 module _ (value b : ℕ) where
   pub digit_fits : between b 48 57 ≡ true → value * 10 + (b - 48) < 2 ^ 64 → Is (value * 10 + (b - 48)) ≡ with_digit value b
-  unfolding with_digit if◌then◌else◌
+  unfolding with_digit when◌then◌else◌
   digit_fits d h = rw (d, lt-ltb (value * 10 + (b - 48)) (2 ^ 64) h)
 
   pub digit_over : between b 48 57 ≡ true → 2 ^ 64 ≤ value * 10 + (b - 48) → Bad ≡ with_digit value b
-  unfolding with_digit if◌then◌else◌
+  unfolding with_digit when◌then◌else◌
   digit_over d h = rw (d, le-ltb (value * 10 + (b - 48)) (2 ^ 64) h)
 
   pub no_digit : between b 48 57 ≡ false → Bad ≡ with_digit value b
-  unfolding with_digit if◌then◌else◌
+  unfolding with_digit when◌then◌else◌
   no_digit d = rw d
 
 -- ---- a text
@@ -68,13 +68,13 @@ signed_none (b ∷ bs) h = absurd (omega arith)
 
 pub signed_minus : (text : List ℕ) → (length text ≡ 0 → ⊥) → get_or text 0 0 ≡ 45 →
     negative_of (read_number (take (length text - 1) (drop 1 text))) ≡ read_signed text
-unfolding read_signed if◌then◌else◌
+unfolding read_signed when◌then◌else◌
 signed_minus [] h e = absurd (h refl)
 signed_minus (b ∷ bs) h e =
     let fits : length bs ≤ length (b ∷ bs) - 1 = omega arith in rw (eq-eqb b 45 e, take_all (length (b ∷ bs) - 1) bs fits)
 
 pub signed_plus : (text : List ℕ) → (length text ≡ 0 → ⊥) → (get_or text 0 0 ≡ 45 → ⊥) →
     positive_of (read_number text) ≡ read_signed text
-unfolding read_signed if◌then◌else◌
+unfolding read_signed when◌then◌else◌
 signed_plus [] h e = absurd (h refl)
 signed_plus (b ∷ bs) h e = rw (ne_eqb b 45 e)

@@ -10,7 +10,7 @@ use lib.IntN.{ℤ, pos, negsuc, nat_abs, neg_ℤ}
 use lib.ListN.{length, length-append}
 use lib.Seq.{append_snoc}
 use borrow.Author.Tests.{le-leb, lt-ltb, le-ltb, ne_eqb}
-use Rattle.base.specs.Branch.{if◌then◌else◌}
+use Rattle.base.specs.Branch.{when◌then◌else◌}
 use Rattle.base.proofs.Branch.{if_ind, if_both}
 use Rattle.text.specs.Bytes.{minus, first_digit}
 use Rattle.text.specs.ProgramLine.{in_places, decimal, signed}
@@ -98,7 +98,7 @@ first_digit_read value b bs n e = go (with_digit value b) refl e
 
 -- ---- a sign
 positive_reads : (text : List ℕ) (n : ℕ) → read_number text ≡ Is n → n < 2 ^ 63 → read_signed text ≡ Whole (pos n)
-unfolding read_number read_signed positive_of if◌then◌else◌
+unfolding read_number read_signed positive_of when◌then◌else◌
 positive_reads [] n e small = absurd (bad_is_none n e)
 positive_reads (b ∷ bs) n e small =
     let d = first_digit_read 0 b bs n e in
@@ -106,7 +106,7 @@ positive_reads (b ∷ bs) n e small =
     rw (ne_eqb b 45 (λ h. omega arith), e, lt-ltb n (2 ^ 63) small)
 
 minus_reads : (n : ℕ) → suc n < 2 ^ 63 → read_signed (minus ∷ decimal (suc n)) ≡ Whole (negsuc n)
-unfolding read_signed negative_of if◌then◌else◌
+unfolding read_signed negative_of when◌then◌else◌
 minus_reads n small = rw (number_reads_back (suc n) (omega arith), lt-ltb (suc n) (2 ^ 63) small)
 
 pub signed_reads_back : (z : ℤ) → nat_abs z < 2 ^ 63 → read_signed (signed z) ≡ Whole z
@@ -143,11 +143,11 @@ in_places_same (suc f) (suc g) n h k = if_both (λ (a b : List ℕ). a ≡ b) (l
     ap (λ (ds : List ℕ). ds ++ ((first_digit + n % 10) ∷ [])) (in_places_same f g (n / 10) (omega arith) (omega arith)))
 
 short_decimal : (d : ℕ) → d < 10 → decimal d ≡ (first_digit + d) ∷ []
-unfolding decimal in_places if◌then◌else◌
+unfolding decimal in_places when◌then◌else◌
 short_decimal d h = rw (lt-ltb d 10 h)
 
 longer_decimal : (value d : ℕ) → 0 < value → d < 10 → decimal (value * 10 + d) ≡ decimal value ++ ((first_digit + d) ∷ [])
-unfolding decimal in_places if◌then◌else◌
+unfolding decimal in_places when◌then◌else◌
 longer_decimal value d h k =
     let n = value * 10 + d in
     let a : n / 10 ≡ value = omega arith in
@@ -207,7 +207,7 @@ same_integer y z e = cc
 none_is_bad : (z : ℤ) → None ≡ Whole z → ⊥
 none_is_bad z e = let c : ◌≡◌ {A = ℕ} 0 1 = cc in omega arith
 
-small_read : (f : ℕ → ℤ) (n : ℕ) (z : ℤ) → (if ltb n (2 ^ 63) then (λ _. Whole (f n)) else λ _. None) ≡ Whole z →
+small_read : (f : ℕ → ℤ) (n : ℕ) (z : ℤ) → (when ltb n (2 ^ 63) then (λ _. Whole (f n)) else λ _. None) ≡ Whole z →
     (n < 2 ^ 63) × (f n ≡ z)
 small_read f n z e = if_ind (λ (s : Signed). s ≡ Whole z → (n < 2 ^ 63) × (f n ≡ z)) (ltb n (2 ^ 63)) _ _
     (λ t h. (ltb→lt n (2 ^ 63) t, same_integer (f n) z h)) (λ _ h. absurd (none_is_bad z h)) e

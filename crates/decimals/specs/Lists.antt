@@ -1,7 +1,7 @@
 -- Lists of numbers parted by single blanks: what a text says, and the same read byte by byte into lent words.
 use Rattle.std.specs.Prelude.{◌≡◌, Bool, true, false, not, ◌&&◌, List, [], ◌∷◌, ◌++◌, map, ℕ, ◌+◌, eqb, leb, ltb, length, set, drop}
 use Rattle.std.proofs.Math.Option.{Option, none, some}
-use Rattle.base.specs.Branch.{if◌then◌else◌}
+use Rattle.base.specs.Branch.{when◌then◌else◌}
 use Rattle.text.specs.Bytes.{space}
 use Rattle.text.specs.Reading.{first_longer}
 use Rattle.text.specs.ProgramLine.{decimal, spaced}
@@ -16,7 +16,7 @@ use Rattle.decimals.specs.Numbers.{with_digit, read_number}
 -- a text cut at each blank; one without a blank is its only part
 unfoldable pub text_parts : List ℕ → List (List ℕ)
 text_parts [] = [] ∷ []
-text_parts (b ∷ bs) = if eqb b space then (λ _. [] ∷ text_parts bs) else λ _. first_longer b (text_parts bs)
+text_parts (b ∷ bs) = when eqb b space then (λ _. [] ∷ text_parts bs) else λ _. first_longer b (text_parts bs)
 
 abbrev pub number_before : Number → Option (List ℕ) → Option (List ℕ)
 number_before Bad ns = none
@@ -30,7 +30,7 @@ numbers_of (p ∷ ps) = number_before (read_number p) (numbers_of ps)
 
 abbrev pub at_most : ℕ → Option (List ℕ) → Option (List ℕ)
 at_most room none = none
-at_most room (some ns) = if leb (length ns) room then (λ _. some ns) else λ _. none
+at_most room (some ns) = when leb (length ns) room then (λ _. some ns) else λ _. none
 
 -- the numbers of a text, if there is room for them
 abbrev pub list_of : ℕ → List ℕ → Option (List ℕ)
@@ -63,13 +63,13 @@ ends s n = s.any && ltb s.count n
 -- after a byte, with room for n numbers
 unfoldable pub scanned : Scan → ℕ → ℕ → Scan
 scanned s b n =
-    if not (eqb b space) then (λ _. with_number s (with_digit s.value b)) else
-    λ _. if ends s n then (λ _. record { value = 0; any = false; count = s.count + 1; good = s.good }) else
+    when not (eqb b space) then (λ _. with_number s (with_digit s.value b)) else
+    λ _. when ends s n then (λ _. record { value = 0; any = false; count = s.count + 1; good = s.good }) else
     λ _. spoilt s
 
 -- the words after a byte
 unfoldable pub words_after : Scan → ℕ → List ℕ → List ℕ
-words_after s b words = if eqb b space && ends s (length words) then (λ _. set words s.count s.value) else λ _. words
+words_after s b words = when eqb b space && ends s (length words) then (λ _. set words s.count s.value) else λ _. words
 
 pub record Scanned : Type 0 where
   pub scan : Scan
@@ -81,7 +81,7 @@ scanned_all s words [] = record { scan = scanned s space (length words); words =
 scanned_all s words (b ∷ bs) = scanned_all (scanned s b (length words)) (words_after s b words) bs
 
 unfoldable pub counted : Scan → Count
-counted s = if s.good then (λ _. Of s.count) else λ _. Bad-count
+counted s = when s.good then (λ _. Of s.count) else λ _. Bad-count
 
 -- what is answered of a text: how many numbers it says; they stand first in the words, the others are as before
 pub record ListRead (text words : List ℕ) (r : Count) (after : List ℕ) : Type 0 where

@@ -9,7 +9,7 @@ use lib.Dec.{T, eqb, T_not}
 use lib.IntN.{ℤ, neg_ℤ}
 use lib.ListN.{length, get_or}
 use borrow.Author.Tests.{eqb-true, eqb-false}
-use Rattle.base.specs.Branch.{if◌then◌else◌}
+use Rattle.base.specs.Branch.{when◌then◌else◌}
 use Rattle.rules.specs.declared.Player.{Player}
 use Rattle.rules.specs.declared.DrawWinner.{DrawWinner}
 use Rattle.rules.specs.declared.DrawWinner.TheVariants.{Nobody}
@@ -41,7 +41,7 @@ unfolding play_out
 play_out_longer G zero p line rest e = refl
 play_out_longer G (suc d) p [] rest e = absurd (omega arith)
 play_out_longer G (suc d) p (m ∷ line) rest e =
-    ap (λ (w : Playout G.Pos). if G.over p then (λ _. record { accepted = true; end = p; odd = false })
+    ap (λ (w : Playout G.Pos). when G.over p then (λ _. record { accepted = true; end = p; odd = false })
     else λ _. record { accepted = G.accepts p m && w.accepted; end = w.end; odd = not w.odd })
     (play_out_longer G d (G.play p m) line rest (omega arith))
 
@@ -123,8 +123,8 @@ module _ (ms : List ℕ) (t : T (unfinished (reached start ms))) (draws : DrawWi
     pub reported_right : ReportsMinimax draws c rs p x
     reported_right = subst (ReportsMinimax draws c rs p) (is_report n.accepted) report_right
 
-    unmarked_number : (b : Bool) (d : ℕ) → T (not b) → ◌≡◌ {A = ℕ} (if b && eqb d 0 then (λ _. 18) else λ _. 0) 0
-    unfolding if◌then◌else◌
+    unmarked_number : (b : Bool) (d : ℕ) → T (not b) → ◌≡◌ {A = ℕ} (when b && eqb d 0 then (λ _. 18) else λ _. 0) 0
+    unfolding when◌then◌else◌
     unmarked_number true d u = absurd u
     unmarked_number false d u = refl
 

@@ -8,7 +8,7 @@ use Prim.Native.Nat.{ℕ, ◌≤◌}
 use native.Mathlib.Omega.{arith}
 use lib.Dec.{T, eqb, leb, ltb, eqb→eq, leb→le, le→leb, ltb→lt, nltb→le, T_not, not_T}
 use lib.ListN.{length}
-use Rattle.base.specs.Branch.{if◌then◌else◌}
+use Rattle.base.specs.Branch.{when◌then◌else◌}
 use Rattle.base.specs.Lists.{any, all}
 use Rattle.base.specs.Checks.{all_pass, first_failed}
 use Rattle.base.proofs.Bool.{and→, →and, neither, is}
@@ -129,7 +129,7 @@ module _ (m : Minimax) (g : Game) (c : Config) (words : List ℕ) where
     not_enough = none_whole_is G c.allowance c.max_depth g s (omega arith) some_depth
 
     searched_holds : Searching m g c words (report G g y)
-    unfolding all_pass all if◌then◌else◌
+    unfolding all_pass all when◌then◌else◌
     searched_holds = elim (is spent) [
       | inl u ↦ record {
         number = rw (is_true spent u) (sym (last_decides ∙ failed_at [] [] enough 18 tt (not_T enough (λ v.
@@ -173,7 +173,7 @@ module _ (m : Minimax) (g : Game) (c : Config) (words : List ℕ) where
 -- ---- the evaluation alone
 pub evaluating_holds : (g : Game) (draws : DrawWinner) (w : Weights) (r : Evaluation) → Evaluates (scoring_with draws w) g r →
     Evaluating w r
-unfolding evaluated accepted_weights first_failed if◌then◌else◌
+unfolding evaluated accepted_weights first_failed when◌then◌else◌
 evaluating_holds g draws w r h = by_test (accepted_weights w) refl
   where
     by_test : (b : Bool) → accepted_weights w ≡ b → Evaluating w r

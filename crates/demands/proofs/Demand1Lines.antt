@@ -9,7 +9,7 @@ use lib.Dec.{T, eqb, leb, ltb, eqb→eq, leb→le, le→leb, ltb→lt, lt→ltb,
 use lib.Ieee.Bits.{is_true, is_false}
 use lib.ListN.{length, get_or}
 use borrow.Author.Tests.{eqb-false, ne_eqb}
-use Rattle.base.specs.Branch.{if◌then◌else◌}
+use Rattle.base.specs.Branch.{when◌then◌else◌}
 use Rattle.base.specs.Lists.{all, elem, from}
 use Rattle.base.specs.Checks.{all_pass, first_failed}
 use Rattle.base.proofs.Bool.{and→, →and, →or_l, is}
@@ -69,12 +69,12 @@ not_here c cs t = go (eqb 0x20 c) refl t
     go false e u = (eqb_turned c e, u)
 
 parted_none : (line : List ℕ) → T (not (elem 0x20 line)) → parted line ≡ no_blank
-unfolding parted if◌then◌else◌
+unfolding parted when◌then◌else◌
 parted_none [] t = refl
 parted_none (c ∷ cs) t = let h = not_here c cs t in ap (parted_with c cs) (parted_none cs h.1) ∙ rw h.0
 
 parted_last : (text rest : List ℕ) → T (not (elem 0x20 rest)) → parted (text ++ (0x20 ∷ rest)) ≡ around text rest
-unfolding parted if◌then◌else◌
+unfolding parted when◌then◌else◌
 parted_last [] rest t = ap (parted_with 0x20 rest) (parted_none rest t)
 parted_last (c ∷ text) rest t = ap (parted_with c (text ++ (0x20 ∷ rest))) (parted_last text rest t)
 
@@ -83,14 +83,14 @@ same_digit : (c : ℕ) → is_digit c ≡ digit c
 same_digit c = ap₂ ◌&&◌ (le_is_not_lt 0x30 c) (le_is_not_lt c 0x39)
 
 depth_refused : (text rest : List ℕ) → T (not (one_or_two_digits rest)) → asks_with text (depth_of rest) ≡ no_depth
-unfolding depth_of if◌then◌else◌
+unfolding depth_of when◌then◌else◌
 depth_refused text [] t = refl
 depth_refused text (c ∷ []) t = rw (same_digit c, is_false (digit c) t)
 depth_refused text (c ∷ d ∷ []) t = rw (same_digit c, same_digit d, is_false (digit c && digit d) t)
 depth_refused text (c ∷ d ∷ e ∷ cs) t = refl
 
 depth_said : (text rest : List ℕ) → T (one_or_two_digits rest) → asks_with text (depth_of rest) ≡ asks text (digits_say rest)
-unfolding depth_of if◌then◌else◌
+unfolding depth_of when◌then◌else◌
 depth_said text [] t = absurd t
 depth_said text (c ∷ []) t = rw (same_digit c, is_true (digit c) t)
 depth_said text (c ∷ d ∷ []) t = rw (same_digit c, same_digit d, is_true (digit c && digit d) t)
@@ -104,7 +104,7 @@ abbrev told : Checks → Bool
 told cs = all (λ (t : Bool × ℕ). ltb 0 t.1 || t.0) cs
 
 told_pass : (cs : Checks) → T (told cs) → first_failed cs ≡ 0 → T (all_pass cs)
-unfolding all_pass all first_failed if◌then◌else◌
+unfolding all_pass all first_failed when◌then◌else◌
 told_pass [] t e = tt
 told_pass ((true, n) ∷ cs) t e = told_pass cs (and→ (ltb 0 n || true) _ t).1 e
 told_pass ((false, n) ∷ cs) t e =
@@ -170,7 +170,7 @@ module _ (text : List ℕ) (depth : ℕ) where
 
     -- 16, 17 and 20 never come: allowance, words and weights are within the limits
     only_15_and_18 : first_failed (searching empty_responses g (program_config depth) []) ≡ first_failed (search_checks g)
-    unfolding first_failed accepted_weights if◌then◌else◌
+    unfolding first_failed accepted_weights when◌then◌else◌
     only_15_and_18 = refl
 
     search_number : (program_search depth p).number ≡ first_failed (search_checks g)
@@ -207,7 +207,7 @@ module _ (text : List ℕ) (depth : ℕ) where
 -- ---- the line
 module _ (text rest : List ℕ) where
   rest_says : Says (answering text rest) (Answered text (digits_say rest)) (asked_text (asks_with text (depth_of rest)))
-  unfolding all first_failed if◌then◌else◌
+  unfolding all first_failed when◌then◌else◌
   rest_says =
       let head : Checks = (one_or_two_digits rest, 19) ∷ [] in
       let depth = digits_say rest in

@@ -8,7 +8,7 @@ use native.Mathlib.Omega.{arith}
 use lib.Dec.{T, eqb, leb, ltb, eqb→eq, leb→le, le→leb, not_T}
 use lib.ListN.{length, get_or, drop}
 use borrow.Author.Tests.{ne_eqb}
-use Rattle.base.specs.Branch.{if◌then◌else◌}
+use Rattle.base.specs.Branch.{when◌then◌else◌}
 use Rattle.base.specs.Lists.{all, from}
 use Rattle.base.specs.Checks.{all_pass, first_failed}
 use Rattle.base.proofs.Bool.{is}
@@ -55,8 +55,8 @@ reads_length t cs bytes m u = record {
 }
 
 reads_letters : (t u : Bool) (b c m : ℕ) → ReadsSo ((true, 7) ∷ (t, 8) ∷ (u, 8) ∷ []) ((t, b) ∷ (u, c) ∷ []) m
-    (if t then (λ _. if u then (λ _. reads_move m) else λ _. bad_character c) else λ _. bad_character b)
-unfolding first_failed if◌then◌else◌
+    (when t then (λ _. when u then (λ _. reads_move m) else λ _. bad_character c) else λ _. bad_character b)
+unfolding first_failed when◌then◌else◌
 reads_letters true true b c m =
     record { number = refl; byte_is = λ q. absurd (omega (arith, q)); none_read = λ h. absurd (h refl); read_is = λ _. refl }
 reads_letters true false b c m =
@@ -89,8 +89,8 @@ reading_move_holds text r h = let x = reads_so text in record {
 
 -- ---- reading a position
 -- marks and cells: what is known passes the test, and nothing else
-known_or : {A : Type 0} (t : Bool) (a : A) (o : Option A) → known (if t then (λ _. some a) else λ _. o) ≡ (t || known o)
-unfolding if◌then◌else◌
+known_or : {A : Type 0} (t : Bool) (a : A) (o : Option A) → known (when t then (λ _. some a) else λ _. o) ≡ (t || known o)
+unfolding when◌then◌else◌
 known_or true a o = refl
 known_or false a o = refl
 
@@ -128,32 +128,32 @@ BadFrom o cs none = T (all_pass cs)
 BadFrom o cs (some i) = T (not (all_pass cs)) × (first_failed cs ≡ o + i)
 
 bad_from : (o : ℕ) (os : List ℕ) → BadFrom o (marks_from o os) (first_bad os)
-unfolding BadFrom marks_from first_bad all_pass all first_failed if◌then◌else◌
+unfolding BadFrom marks_from first_bad all_pass all first_failed when◌then◌else◌
 bad_from o [] = tt
 bad_from o (c ∷ os) = subst
-    (λ (t : Bool). BadFrom o ((good_mark c, o) ∷ marks_from (suc o) os) (if t then (λ _. one_on (first_bad os)) else λ _. some 0))
+    (λ (t : Bool). BadFrom o ((good_mark c, o) ∷ marks_from (suc o) os) (when t then (λ _. one_on (first_bad os)) else λ _. some 0))
     (sym (mark_is c)) (by (good_mark c) (marks_from (suc o) os) (first_bad os) (bad_from (suc o) os))
   where
     by : (t : Bool) (cs : List (Bool × ℕ)) (b : Option ℕ) → BadFrom (suc o) cs b →
-        BadFrom o ((t, o) ∷ cs) (if t then (λ _. one_on b) else λ _. some 0)
+        BadFrom o ((t, o) ∷ cs) (when t then (λ _. one_on b) else λ _. some 0)
     by true cs none h = h
     by true cs (some i) h = (h.0, omega (arith, h.1))
     by false cs b h = (tt, omega arith)
 
 -- the cells
 faults_are : (cs is : List ℕ) → first_fault cs is ≡ first_failed (cell_checks cs is)
-unfolding first_fault fault_at cell_checks first_failed if◌then◌else◌
+unfolding first_fault fault_at cell_checks first_failed when◌then◌else◌
 faults_are cs [] = refl
 faults_are cs (i ∷ is) =
-    (λ j. let f = if eqb (i % 10) 9 then (λ _. if ltb i (length cs) && eqb (get_or cs i 0) 0x2f then (λ _. 0) else λ _. 5) else
-    λ _. if not (ltb i (length cs)) then (λ _. 6) else λ _. if cell_is (get_or cs i 0) j then (λ _. 0) else λ _. 3 in
-    if eqb f 0 then (λ _. faults_are cs is j) else λ _. f)
+    (λ j. let f = when eqb (i % 10) 9 then (λ _. when ltb i (length cs) && eqb (get_or cs i 0) 0x2f then (λ _. 0) else λ _. 5) else
+    λ _. when not (ltb i (length cs)) then (λ _. 6) else λ _. when cell_is (get_or cs i 0) j then (λ _. 0) else λ _. 3 in
+    when eqb f 0 then (λ _. faults_are cs is j) else λ _. f)
     ∙ by (eqb (i % 10) 9) (ltb i (length cs)) (eqb (get_or cs i 0) 0x2f) (good_cell (get_or cs i 0)) (cell_checks cs is)
   where
     by : (joint there slash ok : Bool) (ds : List (Bool × ℕ)) →
-        (let f = if joint then (λ _. if there && slash then (λ _. 0) else λ _. 5) else
-        λ _. if not there then (λ _. 6) else λ _. if ok then (λ _. 0) else λ _. 3 in
-        if eqb f 0 then (λ _. first_failed ds) else λ _. f)
+        (let f = when joint then (λ _. when there && slash then (λ _. 0) else λ _. 5) else
+        λ _. when not there then (λ _. 6) else λ _. when ok then (λ _. 0) else λ _. 3 in
+        when eqb f 0 then (λ _. first_failed ds) else λ _. f)
         ≡ first_failed ((not joint || (there && slash), 5) ∷ (joint || there, 6) ∷ (joint || ok, 3) ∷ ds)
     by true true true ok ds = refl
     by true true false ok ds = refl
@@ -169,13 +169,13 @@ Fits cs (refuses n o l) = (first_failed (numbers cs) ≡ n) × (first_failed (of
 
 passes : (t : Bool) (n o l : ℕ) (cs : List (Bool × ℕ × ℕ × ℕ)) (x : Reading) → T t → Fits cs x →
     Fits ((t, n, o, l) ∷ cs) x
-unfolding Fits first_failed if◌then◌else◌
+unfolding Fits first_failed when◌then◌else◌
 passes true n o l cs (reads p) t h = h
 passes true n o l cs (refuses n' o' l') t h = h
 passes false n o l cs x t h = absurd t
 
 fails : (t : Bool) (n o l : ℕ) (cs : List (Bool × ℕ × ℕ × ℕ)) → T (not t) → Fits ((t, n, o, l) ∷ cs) (refuses n o l)
-unfolding Fits first_failed if◌then◌else◌
+unfolding Fits first_failed when◌then◌else◌
 fails true n o l cs t = absurd t
 fails false n o l cs t = (refl, refl, refl)
 

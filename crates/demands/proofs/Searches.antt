@@ -7,7 +7,7 @@ use native.Mathlib.Omega.{arith}
 use lib.Dec.{T, eqb, leb, leb→le}
 use lib.ListN.{length, get_or-append}
 use borrow.Author.Tests.{eqb-true, eqb-false}
-use Rattle.base.specs.Branch.{if◌then◌else◌}
+use Rattle.base.specs.Branch.{when◌then◌else◌}
 use Rattle.base.specs.Lists.{In}
 use Rattle.base.specs.Checks.{first_failed}
 use Rattle.base.proofs.Bool.{and→}
@@ -110,7 +110,7 @@ module _ (m : Minimax) (g : Game) (c : Config) (words : List ℕ) where
 
   -- ---- the lower edge
   edge_holds : LowerEdge m g c words (report G g (no_move_answer G c.allowance g s))
-  unfolding if◌then◌else◌
+  unfolding when◌then◌else◌
   edge_holds = record {
     number = refl;
     not_stopped = tt;

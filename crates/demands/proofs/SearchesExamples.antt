@@ -2,7 +2,7 @@
 use mathlib.Core.Path.{refl}
 use mathlib.Core.List.{List, []}
 use Prim.Native.Nat.{ℕ}
-use Rattle.base.specs.Branch.{if◌then◌else◌}
+use Rattle.base.specs.Branch.{when◌then◌else◌}
 use Rattle.base.specs.Lists.{any, all, filter, elem, concat_map}
 use Rattle.base.specs.Bits.{bit, digits}
 use Rattle.base.specs.Checks.{all_pass, first_failed}
@@ -27,7 +27,7 @@ abbrev full_board : List ℕ
 full_board = quoted "X;@........;XOXXOOOXX/........./........./........./........./........./........./........./........."
 
 pub no_legal_move_occurs : NoLegalMove empty_responses (game_for (read full_board)) (program_config 3) []
-unfolding quoted if◌then◌else◌ any all filter elem concat_map bit digits all_pass first_failed has_line result_of accepts places moves
+unfolding quoted when◌then◌else◌ any all filter elem concat_map bit digits all_pass first_failed has_line result_of accepts places moves
     accepted_weights with_turn side_of overall_mark cell_mark sections first_bad last_at fault_at first_fault cell_in state_in said
     read_cells read_overall read off look_up entry_refusal cell_at state_at row_bits state_bits
 no_legal_move_occurs = record { accepted = refl; goes_on = tt; none_listed = refl; no_entry = refl }

@@ -3,7 +3,7 @@ use mathlib.Core.Path.{◌≡◌, refl, ap, ◌∙◌}
 use mathlib.Core.List.{◌++◌}
 use Rattle.rules.specs.Position.{start}
 use Rattle.text.proofs.Examples.{empty_text_reads, empty_text as text_of_101, e9 as cells_of_101}
-use Rattle.base.specs.Branch.{if◌then◌else◌}
+use Rattle.base.specs.Branch.{when◌then◌else◌}
 use Rattle.base.specs.Lists.{any, all, filter, elem, concat_map}
 use Rattle.base.specs.Update.{update}
 use Rattle.base.specs.Integers.{sum}
@@ -33,11 +33,11 @@ use Rattle.demands.specs.Twelve.{e9, c9, empty_position, Twelve}
 
 -- what the facts compute with
 asking : Unit {0}
-unfolding parted depth_of quoted e9 empty_position if◌then◌else◌
+unfolding parted depth_of quoted e9 empty_position when◌then◌else◌
 asking = tt
 
 computing : Unit {0}
-unfolding if◌then◌else◌ any all filter elem concat_map update sum has_line result_of first_failed accepts all_pass after play left_by tried
+unfolding when◌then◌else◌ any all filter elem concat_map update sum has_line result_of first_failed accepts all_pass after play left_by tried
     places moves sound proper cell_key board_key next_board_key xors cells_hash board_hash hash with_turn zobrist hash_after places_in
     accepted_weights unless_both board_line board_score overall_line score evaluate completes winning critical has_critical suits all_suit lure attack
     prove_attacker forced forced_loss winnable proven narrow combine merged endgame_stats or_unproven analysis from_byte merge side_of

@@ -5,7 +5,7 @@ use mathlib.Core.Option.{Option, none, some}
 use Prim.Native.Nat.{ℕ, ◌+◌, ◌≤◌}
 use native.Mathlib.Omega.{arith}
 use lib.Bits.{bit_and}
-use Rattle.base.specs.Branch.{if◌then◌else◌}
+use Rattle.base.specs.Branch.{when◌then◌else◌}
 use Rattle.rules.specs.declared.Player.{Player}
 use Rattle.rules.specs.declared.Player.TheVariants.{X, O}
 use Rattle.rules.specs.Board.{other}
@@ -24,27 +24,27 @@ use Rattle.endgame.specs.Means.{endgame_stats_of, Agrees}
 -- ---- what is proved
 module _ (t : Player) (wins loses : Bool) where
   pub proven_won : wins ≡ true → for_player t ≡ proven t wins loses
-  unfolding proven if◌then◌else◌
+  unfolding proven when◌then◌else◌
   proven_won e = rw e
 
   pub proven_lost : wins ≡ false → loses ≡ true → for_player (other t) ≡ proven t wins loses
-  unfolding proven if◌then◌else◌
+  unfolding proven when◌then◌else◌
   proven_lost e d = rw (e, d)
 
   pub proven_open : wins ≡ false → loses ≡ false → unproven ≡ proven t wins loses
-  unfolding proven if◌then◌else◌
+  unfolding proven when◌then◌else◌
   proven_open e d = rw (e, d)
 
 -- a loss is looked for only without a win
 pub loss_after_win : (t : Player) (wins loses x o : Bool) → combine t wins (not wins && loses) x o ≡ combine t wins loses x o
-unfolding combine proven if◌then◌else◌
+unfolding combine proven when◌then◌else◌
 loss_after_win t true loses x o = refl
 loss_after_win t false loses x o = refl
 
 -- ---- what is left of it
 module _ (can : Bool) (t : Set) (s : Option Set) where
   pub narrow_can : can ≡ true → s ≡ narrow can t s
-  unfolding narrow if◌then◌else◌
+  unfolding narrow when◌then◌else◌
   narrow_can e = rw e (go s)
     where
       go : (s : Option Set) → s ≡ narrow true t s
@@ -54,7 +54,7 @@ module _ (can : Bool) (t : Set) (s : Option Set) where
 module _ (can : Bool) (left : Status) (t : Set) (s : Option Set) (l : left ≡ status_of t) where
   pub narrow_set : can ≡ false → (a : Status) → IsSet a ≡ read_of s → read_of (from_byte (bit_and a.bits left.bits))
       ≡ read_of (narrow can t s)
-  unfolding narrow if◌then◌else◌
+  unfolding narrow when◌then◌else◌
   narrow_set e a q = rw (e, l) (go s q)
     where
       go : (s : Option Set) → IsSet a ≡ read_of s → read_of (from_byte (bit_and a.bits (status_of t).bits))

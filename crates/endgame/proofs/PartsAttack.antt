@@ -8,7 +8,7 @@ use lib.Bits.{bit_or}
 use lib.Dec.{T, eqb, T_not}
 use borrow.Author.Tests.{ne_eqb}
 use Rattle.base.specs.Bits.{bit, digits}
-use Rattle.base.specs.Branch.{if◌then◌else◌}
+use Rattle.base.specs.Branch.{when◌then◌else◌}
 use Rattle.base.specs.Update.{update}
 use Rattle.base.specs.Lists.{any, all}
 use Rattle.base.proofs.ListsAgree.{any_same, all_same, false_by}
@@ -31,7 +31,7 @@ use Rattle.endgame.proofs.PartsSets.{set_bit, set_bit_all, none_in, joined_bit}
 
 -- ---- critical sets
 update_else : (own : ℕ → Bool) (b k : ℕ) → (b ≡ k → ⊥) → update own b true k ≡ own k
-unfolding update if◌then◌else◌
+unfolding update when◌then◌else◌
 update_else own b k q = rw (ne_eqb b k q)
 
 pub critical_past : (p : Position) → T (sound p) → (w : Player) (b : ℕ) → 9 ≤ b → critical p w b ≡ false
@@ -140,23 +140,23 @@ module _ (p : Position) (m : ℕ) where
   v = other p.turn
 
   pub judged_safe : has_critical p v ≡ false → unproven ≡ judge p m
-  unfolding judge if◌then◌else◌
+  unfolding judge when◌then◌else◌
   judged_safe e = rw e
 
   pub judged_blocking : critical p v (board_of m) ≡ true → unproven ≡ judge p m
-  unfolding judge if◌then◌else◌
+  unfolding judge when◌then◌else◌
   judged_blocking c = go (has_critical p v)
     where
-      go : (a : Bool) → unproven ≡ (if a && (not (critical p v (board_of m)) && suits p v (cell_of m)) then (λ _. for_player v)
+      go : (a : Bool) → unproven ≡ (when a && (not (critical p v (board_of m)) && suits p v (cell_of m)) then (λ _. for_player v)
           else λ _. unproven)
       go true = rw c
       go false = refl
 
   module _ (e : has_critical p v ≡ true) (c : critical p v (board_of m) ≡ false) where
     pub judged_lost : suits p v (cell_of m) ≡ true → for_player v ≡ judge p m
-    unfolding judge if◌then◌else◌
+    unfolding judge when◌then◌else◌
     judged_lost s = rw (e, c, s)
 
     pub judged_open : suits p v (cell_of m) ≡ false → unproven ≡ judge p m
-    unfolding judge if◌then◌else◌
+    unfolding judge when◌then◌else◌
     judged_open s = rw (e, c, s)

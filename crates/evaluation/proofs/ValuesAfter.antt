@@ -6,7 +6,7 @@ use Prim.Native.Nat.{ℕ, zero, suc, ◌+◌, ◌<◌}
 use native.Mathlib.Omega.{arith}
 use lib.IntN.{ℤ, pos}
 use lib.ListN.{length, set}
-use Rattle.base.specs.Branch.{if◌then◌else◌}
+use Rattle.base.specs.Branch.{when◌then◌else◌}
 use Rattle.base.specs.Integers.{sum}
 use Rattle.base.specs.Lists.{from}
 use Rattle.base.proofs.Bool.{is}
@@ -31,7 +31,7 @@ use Rattle.evaluation.specs.Values.{value_in, board_value, values_of}
 module _ (w : Weights) (p q : Position) (b : ℕ) (e : p.cells b ≡ q.cells b) (f : p.states b ≡ q.states b) where
   same_score : board_score w p b ≡ board_score w q b
   unfolding board_score
-  same_score = λ i. if in_play (f i) then (λ _. sum (board_line w (λ c. mine X (e i c)) (λ c. mine O (e i c))) lines) else λ _. pos 0
+  same_score = λ i. when in_play (f i) then (λ _. sum (board_line w (λ c. mine X (e i c)) (λ c. mine O (e i c))) lines) else λ _. pos 0
 
   same_value : board_value w p b ≡ board_value w q b
   unfolding board_value

@@ -7,7 +7,7 @@ use native.Mathlib.Omega.{arith}
 use lib.Dec.{T}
 use lib.IntN.{ℤ, pos}
 use lib.ListN.{get_or}
-use Rattle.base.specs.Branch.{if◌then◌else◌}
+use Rattle.base.specs.Branch.{when◌then◌else◌}
 use Rattle.base.specs.Bits.{bit, digits}
 use Rattle.base.specs.Integers.{sum}
 use Rattle.base.specs.Lists.{from}
@@ -35,11 +35,11 @@ module _ (w : Weights) (p : Position) (b : ℕ) where
   value_is s e = ap (value_in w p b) (sym e)
 
   pub value_open : p.states b ≡ InPlay → sum (board_line w (has p X b) (has p O b)) lines ≡ board_value w p b
-  unfolding board_score if◌then◌else◌
+  unfolding board_score when◌then◌else◌
   value_open e = rw e at (value_is InPlay e)
 
   closed_score : (s : GameState) → p.states b ≡ s → T (not (in_play s)) → board_score w p b ≡ pos 0
-  unfolding board_score if◌then◌else◌
+  unfolding board_score when◌then◌else◌
   closed_score InPlay e t = absurd t
   closed_score Drawn e t = rw e
   closed_score (Won v) e t = rw e

@@ -6,7 +6,7 @@ use Prim.Native.Nat.{ℕ}
 use native.Mathlib.Omega.{arith}
 use lib.Dec.{T}
 use lib.IntN.{ℤ, pos}
-use Rattle.base.specs.Branch.{if◌then◌else◌}
+use Rattle.base.specs.Branch.{when◌then◌else◌}
 use Rattle.rules.specs.declared.Player.{Player}
 use Rattle.rules.specs.declared.Player.TheVariants.{X, O}
 use Rattle.rules.specs.declared.GameState.{GameState}
@@ -42,12 +42,12 @@ module _ (sc : Scoring) (p : Position) (values : List ℤ) where
   -- a finished game
   pub eval_ended : (s : GameState) → p.state ≡ s → T (not (in_play s)) →
       seen_by p.turn (state_value sc p s) ≡ evaluate_by sc p values
-  unfolding evaluate evaluate_by if◌then◌else◌
+  unfolding evaluate evaluate_by when◌then◌else◌
   eval_ended InPlay e t = absurd t
   eval_ended Drawn e t = rw e
   eval_ended (Won w) e t = rw e
 
   -- one in play, as the side to move sees it
   pub eval_open : p.state ≡ InPlay → (t : Player) → p.turn ≡ t → seen_by t (score_by p values) ≡ evaluate_by sc p values
-  unfolding evaluate_by if◌then◌else◌
+  unfolding evaluate_by when◌then◌else◌
   eval_open e t f = rw (e, f)

@@ -9,7 +9,7 @@ use lib.Bits.{bit_and, and_mask, and_mod, and_le_r}
 use lib.Dec.{eqb, eqb→eq, ltb, ltb→lt, lit<}
 use lib.IntN.{ℤ, pos, neg_ℤ, ◌+ℤ◌, ◌-ℤ◌, +ℤ_idl, +ℤ_idr}
 use borrow.Author.Tests.{eq-eqb, ne_eqb, eqb-true, eqb-false, lt-ltb}
-use Rattle.base.specs.Branch.{if◌then◌else◌}
+use Rattle.base.specs.Branch.{when◌then◌else◌}
 use Rattle.base.specs.Bits.{bit, digits}
 use Rattle.base.specs.Integers.{sum}
 use Rattle.base.proofs.Integers.{left_sum}
@@ -47,7 +47,7 @@ eight f =
 -- how many places the code takes the line to have, by those, p, that it found by the mask m
 found : ℕ → ℕ → ℕ
 found m p =
-    if eqb p 0 then (λ _. 0) else λ _. if eqb (bit_and p (p - 1)) 0 then (λ _. 1) else λ _. if eqb p m then (λ _. 3) else λ _. 2
+    when eqb p 0 then (λ _. 0) else λ _. when eqb (bit_and p (p - 1)) 0 then (λ _. 1) else λ _. when eqb p m then (λ _. 3) else λ _. 2
 
 -- computed for each line and each board of nine digits
 found_test : ℕ → ℕ → Bool
@@ -57,7 +57,7 @@ none_test : ℕ → ℕ → Bool
 none_test i n = same_b (eqb (bit_and n (mask_at i)) 0) (eqb (places_in (bit n) (line_at i)) 0)
 
 small_found : (i n : ℕ) → i < 8 → n < 512 → found (mask_at i) (bit_and n (mask_at i)) ≡ places_in (bit n) (line_at i)
-unfolding found_test found if◌then◌else◌ places_in bit
+unfolding found_test found when◌then◌else◌ places_in bit
 small_found i n h k = eqb→eq _ _ (up_to_at (found_test i) 512 (up_to_at (λ i. up_to (found_test i) 512) 8 tt i h) n k)
 
 small_none : (i n : ℕ) → i < 8 → n < 512 → eqb (bit_and n (mask_at i)) 0 ≡ eqb (places_in (bit n) (line_at i)) 0
@@ -89,21 +89,21 @@ module _ (i n : ℕ) (h : i < 8) where
 
   -- what the code's tests say of them
   pub worth_none : (w : Weights) → p ≡ 0 → 0 ≡ worth w (places_in (bit n) (line_at i))
-  unfolding found if◌then◌else◌
+  unfolding found when◌then◌else◌
   worth_none w e = ap (worth w) (count_found 0 (rw (eq-eqb p 0 e)))
 
   pub worth_one : (w : Weights) → (p ≡ 0 → ⊥) → bit_and p (p - 1) ≡ 0 → w.one ≡ worth w (places_in (bit n) (line_at i))
-  unfolding found if◌then◌else◌
+  unfolding found when◌then◌else◌
   worth_one w q e = ap (worth w) (count_found 1 (rw (ne_eqb p 0 q, eq-eqb (bit_and p (p - 1)) 0 e)))
 
   pub worth_all : (w : Weights) → (p ≡ 0 → ⊥) → (bit_and p (p - 1) ≡ 0 → ⊥) → p ≡ mask_at i →
       0 ≡ worth w (places_in (bit n) (line_at i))
-  unfolding found if◌then◌else◌
+  unfolding found when◌then◌else◌
   worth_all w q r e = ap (worth w) (count_found 3 (rw (ne_eqb p 0 q, ne_eqb (bit_and p (p - 1)) 0 r, eq-eqb p (mask_at i) e)))
 
   pub worth_two : (w : Weights) → (p ≡ 0 → ⊥) → (bit_and p (p - 1) ≡ 0 → ⊥) → (p ≡ mask_at i → ⊥) →
       w.two ≡ worth w (places_in (bit n) (line_at i))
-  unfolding found if◌then◌else◌
+  unfolding found when◌then◌else◌
   worth_two w q r e = ap (worth w) (count_found 2 (rw (ne_eqb p 0 q, ne_eqb (bit_and p (p - 1)) 0 r, ne_eqb p (mask_at i) e)))
 
   pub none_there : p ≡ 0 → places_in (bit n) (line_at i) ≡ 0
@@ -115,25 +115,25 @@ module _ (i n : ℕ) (h : i < 8) where
 -- ---- a line of a board
 module _ (w : Weights) (x o : ℕ) where
   only_x : o ≡ 0 → pos (worth w x) ≡ unless_both x o (pos (worth w x) -ℤ pos (worth w o))
-  unfolding unless_both if◌then◌else◌
+  unfolding unless_both when◌then◌else◌
   only_x e = rw (e, and-false (ltb 0 x)) (sym (+ℤ_idr (pos (worth w x))))
 
   only_o : x ≡ 0 → neg_ℤ (pos (worth w o)) ≡ unless_both x o (pos (worth w x) -ℤ pos (worth w o))
-  unfolding unless_both if◌then◌else◌
+  unfolding unless_both when◌then◌else◌
   only_o e = rw e (sym (+ℤ_idl (neg_ℤ (pos (worth w o)))))
 
 -- a line with both sides in it gives nothing
 pub both_sides : (x o : ℕ) (z : ℤ) → 0 < x → 0 < o → pos 0 ≡ unless_both x o z
-unfolding unless_both if◌then◌else◌
+unfolding unless_both when◌then◌else◌
 both_sides x o z h k = rw (lt-ltb 0 x h, lt-ltb 0 o k)
 
 -- one with at most one side in it gives what it has
 pub no_x : (x o : ℕ) (z : ℤ) → x ≡ 0 → z ≡ unless_both x o z
-unfolding unless_both if◌then◌else◌
+unfolding unless_both when◌then◌else◌
 no_x x o z e = rw e
 
 pub no_o : (x o : ℕ) (z : ℤ) → o ≡ 0 → z ≡ unless_both x o z
-unfolding unless_both if◌then◌else◌
+unfolding unless_both when◌then◌else◌
 no_o x o z e = rw (e, and-false (ltb 0 x))
 
 module _ (w : Weights) (i x o : ℕ) (h : i < 8) where

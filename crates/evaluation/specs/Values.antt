@@ -4,7 +4,7 @@ use Rattle.rules.specs.declared.Player.TheVariants.{X, O}
 use Rattle.rules.specs.declared.GameState.{GameState}
 use Rattle.rules.specs.declared.GameState.TheVariants.{InPlay, Drawn, Won}
 use Rattle.rules.specs.declared.Weights.{Weights}
-use Rattle.base.specs.Branch.{if◌then◌else◌}
+use Rattle.base.specs.Branch.{when◌then◌else◌}
 use Rattle.base.specs.Integers.{sum}
 use Rattle.rules.specs.Board.{nine, Line, lines}
 use Rattle.rules.specs.Position.{Position, unfinished, won_boards}
@@ -44,7 +44,7 @@ score_by p values = sum (overall_value (won_boards p X) (won_boards p O) values)
 
 -- the evaluation, with boards that are said to have these values, which count in play alone
 unfoldable pub evaluate_by : Scoring → Position → List ℤ → ℤ
-evaluate_by sc p values = if unfinished p then (λ _. seen_by p.turn (score_by p values)) else λ _. evaluate sc p
+evaluate_by sc p values = when unfinished p then (λ _. seen_by p.turn (score_by p values)) else λ _. evaluate sc p
 
 -- ---- the evaluation alone
 abbrev pub evaluation_number : EvaluationAnswer → ℕ

@@ -4,7 +4,7 @@ use mathlib.Core.Logic.{inl, inr}
 use Prim.Native.Nat.{ℕ}
 use lib.Bits.{bit_xor, xor_zero_l}
 use lib.ListN.{length, get_or}
-use Rattle.base.specs.Branch.{if◌then◌else◌}
+use Rattle.base.specs.Branch.{when◌then◌else◌}
 use Rattle.base.proofs.Bool.{is}
 use Rattle.rules.specs.declared.Player.{Player}
 use Rattle.rules.specs.declared.GameState.{GameState}
@@ -50,7 +50,7 @@ game_after_hash g m n e = elim (is (accepts (position_of g) m)) [
 ]
 
 pub new_game_hash : Fresh new_game
-unfolding hash xors board_hash cells_hash cell_key if◌then◌else◌
+unfolding hash xors board_hash cells_hash cell_key when◌then◌else◌
 new_game_hash = sym (ap hash new_game_means)
 
 pub packed_hash : (w : Player) (n : NextBoard) (l : LocalBoards) (s : GlobalStates) (t : GameState) → Fresh (packed w n l s t)

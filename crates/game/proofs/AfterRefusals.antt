@@ -7,7 +7,7 @@ use Prim.Native.Nat.{ℕ, ◌≤◌}
 use native.Mathlib.Omega.{arith}
 use lib.Dec.{T, ltb}
 use borrow.Author.Tests.{lt-ltb, le-ltb, not-true, not-false}
-use Rattle.base.specs.Branch.{if◌then◌else◌}
+use Rattle.base.specs.Branch.{when◌then◌else◌}
 use Rattle.base.specs.Lists.{all}
 use Rattle.base.specs.Checks.{first_failed}
 use Rattle.base.proofs.Bool.{is}
@@ -36,11 +36,11 @@ module _ (p : Position) (m b c : ℕ) (eb : b ≡ board_of m) (ec : c ≡ cell_o
       ∙ (λ i. first_failed (checks p (eb i) (ec i))) ∙ first_is_refusal p m
 
   pub over_board : 9 ≤ b → 9 ≡ refusal (play p m)
-  unfolding first_failed if◌then◌else◌
+  unfolding first_failed when◌then◌else◌
   over_board h = checked false _ _ _ _ (rw (le-ltb b 9 h)) refl refl refl refl
 
   pub over_cell : 9 ≤ c → 9 ≡ refusal (play p m)
-  unfolding first_failed if◌then◌else◌
+  unfolding first_failed when◌then◌else◌
   over_cell h = checked false _ _ _ _ (rw (le-ltb c 9 h, and-false (ltb b 9))) refl refl refl refl
 
   module _ (hb : b ≤ 8) (hc : c ≤ 8) (done : Bool) (ed : done ≡ not (unfinished p)) where
@@ -48,7 +48,7 @@ module _ (p : Position) (m b c : ℕ) (eb : b ≡ board_of m) (ec : c ≡ cell_o
     ranged = rw (lt-ltb b 9 (omega arith), lt-ltb c 9 (omega arith))
 
     pub finished : done ≡ true → 10 ≡ refusal (play p m)
-    unfolding first_failed if◌then◌else◌
+    unfolding first_failed when◌then◌else◌
     finished d = checked true false _ _ _ ranged (not-true (unfinished p) (sym ed ∙ d)) refl refl refl
 
     module _ (d : done ≡ false) (still : Bool) (eo : still ≡ open_board p b) where
@@ -56,7 +56,7 @@ module _ (p : Position) (m b c : ℕ) (eb : b ≡ board_of m) (ec : c ≡ cell_o
       is_unfinished = not-false (unfinished p) (sym ed ∙ d)
 
       pub shut : not still ≡ true → 11 ≡ refusal (play p m)
-      unfolding first_failed if◌then◌else◌
+      unfolding first_failed when◌then◌else◌
       shut o = checked true true false _ _ ranged is_unfinished (sym eo ∙ not-true still o) refl refl
 
       module _ (o : not still ≡ false) (ok : Bool) (ea : ok ≡ may p.next_board b) where
@@ -64,7 +64,7 @@ module _ (p : Position) (m b c : ℕ) (eb : b ≡ board_of m) (ec : c ≡ cell_o
         opened = sym eo ∙ not-false still o
 
         pub elsewhere : not ok ≡ true → 12 ≡ refusal (play p m)
-        unfolding first_failed if◌then◌else◌
+        unfolding first_failed when◌then◌else◌
         elsewhere a = checked true true true false _ ranged is_unfinished opened (sym ea ∙ not-true ok a) refl
 
         module _ (a : not ok ≡ false) (s : CellState) (es : s ≡ p.cells b c) where
@@ -72,7 +72,7 @@ module _ (p : Position) (m b c : ℕ) (eb : b ≡ board_of m) (ec : c ≡ cell_o
           allowed = sym ea ∙ not-false ok a
 
           pub looked : (e : Bool) → blank s ≡ e → cond e 0 13 ≡ refusal (play p m)
-          unfolding first_failed if◌then◌else◌
+          unfolding first_failed when◌then◌else◌
           looked true e = checked true true true true true ranged is_unfinished opened allowed (ap blank (sym es) ∙ e)
           looked false e = checked true true true true false ranged is_unfinished opened allowed (ap blank (sym es) ∙ e)
 

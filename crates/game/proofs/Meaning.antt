@@ -9,7 +9,7 @@ use native.Mathlib.Omega.{arith}
 use lib.Bits.{bit_xor, xor_comm, xor_zero_l}
 use lib.Dec.{T, T_not}
 use lib.ListN.{length, get_or, get_or-replicate}
-use Rattle.base.specs.Branch.{if◌then◌else◌}
+use Rattle.base.specs.Branch.{when◌then◌else◌}
 use Rattle.base.specs.Update.{update}
 use Rattle.base.proofs.Branch.{if_ind}
 use Rattle.base.proofs.Bool.{is}
@@ -43,12 +43,12 @@ use Rattle.game.specs.Built.{no_boards, no_states, new_game, recalculated}
 
 -- the cell's board is due if it is in play
 module _ (s : GlobalStates) (c : ℕ) (ok : Bool) (e : ok ≡ in_play (state_at s c)) where
-  pub next_only : ok ≡ true → Only c ≡ (if in_play (state_at s c) then (λ _. Only c) else λ _. Any)
-  unfolding if◌then◌else◌
+  pub next_only : ok ≡ true → Only c ≡ (when in_play (state_at s c) then (λ _. Only c) else λ _. Any)
+  unfolding when◌then◌else◌
   next_only f = rw (sym e ∙ f)
 
-  pub next_any : ok ≡ false → Any ≡ (if in_play (state_at s c) then (λ _. Only c) else λ _. Any)
-  unfolding if◌then◌else◌
+  pub next_any : ok ≡ false → Any ≡ (when in_play (state_at s c) then (λ _. Only c) else λ _. Any)
+  unfolding when◌then◌else◌
   next_any f = rw (sym e ∙ f)
 
 turned : (h k r s : ℕ) → bit_xor (bit_xor (bit_xor h k) r) s ≡ bit_xor s (bit_xor r (bit_xor k h))
@@ -56,8 +56,8 @@ turned h k r s = xor_comm (bit_xor (bit_xor h k) r) s ∙ ap (bit_xor s) (xor_co
 
 -- the key of a played cell comes in, and the board may close: in the order of the code, and of the rules
 closed : (b : ℕ) (r : ℕ → CellState) (s : GameState) (h k : ℕ) → closing (bit_xor h k) b r s
-    ≡ bit_xor (board_key b s) (bit_xor (if in_play s then (λ _. 0) else λ _. cells_hash b r) (bit_xor k h))
-unfolding closing board_key if◌then◌else◌
+    ≡ bit_xor (board_key b s) (bit_xor (when in_play s then (λ _. 0) else λ _. cells_hash b r) (bit_xor k h))
+unfolding closing board_key when◌then◌else◌
 closed b r InPlay h k = xor_comm h k ∙ sym (xor_zero_l (bit_xor 0 (bit_xor k h)) ∙ xor_zero_l (bit_xor k h))
 closed b r Drawn h k = turned h k (cells_hash b r) _
 closed b r (Won w) h k = turned h k (cells_hash b r) _
@@ -116,7 +116,7 @@ module _ (g : Game) (b c : ℕ) (n : length g.local_boards.rows ≡ 3) (hb : b <
   -- what the code works out, field by field, is the struct after the move
   module _ (v : Player) (next : NextBoard) (ls : LocalBoards) (s t : GameState) (ss : GlobalStates) (k h : ℕ)
       (e_player : v ≡ other w)
-      (e_next : next ≡ (if in_play (state_at ss c) then (λ _. Only c) else λ _. Any))
+      (e_next : next ≡ (when in_play (state_at ss c) then (λ _. Only c) else λ _. Any))
       (e_boards : ls ≡ boards)
       (e_state : s ≡ result_of w (λ i. mine w (cell_at ls b i)) (λ i. blank (cell_at ls b i)))
       (e_states : ss ≡ with_state g.global_states b s)
@@ -133,7 +133,7 @@ module _ (g : Game) (b c : ℕ) (n : length g.local_boards.rows ≡ 3) (hb : b <
     next_is : next ≡ (after p b c).next_board
     unfolding after
     next_is =
-        e_next ∙ ap (λ (f : ℕ → GameState). if in_play (f c) then (λ _. Only c) else λ _. Any)
+        e_next ∙ ap (λ (f : ℕ → GameState). when in_play (f c) then (λ _. Only c) else λ _. Any)
         (ap state_at states_are ∙ states_made)
 
     game_is : t ≡ (after p b c).state
@@ -147,7 +147,7 @@ module _ (g : Game) (b c : ℕ) (n : length g.local_boards.rows ≡ 3) (hb : b <
         e_hash
         ∙ closed b (cell_at ls b) s g.hash k
         ∙ (λ i. bit_xor (board_key b (state_is i))
-        (bit_xor (if in_play (state_is i) then (λ _. 0) else λ _. cells_hash b
+        (bit_xor (when in_play (state_is i) then (λ _. 0) else λ _. cells_hash b
         ((ap (λ (l : LocalBoards). cell_at l b) e_boards ∙ row_made) i)) (bit_xor (e_key i) g.hash)))
 
     pub play_makes : ◌≡◌ {A = Game}

@@ -10,7 +10,7 @@ use lib.Dec.{T, eqb, lit<}
 use lib.ListN.{length, get_or}
 use lib.Ieee.Bits.{is_true}
 use borrow.Author.Tests.{eq-eqb, ne_eqb, not-true, not-false}
-use Rattle.base.specs.Branch.{if◌then◌else◌}
+use Rattle.base.specs.Branch.{when◌then◌else◌}
 use Rattle.base.specs.Bits.{bit, digits}
 use Rattle.base.specs.Lists.{all, filter, count, In, from, concat_map, total}
 use Rattle.base.proofs.ListsAgree.{same_by}
@@ -40,11 +40,11 @@ use Rattle.game.proofs.MeaningSides.{same_number}
 
 -- ---- how many of a list pass a test
 pub length_kept : (f : ℕ → Bool) (xs : List ℕ) → length (filter f xs) ≡ count f xs
-unfolding filter count if◌then◌else◌
+unfolding filter count when◌then◌else◌
 length_kept f [] = refl
 length_kept f (x ∷ xs) = go (f x) (length_kept f xs)
   where
-    go : (b : Bool) → length (filter f xs) ≡ count f xs → length (if b then (λ _. x ∷ filter f xs) else λ _. filter f xs)
+    go : (b : Bool) → length (filter f xs) ≡ count f xs → length (when b then (λ _. x ∷ filter f xs) else λ _. filter f xs)
         ≡ cond b 1 0 + count f xs
     go true e = omega arith
     go false e = omega arith

@@ -1,6 +1,6 @@
 -- The game after a move, as a struct: one bit more in one row; the board's and the game's state, next board, side and hash replaced.
 use Rattle.std.specs.Prelude.{◌≡◌, List, [], ◌∷◌, ℕ}
-use Rattle.base.specs.Branch.{if◌then◌else◌}
+use Rattle.base.specs.Branch.{when◌then◌else◌}
 use Rattle.rules.specs.Play.{board_of, cell_of, accepts, after, Tried, played, refused, play, tried}
 use Rattle.rules.specs.Hash.{hash_after}
 use Rattle.boards.specs.declared.moves.Move.{Move}
@@ -25,7 +25,7 @@ after_move g b c =
 
 -- the game after a tried move: a refused one leaves the very struct
 unfoldable pub game_after : Game → ℕ → Game
-game_after g m = if accepts (position_of g) m then (λ _. after_move g (board_of m) (cell_of m)) else λ _. g
+game_after g m = when accepts (position_of g) m then (λ _. after_move g (board_of m) (cell_of m)) else λ _. g
 
 unfoldable pub games_after : Game → List ℕ → Game
 games_after g [] = g

@@ -10,7 +10,7 @@ use lib.IntN.{ℤ}
 use lib.ListN.{length, get_or, set, take, drop, length-take, length-drop, length-append}
 use lib.Seq.{get_or-take, length-take-le}
 use borrow.Author.Tests.{ltb-true, ltb-false}
-use Rattle.base.specs.Branch.{if◌then◌else◌}
+use Rattle.base.specs.Branch.{when◌then◌else◌}
 use Rattle.base.specs.LineFeed.{line_feed, UpToFeed, up_to_feed}
 use Rattle.base.proofs.LineFeed.{feed_append, byte_taken_at, feed_found_at}
 use Rattle.input.specs.declared.InputLine.{InputLine}
@@ -95,18 +95,18 @@ module _ (i : Input) (buffer₀ kept₀ : List ℕ) where
 
 -- ---- a line that goes on has all bytes on it: its length is their number, up to the largest
 counted_on : (n : ℕ) → n ≤ longest → count_on n ≡ min longest (n + 1)
-unfolding count_on if◌then◌else◌
+unfolding count_on when◌then◌else◌
 counted_on n h = go (ltb n longest) refl
   where
-    go : (c : Bool) → ltb n longest ≡ c → (if c then (λ _. n + 1) else λ _. n) ≡ min longest (n + 1)
+    go : (c : Bool) → ltb n longest ≡ c → (when c then (λ _. n + 1) else λ _. n) ≡ min longest (n + 1)
     go true e = omega (arith, ltb-true n longest e)
     go false e = omega (arith, ltb-false n longest e)
 
 byte_counted : (c : Bool) (s : KeptLine) (bs : List ℕ) (t : UpToFeed KeptLine) (k : ℕ) →
     (t.found ≡ false → t.line.counted.length ≡ k) →
-    (if c then (λ _. record { line = s; left = bs; found = true }) else λ _. t).found ≡ false →
-    (if c then (λ _. record { line = s; left = bs; found = true }) else λ _. t).line.counted.length ≡ k
-unfolding if◌then◌else◌
+    (when c then (λ _. record { line = s; left = bs; found = true }) else λ _. t).found ≡ false →
+    (when c then (λ _. record { line = s; left = bs; found = true }) else λ _. t).line.counted.length ≡ k
+unfolding when◌then◌else◌
 byte_counted true s bs t k h e = absurd (true≢false e)
 byte_counted false s bs t k h e = h e
 

@@ -7,7 +7,7 @@ use native.Mathlib.Omega.{arith}
 use lib.ListN.{length, set, take, length-append, length-set}
 use lib.Seq.{take-suc-set, append_snoc}
 use borrow.Author.Tests.{lt-ltb, le-leb, lt-leb, ne_eqb}
-use Rattle.base.specs.Branch.{if◌then◌else◌}
+use Rattle.base.specs.Branch.{when◌then◌else◌}
 use Rattle.base.specs.LineFeed.{line_feed, UpToFeed, up_to_feed}
 use Rattle.base.proofs.LineFeed.{feed_append, feed_found}
 use Rattle.input.specs.declared.InputLine.{InputLine}
@@ -21,18 +21,18 @@ Unbroken (b ∷ bs) = (b ≡ line_feed → ⊥) × Unbroken bs
 
 -- ---- counting
 pub count_on_is : (n : ℕ) → n < longest → count_on n ≡ suc n
-unfolding count_on if◌then◌else◌
+unfolding count_on when◌then◌else◌
 count_on_is n h = rw (lt-ltb n longest h) (omega arith)
 
 pub count_on_stops : count_on longest ≡ longest
-unfolding count_on if◌then◌else◌
+unfolding count_on when◌then◌else◌
 count_on_stops = refl
 
 -- ---- bytes without a line feed
 goes_on : (l : InputLine) (kept bs : List ℕ) → Unbroken bs →
     ((line_taken l kept bs).found ≡ false) × ((line_taken l kept bs).left ≡ []) ×
     (length (line_taken l kept bs).line.kept ≡ length kept)
-unfolding up_to_feed if◌then◌else◌
+unfolding up_to_feed when◌then◌else◌
 goes_on l kept [] u = (refl, refl, refl)
 goes_on l kept (b ∷ bs) u =
     let h = goes_on (one_longer l) (set kept l.length b) bs u.1 in
@@ -42,7 +42,7 @@ goes_on l kept (b ∷ bs) u =
 keeps : (l : InputLine) (kept came bs : List ℕ) → Unbroken bs → l.length ≡ length came → take (length came) kept ≡ came →
     length came + length bs ≤ length kept → length kept < longest →
     take (length (came ++ bs)) (line_taken l kept bs).line.kept ≡ came ++ bs
-unfolding up_to_feed if◌then◌else◌
+unfolding up_to_feed when◌then◌else◌
 keeps l kept came [] u e k fits small = rw (append-nil came) k
 keeps l kept came (b ∷ bs) u e k fits small =
     let n : l.length < length kept = omega arith in
@@ -65,7 +65,7 @@ module _ (kept bs : List ℕ) (u : Unbroken bs) (small : length kept < longest) 
   line_length = all_counted new_line kept bs (omega arith) (goes_on new_line kept bs u).0 ∙ omega arith
 
   pub last_line : length bs ≤ length kept → whole (line_taken new_line kept bs) ≡ bs
-  unfolding complete_line if◌then◌else◌
+  unfolding complete_line when◌then◌else◌
   last_line fits =
       let h : (line_taken new_line kept bs).line.counted.length ≤ length (line_taken new_line kept bs).line.kept =
       omega (arith, line_length, (goes_on new_line kept bs u).2) in
@@ -73,7 +73,7 @@ module _ (kept bs : List ℕ) (u : Unbroken bs) (small : length kept < longest) 
       rw (le-leb _ _ h, n) (keeps new_line kept [] bs u refl refl (omega arith) small)
 
   pub long_last_line : length kept < length bs → whole (line_taken new_line kept bs) ≡ []
-  unfolding complete_line if◌then◌else◌
+  unfolding complete_line when◌then◌else◌
   long_last_line long =
       let h : length (line_taken new_line kept bs).line.kept < (line_taken new_line kept bs).line.counted.length =
       omega (arith, line_length, (goes_on new_line kept bs u).2) in

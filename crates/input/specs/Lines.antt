@@ -2,7 +2,7 @@
 use Rattle.std.specs.Prelude.{◌≡◌, Bool, true, false, not, ◌&&◌, ◌||◌, List, [], ◌++◌, ◌⊎◌, ℕ, ◌+◌, ◌≤◌, eqb, leb, ltb, ℤ, pos, length, set, take, drop}
 use Rattle.std.specs.Int.Signed.{lt_z}
 use Rattle.io.specs.Counts.{clamp_len}
-use Rattle.base.specs.Branch.{if◌then◌else◌}
+use Rattle.base.specs.Branch.{when◌then◌else◌}
 use Rattle.base.specs.LineFeed.{UpToFeed, up_to_feed}
 use Rattle.input.specs.declared.InputLine.{InputLine}
 use Rattle.input.specs.declared.Input.{Input}
@@ -15,7 +15,7 @@ new_line = record { length = 0 }
 
 -- one more, but for the largest number
 unfoldable pub count_on : ℕ → ℕ
-count_on n = if ltb n longest then (λ _. n + 1) else λ _. n
+count_on n = when ltb n longest then (λ _. n + 1) else λ _. n
 
 -- a line with one byte more
 abbrev pub one_longer : InputLine → InputLine
@@ -23,7 +23,7 @@ one_longer l = record { length = count_on l.length }
 
 -- the line, or nothing if it is longer than what is kept
 unfoldable pub complete_line : InputLine → List ℕ → List ℕ
-complete_line l kept = if leb l.length (length kept) then (λ _. take l.length kept) else λ _. []
+complete_line l kept = when leb l.length (length kept) then (λ _. take l.length kept) else λ _. []
 
 -- a line with what is kept of it
 pub record KeptLine : Type 0 where

@@ -9,7 +9,7 @@ use lib.IntN.{ℤ}
 use lib.ListN.{length, get_or, take, length-take}
 use lib.Seq.{sets}
 use borrow.Author.Tests.{le-leb, lt-leb}
-use Rattle.base.specs.Branch.{if◌then◌else◌}
+use Rattle.base.specs.Branch.{when◌then◌else◌}
 use Rattle.rules.specs.declared.DrawWinner.{DrawWinner}
 use Rattle.rules.specs.declared.Weights.{Weights}
 use Rattle.rules.specs.Endgame.{analysis}
@@ -207,13 +207,13 @@ module _ (p ms settings answers words report : List ℕ) where
   abbrev here : Game
   here = games_after (game_from p) ms
 
-  kept_words : (t : List ℕ) (b : Bool) → b ≡ false → words ≡ (if b then (λ _. t) else λ _. words)
-  unfolding if◌then◌else◌
-  kept_words t b e = sym (ap (λ (x : Bool). if x then (λ _. t) else λ _. words) e)
+  kept_words : (t : List ℕ) (b : Bool) → b ≡ false → words ≡ (when b then (λ _. t) else λ _. words)
+  unfolding when◌then◌else◌
+  kept_words t b e = sym (ap (λ (x : Bool). when x then (λ _. t) else λ _. words) e)
 
-  left_words : (m t : List ℕ) (b : Bool) → b ≡ true → m ≡ t → m ≡ (if b then (λ _. t) else λ _. words)
-  unfolding if◌then◌else◌
-  left_words m t b e q = q ∙ sym (ap (λ (x : Bool). if x then (λ _. t) else λ _. words) e)
+  left_words : (m t : List ℕ) (b : Bool) → b ≡ true → m ≡ t → m ≡ (when b then (λ _. t) else λ _. words)
+  unfolding when◌then◌else◌
+  left_words m t b e q = q ∙ sym (ap (λ (x : Bool). when x then (λ _. t) else λ _. words) e)
 
   wrongly : analyze_ok p ms settings answers words report ≡ false → Here answers words report 255
   wrongly bad =

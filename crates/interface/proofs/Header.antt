@@ -8,7 +8,7 @@ use native.Mathlib.Omega.{arith}
 use lib.IntN.{pos, negsuc}
 use lib.ListN.{length, get_or, drop, replicate, get_or-append}
 use lib.Seq.{drop-append-add, get_or-append-add}
-use Rattle.base.specs.Branch.{if◌then◌else◌}
+use Rattle.base.specs.Branch.{when◌then◌else◌}
 use Rattle.base.specs.Bits.{bit}
 use Rattle.base.specs.Integers.{sum}
 use Rattle.boards.specs.Packed.{cell_at, state_at}
@@ -112,7 +112,7 @@ module _ (position moves settings responses words report : List ℕ) where
   pub report_laid_out : (responses_after words_after report_after : List ℕ) (r : ℕ) →
       Analyzes position moves settings responses words report responses_after words_after report_after r →
       analyze_ok position moves settings responses words report ≡ true → ReportLayout report_after x refusal status
-  unfolding left if◌then◌else◌
+  unfolding left when◌then◌else◌
   report_laid_out responses_after words_after report_after r a ok =
       let all = report_words x refusal status in
       let long = reported_places (structs (scoring_from settings)) (settings_from settings) g (responses_from responses) words in
@@ -234,7 +234,7 @@ pub sample_evaluations : let weights : List ℕ = 5 ∷ 70 ∷ 900 ∷ [] in
     × (valued drawn_words 0 weights [] ≡ record { refusal = 0; value = pos 0 })
     × (valued drawn_words 1 weights [] ≡ record { refusal = 0; value = won })
     × (valued drawn_words 2 weights [] ≡ record { refusal = 0; value = lost })
-unfolding game_from evaluated accepted_weights evaluate score board_score sum places_in unless_both board_line overall_line if◌then◌else◌
+unfolding game_from evaluated accepted_weights evaluate score board_score sum places_in unless_both board_line overall_line when◌then◌else◌
     cell_at state_at bit
 sample_evaluations = (refl, refl, refl, refl, refl)
 

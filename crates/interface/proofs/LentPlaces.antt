@@ -7,7 +7,7 @@ use native.Mathlib.Omega.{arith}
 use native.Mathlib.Numerals.{add-one}
 use lib.ListN.{length, get_or, drop, set, drop_of_length-le}
 use lib.Seq.{drop-cons, sets, sets-eq}
-use Rattle.base.specs.Branch.{if◌then◌else◌}
+use Rattle.base.specs.Branch.{when◌then◌else◌}
 use Rattle.interface.specs.Lent.{returned, left}
 
 -- none written yet
@@ -34,19 +34,19 @@ sets_join (x ∷ xs) ys l k =
 
 -- asked rightly, what is written from the first place on is left
 pub left_written : (xs l m : List ℕ) (ok : Bool) → ok ≡ true → length xs ≤ length l → m ≡ sets l 0 xs → m ≡ left ok xs l
-unfolding left if◌then◌else◌
+unfolding left when◌then◌else◌
 left_written xs l m true ok h e =
     let z : 0 + length xs ≡ length xs = omega arith in e ∙ sets-eq xs l 0 (omega arith) ∙ ap (λ (n : ℕ). xs ++ drop n l) z
 left_written xs l m false ok h e = let z : ◌≡◌ {A = ℕ} 0 1 = cc in absurd (omega arith)
 
 pub left_kept : (xs l : List ℕ) (ok : Bool) → ok ≡ false → l ≡ left ok xs l
-unfolding left if◌then◌else◌
-left_kept xs l ok e = sym (ap (λ (b : Bool). if b then (λ _. xs ++ drop (length xs) l) else λ _. l) e)
+unfolding left when◌then◌else◌
+left_kept xs l ok e = sym (ap (λ (b : Bool). when b then (λ _. xs ++ drop (length xs) l) else λ _. l) e)
 
 pub returned_bad : (n : ℕ) (ok : Bool) → ok ≡ false → 255 ≡ returned ok n
-unfolding returned if◌then◌else◌
-returned_bad n ok e = sym (ap (λ (b : Bool). if b then (λ _. n) else λ _. 255) e)
+unfolding returned when◌then◌else◌
+returned_bad n ok e = sym (ap (λ (b : Bool). when b then (λ _. n) else λ _. 255) e)
 
 pub returned_well : (r n : ℕ) (ok : Bool) → ok ≡ true → r ≡ n → r ≡ returned ok n
-unfolding returned if◌then◌else◌
-returned_well r n ok e q = q ∙ sym (ap (λ (b : Bool). if b then (λ _. n) else λ _. 255) e)
+unfolding returned when◌then◌else◌
+returned_well r n ok e q = q ∙ sym (ap (λ (b : Bool). when b then (λ _. n) else λ _. 255) e)

@@ -1,6 +1,6 @@
 -- What each call promises of what it returns and of the lent slices at exit, from their bytes and words at entry.
 use Rattle.std.specs.Prelude.{◌≡◌, Bool, cond, ◌&&◌, List, [], ◌∷◌, ◌++◌, ℕ, leb, length, take, drop}
-use Rattle.base.specs.Branch.{if◌then◌else◌}
+use Rattle.base.specs.Branch.{when◌then◌else◌}
 use Rattle.rules.specs.Status.{as_byte}
 use Rattle.rules.specs.Endgame.{analysis}
 use Rattle.rules.specs.Evaluation.{Evaluated, scoring_with, evaluated}
@@ -104,7 +104,7 @@ module _ (position moves settings responses words report : List ℕ) where
   pub record Analyzes (responses_after words_after report_after : List ℕ) (r : ℕ) : Type 0 where
     pub returns : r ≡ returned analyze_ok found.number
     pub responses_is : responses_after ≡ left analyze_ok (responses_bytes found.responses) responses
-    pub words_is : words_after ≡ (if analyze_ok then (λ _. found.table) else λ _. words)
+    pub words_is : words_after ≡ (when analyze_ok then (λ _. found.table) else λ _. words)
     pub report_is :
         report_after ≡ left analyze_ok (report_words found (analysis (position_of analysed)).refusal
         (as_byte (analysis (position_of analysed)).status)) report

@@ -8,7 +8,7 @@ use lib.Dec.{leb}
 use mir.Syntax.{w8}
 use mir.Val.{Fits}
 use borrow.Author.Tests.{leb-true, not-true, not-false}
-use Rattle.base.specs.Branch.{if◌then◌else◌}
+use Rattle.base.specs.Branch.{when◌then◌else◌}
 use Rattle.text.specs.ProgramLine.{is_digit, depth_of}
 use Rattle.line_buffer.specs.declared.AfterBlank.{AfterBlank}
 use Rattle.line_buffer.specs.declared.AfterBlank.TheVariants.{Nothing, One, Two, Other}
@@ -43,23 +43,23 @@ module _ (s : AfterBlank) where
 
   module _ (a : ℕ) (e : s ≡ One a) (r : Bool) (d : r ≡ is_digit a) where
     pub one_digit : r ≡ true → DepthIs (depth_after s) (Of (a - 48))
-    unfolding depth_of if◌then◌else◌
+    unfolding depth_of when◌then◌else◌
     one_digit t = rw e (tells _ _ (rw (sym d ∙ t)))
 
     pub one_other : r ≡ false → DepthIs (depth_after s) Lacking
-    unfolding depth_of if◌then◌else◌
+    unfolding depth_of when◌then◌else◌
     one_other t = rw e (lacks _ (rw (sym d ∙ t)))
 
   module _ (a b : ℕ) (e : s ≡ Two a b) (r : Bool) (d : r ≡ is_digit a) where
     pub two_first_other : not r ≡ true → DepthIs (depth_after s) Lacking
-    unfolding depth_of if◌then◌else◌
+    unfolding depth_of when◌then◌else◌
     two_first_other t = rw e (lacks _ (rw (sym d ∙ not-true r t)))
 
     pub two_digits : not r ≡ false → (q : Bool) → q ≡ is_digit b → q ≡ true →
         DepthIs (depth_after s) (Of (10 * (a - 48) + (b - 48)))
-    unfolding depth_of if◌then◌else◌
+    unfolding depth_of when◌then◌else◌
     two_digits t q f u = rw e (tells _ _ (rw (sym d ∙ not-false r t, sym f ∙ u)))
 
     pub two_second_other : not r ≡ false → (q : Bool) → q ≡ is_digit b → q ≡ false → DepthIs (depth_after s) Lacking
-    unfolding depth_of if◌then◌else◌
+    unfolding depth_of when◌then◌else◌
     two_second_other t q f u = rw e (lacks _ (rw (sym d ∙ not-false r t, sym f ∙ u)))

@@ -13,7 +13,7 @@ use lib.Seq.{drop-cons}
 use borrow.Author.Tests.{eq-eqb, ne_eqb, not-true, not-false}
 use Rattle.rules.specs.declared.Player.{Player}
 use Rattle.rules.specs.declared.GameState.TheVariants.{InPlay, Drawn, Won}
-use Rattle.base.specs.Branch.{if◌then◌else◌}
+use Rattle.base.specs.Branch.{when◌then◌else◌}
 use Rattle.base.specs.Bits.{bit, digits}
 use Rattle.base.specs.Lists.{any, all, In}
 use Rattle.base.proofs.Bool.{and→}
@@ -156,13 +156,13 @@ full_of_digits left =
 
 module _ (w : Player) (own left : ℕ → Bool) where
   pub is_won : has_line own ≡ true → Won w ≡ result_of w own left
-  unfolding result_of if◌then◌else◌
+  unfolding result_of when◌then◌else◌
   is_won e = rw e
 
   pub is_drawn : has_line own ≡ false → digits (λ k. not (left k)) 9 ≡ 511 → Drawn ≡ result_of w own left
-  unfolding result_of if◌then◌else◌
+  unfolding result_of when◌then◌else◌
   is_drawn e f = rw (e, not-true (any left nine) (sym (full_of_digits left) ∙ eq-eqb _ _ f))
 
   pub is_open : has_line own ≡ false → (digits (λ k. not (left k)) 9 ≡ 511 → ⊥) → InPlay ≡ result_of w own left
-  unfolding result_of if◌then◌else◌
+  unfolding result_of when◌then◌else◌
   is_open e f = rw (e, not-false (any left nine) (sym (full_of_digits left) ∙ ne_eqb _ _ f))

@@ -8,7 +8,7 @@ use lib.Dec.{eqb}
 use lib.IntN.{ℤ}
 use lib.ListN.{length, set, take, drop, replicate, length-map}
 use lib.Signed.{le_z}
-use Rattle.base.specs.Branch.{if◌then◌else◌}
+use Rattle.base.specs.Branch.{when◌then◌else◌}
 use Rattle.rules.specs.Play.{no_move}
 use Rattle.rules.specs.Evaluation.{Scoring, won, lost}
 use Rattle.theory.specs.Deepening.{Stats as Meant, one_deeper, decided}
@@ -31,18 +31,18 @@ use Rattle.minimax.proofs.ReportPlaces.{drop_next, take_drop, length_of_take, ta
 -- ---- how it ended
 module _ (d : ℕ) (stopped : Bool) where
   abbrev Ends : Ending → Type 0
-  Ends r = (ending_number r ≡ (if stopped && eqb d 0 then (λ _. 18) else λ _. 0)) × (ending_stopped r ≡ stopped)
+  Ends r = (ending_number r ≡ (when stopped && eqb d 0 then (λ _. 18) else λ _. 0)) × (ending_stopped r ≡ stopped)
 
   pub ends_whole : stopped ≡ false → Ends EndsWhole
-  unfolding if◌then◌else◌
+  unfolding when◌then◌else◌
   ends_whole e = rw e (refl, refl)
 
   pub ends_spent : stopped ≡ true → eqb d 0 ≡ true → Ends (Refused Spent)
-  unfolding if◌then◌else◌
+  unfolding when◌then◌else◌
   ends_spent e f = rw (e, f) (refl, refl)
 
   pub ends_stopped : stopped ≡ true → eqb d 0 ≡ false → Ends Stopped
-  unfolding if◌then◌else◌
+  unfolding when◌then◌else◌
   ends_stopped e f = rw (e, f) (refl, refl)
 
 -- ---- whether the score ends the search
@@ -121,7 +121,7 @@ bytes_empty (suc n) = ap (◌∷◌ no_move) (bytes_empty n)
 
 module _ (d : CompletedDepths) (s : SearchState) (stopped : Bool) (empty : EmptyOn d) (long : length d.pv.moves ≡ 81)
     (stats_long : length d.stats ≡ 81)
-    (ending : Ending) (ended : (ending_number ending ≡ (if stopped && eqb d.depth 0 then (λ _. 18) else λ _. 0)) ×
+    (ending : Ending) (ended : (ending_number ending ≡ (when stopped && eqb d.depth 0 then (λ _. 18) else λ _. 0)) ×
     (ending_stopped ending ≡ stopped)) where
   -- of any search, since only its answer is looked at
   pub report_made : (z : ℤ) → z ≡ d.score → (sc : Scoring) (game : Game) (words : List ℕ)

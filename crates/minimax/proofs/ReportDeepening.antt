@@ -6,7 +6,7 @@ use Prim.Native.Nat.{ℕ, suc, ◌+◌, ◌-◌, ◌≤◌, ◌<◌}
 use native.Mathlib.Omega.{arith}
 use lib.Dec.{T}
 use lib.ListN.{length, drop, replicate}
-use Rattle.base.specs.Branch.{if◌then◌else◌}
+use Rattle.base.specs.Branch.{when◌then◌else◌}
 use Rattle.base.proofs.Integers.{hi, lo, zarith}
 use Rattle.rules.specs.Play.{no_move}
 use Rattle.rules.specs.Evaluation.{accepted_weights}
@@ -195,7 +195,7 @@ module _ (x : Turn) where
   next_depth o = on_outcome o
       (λ y. record { is_stopped = true; completed = completed_of whole; memory = y })
       (λ z pv y. let w = one_deeper (completed_of whole) z pv y.tally in
-      if decided z then (λ _. record { is_stopped = false; completed = w; memory = y }) else λ _. deepened g c rest w y)
+      when decided z then (λ _. record { is_stopped = false; completed = w; memory = y }) else λ _. deepened g c rest w y)
 
   module _ {r : NodeResult} {words : List ℕ}
       (gives : NodeGives x.root whole.pv r words (node_outcome x.root x.t whole.pv x.words))
@@ -251,14 +251,14 @@ module _ (x : Turn) where
           completed = completed_of whole';
           memory = memory_of r.state words;
         } ≡ all_of_it x.begun
-        unfolding on_outcome if◌then◌else◌
+        unfolding on_outcome when◌then◌else◌
         going_decided q =
             ap (λ (w : Completed). record { is_stopped = false; completed = w; memory = memory_of r.state words }) deeper.0
             ∙ sym (ap next_depth found_is ∙ rw (decided_is q)) ∙ next_is ∙ going_all x.begun
 
         -- it does not
         pub going_on : b ≡ false → Goes x.begun words whole' r.state
-        unfolding on_outcome if◌then◌else◌
+        unfolding on_outcome when◌then◌else◌
         going_on q =
             let d : whole'.depth ≡ suc whole.depth = ap (λ (w : Completed). w.depth) deeper.0 in
             let k : c.max_depth - whole'.depth ≡ rest = omega arith in

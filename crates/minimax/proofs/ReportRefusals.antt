@@ -8,7 +8,7 @@ use native.Mathlib.Omega.{arith}
 use lib.Dec.{T, leb, eqb, leb→le}
 use lib.ListN.{length}
 use borrow.Author.Tests.{le-leb, lt-leb, eq-eqb, ne_eqb}
-use Rattle.base.specs.Branch.{if◌then◌else◌}
+use Rattle.base.specs.Branch.{when◌then◌else◌}
 use Rattle.base.specs.Lists.{all}
 use Rattle.base.specs.Checks.{all_pass, first_failed}
 use Rattle.base.proofs.Bool.{and→, is}
@@ -40,7 +40,7 @@ beyond n k h g = rw (le-leb 1 n (omega arith), lt-leb n k g)
 
 module _ (c : Settings) (words : ℕ) where
   refused_15 : from_1 c.max_depth console.deepest ≡ false → ◌≡◌ {A = ℕ} 15 (entry_refusal c words)
-  unfolding entry_refusal first_failed if◌then◌else◌
+  unfolding entry_refusal first_failed when◌then◌else◌
   refused_15 e = rw e
 
   pub no_depth : c.max_depth ≡ 0 → ◌≡◌ {A = ℕ} 15 (entry_refusal c words)
@@ -53,7 +53,7 @@ module _ (c : Settings) (words : ℕ) where
     module _ (k : c.max_depth ≤ console.deepest) where
       refused_16 : from_1 c.allowance console.positions ≡ false →
           ◌≡◌ {A = ℕ} 16 (entry_refusal c words)
-      unfolding entry_refusal first_failed if◌then◌else◌
+      unfolding entry_refusal first_failed when◌then◌else◌
       refused_16 e = rw (within _ console.deepest d k, e)
 
       pub no_allowance : c.allowance ≡ 0 → ◌≡◌ {A = ℕ} 16 (entry_refusal c words)
@@ -65,12 +65,12 @@ module _ (c : Settings) (words : ℕ) where
 
         module _ (b : c.allowance ≤ console.positions) where
           pub not_threes : (words % 3 ≡ 0 → ⊥) → ◌≡◌ {A = ℕ} 17 (entry_refusal c words)
-          unfolding entry_refusal first_failed if◌then◌else◌
+          unfolding entry_refusal first_failed when◌then◌else◌
           not_threes h = rw (within _ console.deepest d k, within _ console.positions a b, ne_eqb (words % 3) 0 h)
 
           module _ (z : words % 3 ≡ 0) where
             pub too_long : console.words < words → ◌≡◌ {A = ℕ} 17 (entry_refusal c words)
-            unfolding entry_refusal first_failed if◌then◌else◌
+            unfolding entry_refusal first_failed when◌then◌else◌
             too_long h =
                 rw (
                   within _ console.deepest d k,
@@ -80,8 +80,8 @@ module _ (c : Settings) (words : ℕ) where
                 )
 
             pub weights_decide : words ≤ console.words → {b : Bool} → accepted_weights c.weights ≡ b →
-                (if b then (λ _. 0) else λ _. 20) ≡ entry_refusal c words
-            unfolding entry_refusal first_failed if◌then◌else◌
+                (when b then (λ _. 0) else λ _. 20) ≡ entry_refusal c words
+            unfolding entry_refusal first_failed when◌then◌else◌
             weights_decide h e =
                 rw (
                   within _ console.deepest d k,
@@ -146,15 +146,15 @@ not_nought Spent q = omega arith
 module _ (G : Game) (c : Settings) (p : G.Pos) (rs : Responses) (words : List ℕ) where
   pub refused_reported : (e : SearchError) → search_error_number e ≡ entry_refusal c (length words) →
       refused_with e rs words ≡ reported G c p rs words
-  unfolding reported if◌then◌else◌
+  unfolding reported when◌then◌else◌
   refused_reported e q = rw (sym q, ne_eqb (search_error_number e) 0 (not_nought e), not_spent c (length words) e q)
 
   pub accepted_reported : 0 ≡ entry_refusal c (length words) → report G p
       (analyze G (at_most c.allowance) c.max_depth p (fresh_memory rs words)) ≡ reported G c p rs words
-  unfolding reported if◌then◌else◌
+  unfolding reported when◌then◌else◌
   accepted_reported q = rw (sym q)
 
   pub turned_reported : eqb (entry_refusal c (length words)) 0 ≡ false →
       reported G c p rs words ≡ refused_entry (entry_refusal c (length words)) rs words
-  unfolding reported if◌then◌else◌
+  unfolding reported when◌then◌else◌
   turned_reported q = rw q

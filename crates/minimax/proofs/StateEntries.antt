@@ -5,7 +5,7 @@ use Prim.Native.Nat.{ℕ, ◌≤◌, ◌<◌}
 use lib.IntN.{ℤ}
 use lib.Signed.{le_z}
 use borrow.Author.Tests.{le-leb, lt-leb}
-use Rattle.base.specs.Branch.{if◌then◌else◌}
+use Rattle.base.specs.Branch.{when◌then◌else◌}
 use Rattle.theory.specs.Table.{suffices, bound_of, bound_suffices}
 use Rattle.table.specs.declared.Bound.{Bound}
 use Rattle.table.specs.declared.Entry.{Entry}
@@ -27,13 +27,13 @@ module _ (e : Entry) (d : ℕ) (a b : ℤ) where
 
 module _ (a b r : ℤ) where
   pub bound_low : le_z r a ≡ true → ◌≡◌ {A = ℕ} 2 (bound_of a b r)
-  unfolding bound_of if◌then◌else◌
+  unfolding bound_of when◌then◌else◌
   bound_low e = rw e
 
   pub bound_high : le_z r a ≡ false → le_z b r ≡ true → ◌≡◌ {A = ℕ} 1 (bound_of a b r)
-  unfolding bound_of if◌then◌else◌
+  unfolding bound_of when◌then◌else◌
   bound_high e f = rw (e, f)
 
   pub bound_exact : le_z r a ≡ false → le_z b r ≡ false → ◌≡◌ {A = ℕ} 0 (bound_of a b r)
-  unfolding bound_of if◌then◌else◌
+  unfolding bound_of when◌then◌else◌
   bound_exact e f = rw (e, f)

@@ -5,7 +5,7 @@ use mathlib.Core.List.{List, [], ◌∷◌, ◌++◌}
 use Prim.Native.Nat.{ℕ}
 use lib.Dec.{eqb}
 use lib.ListN.{get_or}
-use Rattle.base.specs.Branch.{if◌then◌else◌}
+use Rattle.base.specs.Branch.{when◌then◌else◌}
 use Rattle.rules.specs.Board.{other}
 use Rattle.rules.specs.Play.{accepts, no_move}
 use Rattle.rules.specs.Moves.{moves}
@@ -27,12 +27,12 @@ use Rattle.minimax.specs.State.{memory_of, pv_of, node_game, outcome_of, then_st
 
 module _ (a : Node) (r : NodeResult) (words : List ℕ) where
   pub outcome_stopped : r.stopped ≡ true → outcome_of a r words ≡ stopped (memory_of r.state words)
-  unfolding outcome_of if◌then◌else◌
+  unfolding outcome_of when◌then◌else◌
   outcome_stopped e = rw e
 
   pub outcome_found : r.stopped ≡ false → outcome_of a r words ≡ found r.score (pv_of r.pv a.depth)
       (memory_of r.state words)
-  unfolding outcome_of if◌then◌else◌
+  unfolding outcome_of when◌then◌else◌
   outcome_found e = rw e
 
   -- ---- the table, told
@@ -53,25 +53,25 @@ told_found a r words words' key e s k w v d b m =
     ∙ sym (ap (then_stored a) (outcome_found a r words s))
 
 -- ---- the moves in their order
-hint_by : (x : Bool) (answer pv : Move) → some_move (if x then (λ _. pv) else λ _. answer).bits
-    ≡ (if x then (λ _. some_move pv.bits) else λ _. some_move answer.bits)
-unfolding if◌then◌else◌
+hint_by : (x : Bool) (answer pv : Move) → some_move (when x then (λ _. pv) else λ _. answer).bits
+    ≡ (when x then (λ _. some_move pv.bits) else λ _. some_move answer.bits)
+unfolding when◌then◌else◌
 hint_by true answer pv = refl
 hint_by false answer pv = refl
 
-twice : (x : Bool) (n : ℕ) (ms : List ℕ) → (if x then (λ _. ms) else λ _. if x then (λ _. []) else λ _. n ∷ [])
-    ≡ (if x then (λ _. ms) else λ _. n ∷ [])
-unfolding if◌then◌else◌
+twice : (x : Bool) (n : ℕ) (ms : List ℕ) → (when x then (λ _. ms) else λ _. when x then (λ _. []) else λ _. n ∷ [])
+    ≡ (when x then (λ _. ms) else λ _. n ∷ [])
+unfolding when◌then◌else◌
 twice true n ms = refl
 twice false n ms = refl
 
-some_by : (n : ℕ) (ms : List ℕ) → (if eqb n no_move then (λ _. ms) else λ _. some_move n)
-    ≡ (if eqb n no_move then (λ _. ms) else λ _. n ∷ [])
+some_by : (n : ℕ) (ms : List ℕ) → (when eqb n no_move then (λ _. ms) else λ _. some_move n)
+    ≡ (when eqb n no_move then (λ _. ms) else λ _. n ∷ [])
 unfolding some_move
 some_by n ms = twice (eqb n no_move) n ms
 
 module _ (a : Node) (s : SearchState) (words : List ℕ) (l : Pv) (answer pv second : Move) where
-  hinted : second ≡ (if eqb answer.bits no_move then (λ _. pv) else λ _. answer)
+  hinted : second ≡ (when eqb answer.bits no_move then (λ _. pv) else λ _. answer)
       → answer.bits ≡ get_or (responses_to (memory_of s words) (other a.game.next_player)) a.prev.bits no_move
       → pv.bits ≡ get_or (pv_of l a.depth) 0 no_move
       → some_move second.bits ≡ hints a.game.next_player (memory_of s words) a.prev.bits (pv_of l a.depth)
@@ -79,11 +79,11 @@ module _ (a : Node) (s : SearchState) (words : List ℕ) (l : Pv) (answer pv sec
   hinted e f g =
       ap (λ (m : Move). some_move m.bits) e ∙ hint_by (eqb answer.bits no_move) answer pv
       ∙ some_by answer.bits (some_move pv.bits)
-      ∙ ap₂ (λ (x y : ℕ). if eqb x no_move then (λ _. some_move y) else λ _. x ∷ []) f g
+      ∙ ap₂ (λ (x y : ℕ). when eqb x no_move then (λ _. some_move y) else λ _. x ∷ []) f g
 
   -- what a move order has left at first are the candidates
   pub order_candidates : (first : Move) (w : MoveOrder) → w ≡ new_order a.game first second
-      → second ≡ (if eqb answer.bits no_move then (λ _. pv) else λ _. answer)
+      → second ≡ (when eqb answer.bits no_move then (λ _. pv) else λ _. answer)
       → answer.bits ≡ get_or (responses_to (memory_of s words) (other a.game.next_player)) a.prev.bits no_move
       → pv.bits ≡ get_or (pv_of l a.depth) 0 no_move
       → order_left a.game w ≡ candidates (node_game a) (some_move first.bits) (memory_of s words) a.game a.prev.bits

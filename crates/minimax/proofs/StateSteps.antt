@@ -7,7 +7,7 @@ use native.Mathlib.Numerals.{unary_clauses, add-one}
 use lib.ListN.{length, get_or, set}
 use lib.Dec.{eqb}
 use mathlib.Core.Bool.{true, false}
-use Rattle.base.specs.Branch.{if◌then◌else◌}
+use Rattle.base.specs.Branch.{when◌then◌else◌}
 use Rattle.rules.specs.declared.Player.{Player}
 use Rattle.rules.specs.declared.Player.TheVariants.{X, O}
 use Rattle.rules.specs.Board.{other}
@@ -137,10 +137,10 @@ module _ (s : SearchState) (words : List ℕ) (prev m : Move) where
 
 -- ---- the response, or lacking one the variation's move
 module _ (answer pv : Move) where
-  pub hint_line : eqb answer.bits no_move ≡ true → pv ≡ (if eqb answer.bits no_move then (λ _. pv) else λ _. answer)
-  unfolding if◌then◌else◌
+  pub hint_line : eqb answer.bits no_move ≡ true → pv ≡ (when eqb answer.bits no_move then (λ _. pv) else λ _. answer)
+  unfolding when◌then◌else◌
   hint_line e = rw e
 
-  pub hint_answer : eqb answer.bits no_move ≡ false → answer ≡ (if eqb answer.bits no_move then (λ _. pv) else λ _. answer)
-  unfolding if◌then◌else◌
+  pub hint_answer : eqb answer.bits no_move ≡ false → answer ≡ (when eqb answer.bits no_move then (λ _. pv) else λ _. answer)
+  unfolding when◌then◌else◌
   hint_answer e = rw e

@@ -6,7 +6,7 @@ use mathlib.Core.List.{List}
 use Prim.Native.Nat.{ℕ}
 use lib.Dec.{T, eqb}
 use lib.ListN.{length}
-use Rattle.base.specs.Branch.{if◌then◌else◌}
+use Rattle.base.specs.Branch.{when◌then◌else◌}
 use Rattle.rules.specs.Position.{Position, unfinished}
 use Rattle.rules.specs.Play.{accepts, tried}
 use Rattle.rules.specs.Moves.{moves}
@@ -54,5 +54,5 @@ module _ (sc : Scoring) (c : Settings) (g : Game) (n : T (neat g)) (f : Fresh g)
   pub reported_rules : reported (structs sc) c g rs words ≡ reported (game sc) c (position_of g) rs words
   unfolding reported
   reported_rules =
-      ap (λ (x : SearchAnswer). if eqb (entry_refusal c (length words)) 0 then (λ _. report (game sc) (position_of g) x)
+      ap (λ (x : SearchAnswer). when eqb (entry_refusal c (length words)) 0 then (λ _. report (game sc) (position_of g) x)
       else λ _. refused_entry (entry_refusal c (length words)) rs words) answer_rules

@@ -1,6 +1,6 @@
 -- What the structs of the search mean, and what the search of a position gives.
 use Rattle.std.specs.Prelude.{◌≡◌, false, List, ℕ, ◌-◌, ◌≤◌, ◌<◌, T, ℤ, take, drop, replicate, set, ◌≤ℤ◌}
-use Rattle.base.specs.Branch.{if◌then◌else◌}
+use Rattle.base.specs.Branch.{when◌then◌else◌}
 use Rattle.rules.specs.Play.{board_of, no_move}
 use Rattle.rules.specs.Evaluation.{accepted_weights, Scoring, scoring_with}
 use Rattle.theory.specs.Limits.{console}
@@ -54,7 +54,7 @@ node_game a = structs (node_scoring a)
 
 unfoldable pub outcome_of : Node → NodeResult → List ℕ → Outcome
 outcome_of a r words =
-    if r.stopped then (λ _. stopped (memory_of r.state words)) else
+    when r.stopped then (λ _. stopped (memory_of r.state words)) else
     λ _. found r.score (pv_of r.pv a.depth) (memory_of r.state words)
 
 -- the values after a move: its own board's anew

@@ -6,7 +6,7 @@
 mod search;
 
 ghost use Rattle.std.specs.Prelude.{◌≡◌, ◌&&◌, List, ℕ, ◌+◌, ◌≤◌, ◌<◌, T, eqb, drop};
-ghost use Rattle.base.specs.Branch.{if◌then◌else◌};
+ghost use Rattle.base.specs.Branch.{when◌then◌else◌};
 ghost use Rattle.rules.specs.Play.{no_move};
 ghost use Rattle.rules.specs.Evaluation.{accepted_weights, Scoring};
 ghost use Rattle.theory.specs.Limits.{console};
@@ -265,7 +265,7 @@ impl CompletedDepths {
     }
 
     fn ending(self, stopped: bool) -> Ending
-        ensures { (ending_number result ≡ (if stopped && eqb self.depth 0 then (λ _. 18) else λ _. 0))
+        ensures { (ending_number result ≡ (when stopped && eqb self.depth 0 then (λ _. 18) else λ _. 0))
             × (ending_stopped result ≡ stopped) }
     {
         if !stopped {

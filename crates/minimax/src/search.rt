@@ -4,7 +4,7 @@
 // that call each other, variations have a place for each depth, and an allowance counts the positions entered.
 ghost use Rattle.std.specs.Prelude.{◌≡◌, true, false, not, ◌||◌, List, ◌∷◌, ℕ, ◌-◌, ◌<◌, ◌≤◌, eqb, pos, neg_ℤ, get_or, drop, set};
 ghost use Rattle.std.specs.Int.Signed.{le_z, lt_z};
-ghost use Rattle.base.specs.Branch.{if◌then◌else◌};
+ghost use Rattle.base.specs.Branch.{when◌then◌else◌};
 ghost use Rattle.rules.specs.Board.{other};
 ghost use Rattle.rules.specs.Position.{unfinished};
 ghost use Rattle.rules.specs.Play.{no_move};
@@ -247,7 +247,7 @@ impl NodeResult {
 
 // The response, or lacking one the variation's move.
 fn hint(response: Move, pv: Move) -> Move
-    ensures { result ≡ (if eqb response.bits no_move then (λ _. pv) else λ _. response) }
+    ensures { result ≡ (when eqb response.bits no_move then (λ _. pv) else λ _. response) }
 {
     if response.is_none() { pv } else { response }
 }

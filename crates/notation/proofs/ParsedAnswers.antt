@@ -9,7 +9,7 @@ use lib.Dec.{T, lt→ltb}
 use lib.ListN.{length, take, drop, length-drop}
 use lib.Seq.{slice, take_all, length-take-le, length-slice, get_or-take, get_or-drop, ext_get_or}
 use borrow.Author.Tests.{le-ltb, eq-eqb, ne_eqb}
-use Rattle.base.specs.Branch.{if◌then◌else◌}
+use Rattle.base.specs.Branch.{when◌then◌else◌}
 use Rattle.base.specs.Lists.{from}
 use Rattle.rules.specs.declared.Player.{Player}
 use Rattle.rules.specs.declared.GameState.TheVariants.{InPlay}
@@ -87,12 +87,12 @@ module _ (s os cs : List ℕ) where
   module _ (w : Player) (e : lone_side s ≡ some w) where
     -- the overall marks are not nine
     pub marks_not_nine : (length os ≡ 9 → ⊥) → answer ≡ refuses 4 2 (length os)
-    unfolding read_overall if◌then◌else◌
+    unfolding read_overall when◌then◌else◌
     marks_not_nine n = rw (e, ne_eqb (length os) 9 n)
 
     module _ (n : length os ≡ 9) where
       by_marks : answer ≡ read_marks (first_bad os) w os cs
-      unfolding read_overall if◌then◌else◌
+      unfolding read_overall when◌then◌else◌
       by_marks = rw (e, eq-eqb (length os) 9 n)
 
       -- one of them is bad
@@ -103,12 +103,12 @@ module _ (s os cs : List ℕ) where
         -- a cell or a `/` is bad or lacks
         pub cells_bad : (why : ErrorKind) → kind_number why ≡ first_fault cs (from 0 89) →
             answer ≡ refuses (kind_number why) 12 (length cs)
-        unfolding read_cells if◌then◌else◌
+        unfolding read_cells when◌then◌else◌
         cells_bad why e' = by_marks ∙ rw (f, ne_eqb (first_fault cs (from 0 89)) 0 (λ z. kind_is_a_fault why (e' ∙ z)), e')
 
         -- nothing is
         pub all_good : first_fault cs (from 0 89) ≡ 0 → answer ≡ reads (said w os cs)
-        unfolding read_cells if◌then◌else◌
+        unfolding read_cells when◌then◌else◌
         all_good z = by_marks ∙ rw (f, eq-eqb (first_fault cs (from 0 89)) 0 z)
 
 -- a due board is one of the nine
@@ -211,7 +211,7 @@ module _ (t : List ℕ) (r : Parsed) where
       -- two: what the three sections give
       pub parses_three : k ≡ length t →
           AnswersReading (read_side (lone_side (take i t)) (take i t) (part t (i + 1) j) (part t (j + 1) (length t))) r → Parses t r
-      unfolding read if◌then◌else◌
+      unfolding read when◌then◌else◌
       parses_three l = gives_parses t _ r (rw (le-ltb 256 (length t) short, three l))
 
 -- ---- a text that is accepted

@@ -7,7 +7,7 @@ use native.Mathlib.Omega.{arith}
 use lib.Dec.{leb, leb→le}
 use lib.ListN.{length, get_or}
 use borrow.Author.Tests.{not-true, not-false}
-use Rattle.base.specs.Branch.{if◌then◌else◌}
+use Rattle.base.specs.Branch.{when◌then◌else◌}
 use Rattle.base.proofs.Bool.{and→}
 use Rattle.text.specs.MoveText.{reads_move, coordinate, read_letters, read_move, move_refusal}
 use Rattle.text.proofs.MoveText.{Lettered, not_two_is_bad_length}
@@ -46,7 +46,7 @@ module _ (t : List ℕ) where
   module _ (n : length t ≡ 2) (ok : Bool) (e : ok ≡ coordinate (get_or t 0 0)) where
     -- the first byte is no letter
     pub first_bad : not ok ≡ true → ParsesMove t (answered (BadCharacter (get_or t 0 0)) 255)
-    unfolding read_letters if◌then◌else◌
+    unfolding read_letters when◌then◌else◌
     first_bad f = parsed t (BadCharacter (get_or t 0 0)) 255 (two t n ∙ rw (sym e ∙ not-true ok f)) refl
 
     pub first_lettered : not ok ≡ false → Lettered (get_or t 0 0)
@@ -55,7 +55,7 @@ module _ (t : List ℕ) where
     module _ (f : not ok ≡ false) (ok' : Bool) (e' : ok' ≡ coordinate (get_or t 1 0)) where
       -- only the second is none
       pub second_bad : not ok' ≡ true → ParsesMove t (answered (BadCharacter (get_or t 1 0)) 255)
-      unfolding read_letters if◌then◌else◌
+      unfolding read_letters when◌then◌else◌
       second_bad g = parsed t (BadCharacter (get_or t 1 0)) 255 (two t n ∙ rw (sym e ∙ not-false ok f, sym e' ∙ not-true ok' g)) refl
 
       pub second_lettered : not ok' ≡ false → Lettered (get_or t 1 0)
@@ -64,6 +64,6 @@ module _ (t : List ℕ) where
       -- both are
       pub both_good : (m : ℕ) → not ok' ≡ false → m ≡ (get_or t 0 0 - 0x61) * 16 + (get_or t 1 0 - 0x61) →
           ParsesMove t (answered Read m)
-      unfolding read_letters if◌then◌else◌
+      unfolding read_letters when◌then◌else◌
       both_good m g q =
           parsed t Read m (two t n ∙ rw (sym e ∙ not-false ok f, sym e' ∙ not-false ok' g) (ap reads_move (omega arith))) refl

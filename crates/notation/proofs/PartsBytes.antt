@@ -8,7 +8,7 @@ use native.Mathlib.Omega.{arith}
 use lib.ListN.{length, get_or, set, length-set}
 use lib.Seq.{ext_get_or, get_or-set_same, get_or-set_other}
 use borrow.Author.Tests.{lt-ltb, le-ltb, ne_eqb}
-use Rattle.base.specs.Branch.{if◌then◌else◌}
+use Rattle.base.specs.Branch.{when◌then◌else◌}
 use Rattle.rules.specs.declared.CellState.{CellState}
 use Rattle.rules.specs.declared.GameState.{GameState}
 use Rattle.rules.specs.declared.NextBoard.TheVariants.{Only}
@@ -20,36 +20,36 @@ use Rattle.text.proofs.Writing.{slash_every_tenth, cell_elsewhere, text_at, text
 module _ (p : Position) (i : ℕ) where
   -- the side
   pub at_side : i ≡ 0 → letter p.turn ≡ byte_at p i
-  unfolding byte_at if◌then◌else◌
+  unfolding byte_at when◌then◌else◌
   at_side e = rw e
 
   -- the two semicolons
   pub at_first : i ≡ 1 → semicolon ≡ byte_at p i
-  unfolding byte_at if◌then◌else◌
+  unfolding byte_at when◌then◌else◌
   at_first e = rw e
 
   pub at_second : i ≡ 11 → semicolon ≡ byte_at p i
-  unfolding byte_at if◌then◌else◌
+  unfolding byte_at when◌then◌else◌
   at_second e = rw e
 
   module _ (n0 : i ≡ 0 → ⊥) (n1 : i ≡ 1 → ⊥) where
     by_mark : i < 11 → byte_at p i ≡ overall_byte p (i - 2)
-    unfolding byte_at if◌then◌else◌
+    unfolding byte_at when◌then◌else◌
     by_mark h = rw (ne_eqb i 0 n0, ne_eqb i 1 n1, ne_eqb i 11 (λ e. omega arith), lt-ltb i 11 h)
 
     -- the board that is due, and another
     pub at_due : (r : Bool) → i < 11 → r ≡ same_next_board p.next_board (Only (i - 2)) → r ≡ true → at_mark ≡ byte_at p i
-    unfolding overall_byte if◌then◌else◌
+    unfolding overall_byte when◌then◌else◌
     at_due r h e t = sym (by_mark h ∙ rw (sym e ∙ t))
 
     pub at_state : (r : Bool) (s : GameState) → i < 11 → r ≡ same_next_board p.next_board (Only (i - 2)) → r ≡ false
         → s ≡ p.states (i - 2) → state_byte s ≡ byte_at p i
-    unfolding overall_byte if◌then◌else◌
+    unfolding overall_byte when◌then◌else◌
     at_state r s h e t f = rw f (sym (by_mark h ∙ rw (sym e ∙ t)))
 
     module _ (h : 11 ≤ i) (n11 : i ≡ 11 → ⊥) where
       by_cell : byte_at p i ≡ cells_byte p (i - 12)
-      unfolding byte_at if◌then◌else◌
+      unfolding byte_at when◌then◌else◌
       by_cell = rw (ne_eqb i 0 n0, ne_eqb i 1 n1, ne_eqb i 11 n11, le-ltb i 11 h)
 
       -- a `/`, and a cell

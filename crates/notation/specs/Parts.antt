@@ -1,7 +1,7 @@
 -- What the parts of reading a text give.
 use Rattle.std.specs.Prelude.{◌≡◌, List, ℕ, ◌^◌, ◌≤◌, ◌<◌, T, eqb, length, get_or}
 use Rattle.std.proofs.Math.Option.{Option, none, some}
-use Rattle.base.specs.Branch.{if◌then◌else◌}
+use Rattle.base.specs.Branch.{when◌then◌else◌}
 use Rattle.base.specs.Lists.{all, from}
 use Rattle.rules.specs.declared.Player.{Player}
 use Rattle.rules.specs.declared.CellState.{CellState}
@@ -63,7 +63,7 @@ mark_said BadMark = none
 
 -- what mark i, the byte c, makes due
 unfoldable pub next_board_by : ℕ → ℕ → NextBoard
-next_board_by c i = if eqb c at_mark then (λ _. Only i) else λ _. Any
+next_board_by c i = when eqb c at_mark then (λ _. Only i) else λ _. Any
 
 -- the first of two that is a board
 abbrev pub next_board_or : NextBoard → NextBoard → NextBoard

@@ -7,7 +7,7 @@ use native.Mathlib.Omega.{arith}
 use lib.Dec.{eqb}
 use lib.ListN.{drop}
 use borrow.Author.Tests.{eq-eqb, not-true, not-false}
-use Rattle.base.specs.Branch.{if◌then◌else◌}
+use Rattle.base.specs.Branch.{when◌then◌else◌}
 use Rattle.rules.specs.Play.{no_move}
 use Rattle.theory.specs.Memory.{some_move}
 use Rattle.boards.specs.declared.moves.Move.{Move}
@@ -23,11 +23,11 @@ use Rattle.order.specs.Order.{candidates_left, without_next, next_candidate}
 
 -- ---- a move that may be empty
 some_none : (m : ℕ) → eqb m no_move ≡ true → some_move m ≡ []
-unfolding some_move if◌then◌else◌
+unfolding some_move when◌then◌else◌
 some_none m e = rw e
 
 some_some : (m : ℕ) → eqb m no_move ≡ false → some_move m ≡ m ∷ []
-unfolding some_move if◌then◌else◌
+unfolding some_move when◌then◌else◌
 some_some m e = rw e
 
 is_some : (m : ℕ) (b : Bool) → b ≡ not (eqb m no_move) → b ≡ true → some_move m ≡ m ∷ []
@@ -58,14 +58,14 @@ module _ (o : Candidates) where
 
   pub next_first : (none : Move) → none.bits ≡ no_move → (b : Bool) → b ≡ not none_at_first → b ≡ true →
       Next o.first (with_first none) ≡ next_candidate o (candidates_left o)
-  unfolding candidates_left without_next if◌then◌else◌
+  unfolding candidates_left without_next when◌then◌else◌
   next_first none z b e h =
       rw (is_some o.first.bits b e h, ← e, h) (ap (λ (n : ℕ). Next o.first (with_first (record { bits = n }))) z)
 
   module _ (b : Bool) (e : b ≡ not none_at_first) (h : b ≡ false) where
     pub next_second : (none : Move) → none.bits ≡ no_move → (c : Bool) → c ≡ not none_at_second → c ≡ true →
         Next o.second (with_second none) ≡ next_candidate o (candidates_left o)
-    unfolding candidates_left without_next if◌then◌else◌
+    unfolding candidates_left without_next when◌then◌else◌
     next_second none z c f k =
         rw (is_none o.first.bits b e h, is_some o.second.bits c f k, ← e, h, ← f, k)
         (ap (λ (n : ℕ). Next o.second (with_second (record { bits = n }))) z)
@@ -76,7 +76,7 @@ module _ (o : Candidates) where
       list_left = rw (is_none o.first.bits b e h, is_none o.second.bits c f k)
 
       list_goes_on : without_next o ≡ with_list (cursor_over (drop 1 (moves_left o.list)))
-      unfolding without_next if◌then◌else◌
+      unfolding without_next when◌then◌else◌
       list_goes_on = rw (← e, h, ← f, k)
 
       pub next_listed : (m : Move) (rest : MoveIterator) → l ≡ Listed-next m rest →
@@ -99,7 +99,7 @@ module _ (o : Candidates) where
 
   -- what is left without it
   pub without_next_left : candidates_left (without_next o) ≡ drop 1 (candidates_left o)
-  unfolding candidates_left without_next some_move if◌then◌else◌
+  unfolding candidates_left without_next some_move when◌then◌else◌
   without_next_left = go none_at_first none_at_second refl refl
     where
       go : (b c : Bool) → none_at_first ≡ b → none_at_second ≡ c → candidates_left (without_next o) ≡ drop 1 (candidates_left o)

@@ -8,7 +8,7 @@ use lib.Dec.{T, T_not}
 use lib.ListN.{length, take}
 use Rattle.base.specs.Checks.{all_pass}
 use lib.Ieee.Bits.{is_true}
-use Rattle.base.specs.Branch.{if◌then◌else◌}
+use Rattle.base.specs.Branch.{when◌then◌else◌}
 use Rattle.base.specs.Lists.{all, elem}
 use Rattle.base.proofs.ListsAgree.{false_by}
 use Rattle.base.proofs.Branch.{if_ind, if_both}
@@ -63,16 +63,16 @@ new_order_means g first second = (rw (all_moves_listed g), none_marked)
 -- ---- one move met
 module _ (ok : ℕ → Bool) (seen : ℕ → Bool) (m : ℕ) (ms : List ℕ) where
   step_repeat : seen m ≡ true → step ok seen (m ∷ ms) ≡ step ok seen ms
-  unfolding step if◌then◌else◌
+  unfolding step when◌then◌else◌
   step_repeat e = rw e
 
   step_refused : seen m ≡ false → ok m ≡ false → step ok seen (m ∷ ms) ≡ step ok (with_mark seen m) ms
-  unfolding step if◌then◌else◌
+  unfolding step when◌then◌else◌
   step_refused e a = rw (e, a)
 
   step_accepted : seen m ≡ false → ok m ≡ true → step ok seen (m ∷ ms) ≡ record
       { found = m; marks = with_mark seen m; left = ms }
-  unfolding step if◌then◌else◌
+  unfolding step when◌then◌else◌
   step_accepted e a = rw (e, a)
 
 -- no more are left than there were
@@ -195,8 +195,8 @@ module _ (ok : ℕ → Bool) where
   unfolding unmarked fresh elem
   unmarked_listed seen [] = refl
   unmarked_listed seen (m ∷ ms) = λ i.
-      if elem m seen then (λ _. unmarked_listed seen ms i) else
-      λ _. if ok m then (λ _. m ∷ unmarked_listed (m ∷ seen) ms i) else λ _. unmarked_listed (m ∷ seen) ms i
+      when elem m seen then (λ _. unmarked_listed seen ms i) else
+      λ _. when ok m then (λ _. m ∷ unmarked_listed (m ∷ seen) ms i) else λ _. unmarked_listed (m ∷ seen) ms i
 
   pub left_accepted : (seen : ℕ → Bool) (ms : List ℕ) (m : ℕ) (rest : List ℕ) → unmarked ok seen ms ≡ m ∷ rest → T (ok m)
   unfolding unmarked

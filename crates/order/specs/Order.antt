@@ -1,7 +1,7 @@
 -- The order in which a position's moves are searched: what it means, and one step of it.
 use Rattle.std.specs.Prelude.{◌≡◌, Bool, not, ◌||◌, List, [], ◌∷◌, ◌++◌, ℕ, zero, suc, ◌-◌, ◌/◌, ◌%◌, ◌^◌, eqb, get_or, set, take, drop, length, replicate}
 use Rattle.std.specs.Int.Bits.{bit_or}
-use Rattle.base.specs.Branch.{if◌then◌else◌}
+use Rattle.base.specs.Branch.{when◌then◌else◌}
 use Rattle.base.specs.Bits.{bit}
 use Rattle.rules.specs.Play.{accepts, no_move}
 use Rattle.rules.specs.Moves.{moves}
@@ -40,8 +40,8 @@ empty_move = record { bits = no_move }
 -- the candidates without the first of those left: `first` or `second` is emptied, or the list goes on
 unfoldable pub without_next : Candidates → Candidates
 without_next o =
-    if not (eqb o.first.bits no_move) then (λ _. record { first = empty_move; second = o.second; list = o.list }) else
-    λ _. if not (eqb o.second.bits no_move) then (λ _. record { first = o.first; second = empty_move; list = o.list }) else
+    when not (eqb o.first.bits no_move) then (λ _. record { first = empty_move; second = o.second; list = o.list }) else
+    λ _. when not (eqb o.second.bits no_move) then (λ _. record { first = o.first; second = empty_move; list = o.list }) else
     λ _. record { first = o.first; second = o.second; list = cursor_over (drop 1 (moves_left o.list)) }
 
 -- the next of the moves left, and the candidates without it
@@ -80,8 +80,8 @@ with_mark seen m k = eqb k m || seen k
 unfoldable pub step : (ok : ℕ → Bool) → (seen : ℕ → Bool) → List ℕ → Step
 step ok seen [] = record { found = no_move; marks = seen; left = [] }
 step ok seen (m ∷ ms) =
-    if seen m then (λ _. step ok seen ms) else
-    λ _. if ok m then (λ _. record { found = m; marks = with_mark seen m; left = ms }) else λ _. step ok (with_mark seen m) ms
+    when seen m then (λ _. step ok seen ms) else
+    λ _. when ok m then (λ _. record { found = m; marks = with_mark seen m; left = ms }) else λ _. step ok (with_mark seen m) ms
 
 -- over the moves that a game accepts
 abbrev pub step_of : Game → MoveOrder → Step
@@ -104,8 +104,8 @@ pub record NextOf (g : Game) (w : MoveOrder) (r : NextMove) : Type 0 where
 unfoldable pub unmarked : (ok : ℕ → Bool) → (seen : ℕ → Bool) → List ℕ → List ℕ
 unmarked ok seen [] = []
 unmarked ok seen (m ∷ ms) =
-    if seen m then (λ _. unmarked ok seen ms) else
-    λ _. if ok m then (λ _. m ∷ unmarked ok (with_mark seen m) ms) else λ _. unmarked ok (with_mark seen m) ms
+    when seen m then (λ _. unmarked ok seen ms) else
+    λ _. when ok m then (λ _. m ∷ unmarked ok (with_mark seen m) ms) else λ _. unmarked ok (with_mark seen m) ms
 
 abbrev pub order_left : Game → MoveOrder → List ℕ
 order_left g w = unmarked (accepts (position_of g)) (marked w.seen) (candidates_left w.left)

@@ -10,7 +10,7 @@ use lib.IntN.{ℤ}
 use lib.ListN.{length}
 use borrow.Author.Tests.{eq-eqb, ne_eqb}
 use Rattle.base.specs.Bits.{bit}
-use Rattle.base.specs.Branch.{if◌then◌else◌}
+use Rattle.base.specs.Branch.{when◌then◌else◌}
 use Rattle.base.proofs.Branch.{if_ind}
 use Rattle.rules.specs.declared.DrawWinner.TheVariants.{Nobody}
 use Rattle.rules.specs.Position.{Position}
@@ -72,12 +72,12 @@ search_searched r m g depth (w ∷ ws) n f e l h = absurd (omega arith)
 -- ---- its report
 module _ (s : Set) (legal : ℕ) (r : Reported) where
   pub report_refused : (r.number ≡ 0 → ⊥) → refusal_text r.number ≡ report_text s legal r
-  unfolding report_text if◌then◌else◌
+  unfolding report_text when◌then◌else◌
   report_refused n = rw (ne_eqb r.number 0 n)
 
   pub report_answered : (o : AnswerText) (n : ℕ) (z : ℤ) → n ≡ legal → z ≡ r.score → r.number ≡ 0 →
       o ≡ text_of_bytes (answer_text s n r.depth z r.count r.pv) → o ≡ text_of_bytes (report_text s legal r)
-  unfolding report_text if◌then◌else◌
+  unfolding report_text when◌then◌else◌
   report_answered o n z e f g h = h ∙ rw (e, f, eq-eqb r.number 0 g)
 
 -- ---- a position: 14, or the search
@@ -101,12 +101,12 @@ set_again s =
 
 module _ (p : Position) (depth : ℕ) where
   pub position_refused : (n : ℕ) → n ≡ (analysis p).refusal → (n ≡ 0 → ⊥) → refusal_text n ≡ position_text p depth
-  unfolding position_text if◌then◌else◌
+  unfolding position_text when◌then◌else◌
   position_refused n e f = rw (sym e, ne_eqb n 0 f)
 
   pub position_searched : (s : Status) (r : Reported) → 0 ≡ (analysis p).refusal → s ≡ status_of (analysis p).status →
       r ≡ program_search depth p → report_text (set_of s) (length (moves p)) r ≡ position_text p depth
-  unfolding position_text if◌then◌else◌
+  unfolding position_text when◌then◌else◌
   position_searched s r e f g = rw (sym e, f, g, set_again (analysis p).status)
 
 -- ---- the text

@@ -1,6 +1,6 @@
 -- The answer to a line, over the written rules alone: 19 first, then the position's refusals, the endgame's, the search's.
 use Rattle.std.specs.Prelude.{List, [], ℕ, eqb, length}
-use Rattle.base.specs.Branch.{if◌then◌else◌}
+use Rattle.base.specs.Branch.{when◌then◌else◌}
 use Rattle.rules.specs.Position.{Position}
 use Rattle.rules.specs.Moves.{moves}
 use Rattle.rules.specs.Status.{Status}
@@ -26,14 +26,14 @@ program_search depth p = reported (game program_scoring) (settings depth) p no_r
 -- 15 or 18; else what is reported, with the status and the number of legal moves
 unfoldable pub report_text : Status → ℕ → Reported → List ℕ
 report_text s legal r =
-    if eqb r.number 0 then (λ _. answer_text s legal r.depth r.score r.count r.pv) else
+    when eqb r.number 0 then (λ _. answer_text s legal r.depth r.score r.count r.pv) else
     λ _. refusal_text r.number
 
 -- 14 comes before the search
 unfoldable pub position_text : Position → ℕ → List ℕ
 position_text p depth =
     let a = analysis p in
-    if eqb a.refusal 0 then (λ _. report_text a.status (length (moves p)) (program_search depth p)) else
+    when eqb a.refusal 0 then (λ _. report_text a.status (length (moves p)) (program_search depth p)) else
     λ _. refusal_text a.refusal
 
 -- 1 to 6

@@ -6,7 +6,7 @@ use Prim.Native.Nat.{ℕ}
 use native.Mathlib.Omega.{arith}
 use lib.Dec.{T, eqb}
 use borrow.Author.Tests.{eqb-true}
-use Rattle.base.specs.Branch.{if◌then◌else◌}
+use Rattle.base.specs.Branch.{when◌then◌else◌}
 use Rattle.base.specs.Lists.{all}
 use Rattle.base.specs.LineFeed.{line_feed, UpToFeed, up_to_feed}
 use Rattle.line_buffer.proofs.Taking.{Plain}
@@ -26,13 +26,13 @@ module _ {S : Type 0} (push : S → ℕ → S) (new : S) where
 
   -- a byte more: it ends the line, or stands on it
   abbrev split_byte : S → ℕ → List ℕ → Bool → Split S
-  split_byte line b bs c = if c then (λ _. with_line line (on new bs)) else λ _. on (push line b) bs
+  split_byte line b bs c = when c then (λ _. with_line line (on new bs)) else λ _. on (push line b) bs
 
   abbrev up_to_byte : S → ℕ → List ℕ → Bool → UpToFeed S
-  up_to_byte line b bs c = if c then (λ _. record { line = line; left = bs; found = true }) else λ _. up_to (push line b) bs
+  up_to_byte line b bs c = when c then (λ _. record { line = line; left = bs; found = true }) else λ _. up_to (push line b) bs
 
   pub split_append : (line : S) (xs ys : List ℕ) → on line (xs ++ ys) ≡ and_then (on line xs) (on (on line xs).rest ys)
-  unfolding split if◌then◌else◌
+  unfolding split when◌then◌else◌
   split_append line [] ys = refl
   split_append line (b ∷ xs) ys = go (eqb b line_feed) (split_append new xs ys) (split_append (push line b) xs ys)
     where
@@ -45,7 +45,7 @@ module _ {S : Type 0} (push : S → ℕ → S) (new : S) where
   -- by the next line feed: the line that it ends, and the lines of what is left
   pub split_found : (line : S) (bytes : List ℕ) → (up_to line bytes).found ≡ true →
       on line bytes ≡ with_line (up_to line bytes).line (on new (up_to line bytes).left)
-  unfolding split up_to_feed if◌then◌else◌
+  unfolding split up_to_feed when◌then◌else◌
   split_found line [] e = let z : ◌≡◌ {A = ℕ} 0 1 = cc in absurd (omega arith)
   split_found line (b ∷ bs) e = go (eqb b line_feed) (split_found (push line b) bs) e
     where
@@ -59,7 +59,7 @@ module _ {S : Type 0} (push : S → ℕ → S) (new : S) where
   -- without one there is only the line that goes on
   pub split_goes_on : (line : S) (bytes : List ℕ) → (up_to line bytes).found ≡ false →
       on line bytes ≡ record { whole = []; rest = (up_to line bytes).line }
-  unfolding split up_to_feed if◌then◌else◌
+  unfolding split up_to_feed when◌then◌else◌
   split_goes_on line [] e = refl
   split_goes_on line (b ∷ bs) e = go (eqb b line_feed) (split_goes_on (push line b) bs) e
     where
@@ -80,7 +80,7 @@ module _ {S T : Type 0} (push : S → ℕ → S) (new : S) (push' : T → ℕ �
 
   pub split_held : (line : S) (bytes : List ℕ) →
       split push' (hold new) (hold line) bytes ≡ held_split (split push new line bytes)
-  unfolding split if◌then◌else◌
+  unfolding split when◌then◌else◌
   split_held line [] = refl
   split_held line (b ∷ bs) =
       go (eqb b line_feed) (split_held new bs)
@@ -93,7 +93,7 @@ module _ {S T : Type 0} (push : S → ℕ → S) (new : S) (push' : T → ℕ �
       go false h k = k
 
   pub up_to_held : (line : S) (bytes : List ℕ) → up_to_feed push' (hold line) bytes ≡ held_up_to (up_to_feed push line bytes)
-  unfolding up_to_feed if◌then◌else◌
+  unfolding up_to_feed when◌then◌else◌
   up_to_held line [] = refl
   up_to_held line (b ∷ bs) =
       go (eqb b line_feed) (ap (λ (l : T). up_to_feed push' l bs) (pushes line b) ∙ up_to_held (push line b) bs)
@@ -140,7 +140,7 @@ abbrev bytes_byte : List ℕ → ℕ → List ℕ → Bool → Split (List ℕ)
 bytes_byte begun b bs c = split_byte with_byte [] begun b bs c
 
 pub nothing_lost : (begun bytes : List ℕ) → joined (split_bytes begun bytes) ≡ begun ++ bytes
-unfolding split if◌then◌else◌
+unfolding split when◌then◌else◌
 nothing_lost begun [] = sym (append-nil begun)
 nothing_lost begun (b ∷ bs) = go (eqb b line_feed) refl (nothing_lost [] bs) (nothing_lost (with_byte begun b) bs)
   where
@@ -167,7 +167,7 @@ abbrev PlainSplit : Split (List ℕ) → Type 0
 PlainSplit s = AllPlain s.whole × Plain s.rest
 
 pub lines_are_plain : (begun bytes : List ℕ) → Plain begun → PlainSplit (split_bytes begun bytes)
-unfolding split if◌then◌else◌ all
+unfolding split when◌then◌else◌ all
 lines_are_plain begun [] p = (tt, p)
 lines_are_plain begun (b ∷ bs) p =
     go (eqb b line_feed) refl (lines_are_plain [] bs tt) (lines_are_plain (with_byte begun b) bs)

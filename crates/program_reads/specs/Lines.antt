@@ -1,6 +1,6 @@
 -- The lines of an input, and the text that the program writes for them: each line's answer, with a line feed.
 use Rattle.std.specs.Prelude.{List, [], ◌∷◌, ◌++◌, ℕ, eqb}
-use Rattle.base.specs.Branch.{if◌then◌else◌}
+use Rattle.base.specs.Branch.{when◌then◌else◌}
 use Rattle.base.specs.LineFeed.{line_feed}
 use Rattle.program_line.specs.Answered.{answer_line}
 
@@ -18,7 +18,7 @@ module _ {S : Type 0} (push : S → ℕ → S) (new : S) where
   -- of bytes that go on with a line
   unfoldable pub split : S → List ℕ → Split S
   split line [] = record { whole = []; rest = line }
-  split line (b ∷ bs) = if eqb b line_feed then (λ _. with_line line (split new bs)) else λ _. split (push line b) bs
+  split line (b ∷ bs) = when eqb b line_feed then (λ _. with_line line (split new bs)) else λ _. split (push line b) bs
 
 -- ---- lines of bytes, without their line feeds
 abbrev pub with_byte : List ℕ → ℕ → List ℕ

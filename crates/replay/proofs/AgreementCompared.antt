@@ -10,7 +10,7 @@ use lib.Dec.{T, eqb, ltb}
 use lib.ListN.{length, get_or, take, drop, drop_of_length-le}
 use lib.Seq.{take-suc, take-length, drop-cons}
 use borrow.Author.Tests.{eq-eqb, ne_eqb, eqb-true, lt-ltb, le-ltb}
-use Rattle.base.specs.Branch.{if◌then◌else◌}
+use Rattle.base.specs.Branch.{when◌then◌else◌}
 use Rattle.replay.specs.declared.agreement.Agreement.{Agreement}
 use Rattle.replay.specs.Agreement.{same_numbers, new_agreement, compared, compared_all, wholly_agrees}
 
@@ -20,12 +20,12 @@ agrees_next ns a n = ltb a.at (length ns) && eqb (get_or ns a.at 0) n
 
 when_agrees : (ns : List ℕ) (a : Agreement) (n : ℕ) → agrees_next ns a n ≡ true →
     compared ns a n ≡ record { at = a.at + 1; good = a.good }
-unfolding compared if◌then◌else◌
+unfolding compared when◌then◌else◌
 when_agrees ns a n e = rw e
 
 when_differs : (ns : List ℕ) (a : Agreement) (n : ℕ) → agrees_next ns a n ≡ false →
     compared ns a n ≡ record { at = a.at; good = false }
-unfolding compared if◌then◌else◌
+unfolding compared when◌then◌else◌
 when_differs ns a n e = rw e
 
 module _ (ns : List ℕ) (a : Agreement) (n : ℕ) where

@@ -5,7 +5,7 @@ use mathlib.Core.List.{List, [], ◌∷◌, ◌++◌}
 use Prim.Native.Nat.{ℕ, zero, suc}
 use lib.Dec.{T, eqb}
 use lib.ListN.{get_or}
-use Rattle.base.specs.Branch.{if◌then◌else◌}
+use Rattle.base.specs.Branch.{when◌then◌else◌}
 use Rattle.base.specs.Lists.{all}
 use Rattle.base.proofs.Bool.{and→}
 use Rattle.replay.specs.Fields.{until_tab, past_tab, field}
@@ -23,43 +23,43 @@ joined [] = []
 joined (f ∷ fs) = followed f fs
 
 until_joined : (f rest : List ℕ) → T (tabless f) → until_tab (f ++ (0x09 ∷ rest)) ≡ f
-unfolding until_tab all if◌then◌else◌
+unfolding until_tab all when◌then◌else◌
 until_joined [] rest h = refl
 until_joined (b ∷ bs) rest h = go (eqb b 0x09) h (λ t. until_joined bs rest t)
   where
     go : (c : Bool) → T (not c && tabless bs) → (T (tabless bs) → until_tab (bs ++ (0x09 ∷ rest)) ≡ bs) →
-        (if c then (λ _. []) else λ _. b ∷ until_tab (bs ++ (0x09 ∷ rest))) ≡ b ∷ bs
+        (when c then (λ _. []) else λ _. b ∷ until_tab (bs ++ (0x09 ∷ rest))) ≡ b ∷ bs
     go true t k = absurd t
     go false t k = ap (λ (l : List ℕ). b ∷ l) (k t)
 
 past_joined : (f rest : List ℕ) → T (tabless f) → past_tab (f ++ (0x09 ∷ rest)) ≡ rest
-unfolding past_tab all if◌then◌else◌
+unfolding past_tab all when◌then◌else◌
 past_joined [] rest h = refl
 past_joined (b ∷ bs) rest h = go (eqb b 0x09) h (λ t. past_joined bs rest t)
   where
     go : (c : Bool) → T (not c && tabless bs) → (T (tabless bs) → past_tab (bs ++ (0x09 ∷ rest)) ≡ rest) →
-        (if c then (λ _. bs ++ (0x09 ∷ rest)) else λ _. past_tab (bs ++ (0x09 ∷ rest))) ≡ rest
+        (when c then (λ _. bs ++ (0x09 ∷ rest)) else λ _. past_tab (bs ++ (0x09 ∷ rest))) ≡ rest
     go true t k = absurd t
     go false t k = k t
 
 -- the last field
 until_alone : (f : List ℕ) → T (tabless f) → until_tab f ≡ f
-unfolding until_tab all if◌then◌else◌
+unfolding until_tab all when◌then◌else◌
 until_alone [] h = refl
 until_alone (b ∷ bs) h = go (eqb b 0x09) h (λ t. until_alone bs t)
   where
     go : (c : Bool) → T (not c && tabless bs) → (T (tabless bs) → until_tab bs ≡ bs) →
-        (if c then (λ _. []) else λ _. b ∷ until_tab bs) ≡ b ∷ bs
+        (when c then (λ _. []) else λ _. b ∷ until_tab bs) ≡ b ∷ bs
     go true t k = absurd t
     go false t k = ap (λ (l : List ℕ). b ∷ l) (k t)
 
 past_alone : (f : List ℕ) → T (tabless f) → past_tab f ≡ []
-unfolding past_tab all if◌then◌else◌
+unfolding past_tab all when◌then◌else◌
 past_alone [] h = refl
 past_alone (b ∷ bs) h = go (eqb b 0x09) h (λ t. past_alone bs t)
   where
     go : (c : Bool) → T (not c && tabless bs) → (T (tabless bs) → past_tab bs ≡ []) →
-        (if c then (λ _. bs) else λ _. past_tab bs) ≡ []
+        (when c then (λ _. bs) else λ _. past_tab bs) ≡ []
     go true t k = absurd t
     go false t k = k t
 

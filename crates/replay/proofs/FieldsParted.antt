@@ -9,7 +9,7 @@ use lib.Dec.{eqb}
 use lib.ListN.{length, get_or, take, drop, drop_of_length-le}
 use lib.Seq.{drop-cons, drop-drop}
 use borrow.Author.Tests.{eq-eqb, ne_eqb}
-use Rattle.base.specs.Branch.{if◌then◌else◌}
+use Rattle.base.specs.Branch.{when◌then◌else◌}
 use Rattle.base.specs.Lists.{count}
 use Rattle.replay.specs.Fields.{until_tab, past_tab, field}
 
@@ -27,11 +27,11 @@ module _ (line : List ℕ) (i : ℕ) (h : i < length line) where
 
   -- a tab ends a field, and no other byte does
   pub until_more : (get_or line i 0 ≡ 9 → ⊥) → length (until_tab (drop i line)) ≡ suc (length (until_tab (drop (i + 1) line)))
-  unfolding until_tab if◌then◌else◌
+  unfolding until_tab when◌then◌else◌
   until_more ne = rw (next_byte, ne_eqb (get_or line i 0) 9 ne)
 
   pub until_here : get_or line i 0 ≡ 9 → length (until_tab (drop i line)) ≡ 0
-  unfolding until_tab if◌then◌else◌
+  unfolding until_tab when◌then◌else◌
   until_here e = rw (next_byte, eq-eqb (get_or line i 0) 9 e)
 
 module _ (line : List ℕ) (i : ℕ) (h : length line ≤ i) where
@@ -45,8 +45,8 @@ module _ (line : List ℕ) (i : ℕ) (h : length line ≤ i) where
 
 -- ---- a field and the rest are parts of the line
 until_step : (c : Bool) (b : ℕ) (bs u : List ℕ) → u ≡ take (length u) bs →
-    (if c then (λ _. []) else λ _. b ∷ u) ≡ take (length (if c then (λ _. []) else λ _. b ∷ u)) (b ∷ bs)
-unfolding if◌then◌else◌
+    (when c then (λ _. []) else λ _. b ∷ u) ≡ take (length (when c then (λ _. []) else λ _. b ∷ u)) (b ∷ bs)
+unfolding when◌then◌else◌
 until_step true b bs u e = refl
 until_step false b bs u e = ap {B = List ℕ} (λ l. b ∷ l) e
 
@@ -56,8 +56,8 @@ until_part [] = refl
 until_part (b ∷ bs) = until_step (eqb b 9) b bs (until_tab bs) (until_part bs)
 
 past_step : (c : Bool) (b : ℕ) (bs u p : List ℕ) → p ≡ drop (suc (length u)) bs →
-    (if c then (λ _. bs) else λ _. p) ≡ drop (length (if c then (λ _. []) else λ _. b ∷ u)) bs
-unfolding if◌then◌else◌
+    (when c then (λ _. bs) else λ _. p) ≡ drop (length (when c then (λ _. []) else λ _. b ∷ u)) bs
+unfolding when◌then◌else◌
 past_step true b bs u p e = refl
 past_step false b bs u p e = e
 

@@ -4,7 +4,7 @@ use mathlib.Core.Bool.{Bool, true, false, cond, not, ◌||◌}
 use mathlib.Core.List.{List, [], ◌∷◌, ◌++◌}
 use Prim.Native.Nat.{ℕ}
 use borrow.Author.Tests.{eq-eqb, ne_eqb}
-use Rattle.base.specs.Branch.{if◌then◌else◌}
+use Rattle.base.specs.Branch.{when◌then◌else◌}
 use Rattle.text.specs.Bytes.{quoted}
 use Rattle.text.specs.ProgramLine.{decimal}
 use Rattle.answer_text.specs.declared.AnswerText.{AnswerText}
@@ -22,13 +22,13 @@ then_byte p q t b e f = f ∙ ap (λ (z : AnswerText). added z b) e ∙ added_ou
 
 module _ (t : Totals) (said : List ℕ) (o : AnswerText) where
   pub verdict_without : t.apart ≡ 0 → o ≡ text_of_bytes (agreed_text t ++ (10 ∷ [])) → o ≡ text_of_bytes (verdict_text t said)
-  unfolding verdict_text if◌then◌else◌
+  unfolding verdict_text when◌then◌else◌
   verdict_without e f = rw (eq-eqb t.apart 0 e) f
 
   pub verdict_with : (t.apart ≡ 0 → ⊥) →
       o ≡ text_of_bytes (((((agreed_text t ++ quoted ", ") ++ decimal t.apart) ++ quoted " of them ") ++ said) ++ (10 ∷ [])) →
       o ≡ text_of_bytes (verdict_text t said)
-  unfolding verdict_text if◌then◌else◌
+  unfolding verdict_text when◌then◌else◌
   verdict_with e f = rw (ne_eqb t.apart 0 e) f
 
 -- where all was read and printed, the last text is the verdict

@@ -1,6 +1,6 @@
 -- A record's numbers, compared with the expected ones as these come.
 use Rattle.std.specs.Prelude.{Bool, true, false, ◌&&◌, List, [], ◌∷◌, ℕ, ◌+◌, eqb, ltb, length, get_or}
-use Rattle.base.specs.Branch.{if◌then◌else◌}
+use Rattle.base.specs.Branch.{when◌then◌else◌}
 use Rattle.replay.specs.declared.agreement.Agreement.{Agreement}
 
 -- two lists have the same numbers
@@ -17,7 +17,7 @@ new_agreement = record { at = 0; good = true }
 -- the next number is to be n
 unfoldable pub compared : List ℕ → Agreement → ℕ → Agreement
 compared numbers a n =
-    if ltb a.at (length numbers) && eqb (get_or numbers a.at 0) n then (λ _. record { at = a.at + 1; good = a.good }) else
+    when ltb a.at (length numbers) && eqb (get_or numbers a.at 0) n then (λ _. record { at = a.at + 1; good = a.good }) else
     λ _. record { at = a.at; good = false }
 
 abbrev pub compared_all : List ℕ → Agreement → List ℕ → Agreement

@@ -1,17 +1,17 @@
 -- Fields parted by tabs.
 use Rattle.std.specs.Prelude.{List, [], ◌∷◌, ℕ, zero, suc, eqb}
-use Rattle.base.specs.Branch.{if◌then◌else◌}
+use Rattle.base.specs.Branch.{when◌then◌else◌}
 use Rattle.base.specs.Lists.{count}
 
 -- what stands before the first tab
 unfoldable pub until_tab : List ℕ → List ℕ
 until_tab [] = []
-until_tab (b ∷ bs) = if eqb b 0x09 then (λ _. []) else λ _. b ∷ until_tab bs
+until_tab (b ∷ bs) = when eqb b 0x09 then (λ _. []) else λ _. b ∷ until_tab bs
 
 -- what stands after it
 unfoldable pub past_tab : List ℕ → List ℕ
 past_tab [] = []
-past_tab (b ∷ bs) = if eqb b 0x09 then (λ _. bs) else λ _. past_tab bs
+past_tab (b ∷ bs) = when eqb b 0x09 then (λ _. bs) else λ _. past_tab bs
 
 unfoldable pub field : ℕ → List ℕ → List ℕ
 field zero line = until_tab line

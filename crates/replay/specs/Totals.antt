@@ -1,6 +1,6 @@
 -- How many records agree, and what is printed of them.
 use Rattle.std.specs.Prelude.{◌≡◌, Bool, true, false, cond, not, ◌&&◌, ◌||◌, List, [], ◌∷◌, ◌++◌, ℕ, eqb, ltb}
-use Rattle.base.specs.Branch.{if◌then◌else◌}
+use Rattle.base.specs.Branch.{when◌then◌else◌}
 use Rattle.base.specs.LineFeed.{line_feed}
 use Rattle.text.specs.Bytes.{quoted, message}
 use Rattle.text.specs.ProgramLine.{decimal}
@@ -14,7 +14,7 @@ use Rattle.replay.specs.declared.totals.Comparison.TheVariants.{Agrees, Apart, D
 
 -- by whether a record agrees, and whether it then is apart
 unfoldable pub comparison : Bool → Bool → Comparison
-comparison agrees apart = if agrees then (λ _. if apart then (λ _. Apart) else λ _. Agrees) else λ _. Differs
+comparison agrees apart = when agrees then (λ _. when apart then (λ _. Apart) else λ _. Agrees) else λ _. Differs
 
 -- no record yet
 abbrev pub new_totals : Totals
@@ -62,7 +62,7 @@ agreed_text t = ((decimal t.agreed ++ quoted " of ") ++ decimal t.records) ++ qu
 -- of all, with what is said of those that are apart
 unfoldable pub verdict_text : Totals → List ℕ → List ℕ
 verdict_text t said =
-    if eqb t.apart 0 then (λ _. agreed_text t ++ (line_feed ∷ [])) else
+    when eqb t.apart 0 then (λ _. agreed_text t ++ (line_feed ∷ [])) else
     λ _. ((((agreed_text t ++ quoted ", ") ++ decimal t.apart) ++ quoted " of them ") ++ said) ++ (line_feed ∷ [])
 
 -- at the end of a list: nothing if not all could be read, or not all be printed so far

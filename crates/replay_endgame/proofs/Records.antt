@@ -5,7 +5,7 @@ use mathlib.Core.List.{List}
 use mathlib.Core.Option.{none, some}
 use Prim.Native.Nat.{ℕ}
 use lib.Dec.{eqb}
-use Rattle.base.specs.Branch.{if◌then◌else◌}
+use Rattle.base.specs.Branch.{when◌then◌else◌}
 use Rattle.base.specs.Lists.{count}
 use Rattle.text.specs.Reading.{Reading, reads, refuses, read}
 use Rattle.decimals.specs.Lists.{list_of}
@@ -33,15 +33,15 @@ none_differs (reads p) = refl
 
 module _ (line : List ℕ) where
   pub not_two_differ : eqb (count (eqb 0x09) line) 1 ≡ false → Differs ≡ outcome_of line
-  unfolding outcome_of if◌then◌else◌
+  unfolding outcome_of when◌then◌else◌
   not_two_differ t = rw t
 
   pub no_numbers_differ : eqb (count (eqb 0x09) line) 1 ≡ true → list_of 256 (field 1 line) ≡ none → Differs ≡ outcome_of line
-  unfolding outcome_of if◌then◌else◌
+  unfolding outcome_of when◌then◌else◌
   no_numbers_differ t e = rw (t, e) (sym (none_differs (read (field 0 line))))
 
   pub two_found : (text ns : List ℕ) → text ≡ field 0 line → eqb (count (eqb 0x09) line) 1 ≡ true →
       list_of 256 (field 1 line) ≡ some ns →
       comparison_for (read text) (some ns) ≡ outcome_of line
-  unfolding outcome_of if◌then◌else◌
+  unfolding outcome_of when◌then◌else◌
   two_found text ns q t e = rw (t, e, q)

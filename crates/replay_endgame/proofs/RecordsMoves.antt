@@ -8,7 +8,7 @@ use lib.Dec.{T, T_not}
 use lib.ListN.{length}
 use denote.Floats.{is_true}
 use Rattle.base.specs.Bits.{bit}
-use Rattle.base.specs.Branch.{if◌then◌else◌}
+use Rattle.base.specs.Branch.{when◌then◌else◌}
 use Rattle.base.specs.Lists.{any, filter}
 use Rattle.base.proofs.ListsAgree.{false_by}
 use Rattle.rules.specs.declared.GameState.{GameState}
@@ -43,12 +43,12 @@ module _ (p : Position) where
 
   -- ---- the cursor over the list
   pub none_listed : has_line_of_boards p ≡ true → moves_left (record { top = 0; middle = 0; bottom = 0 }) ≡ listed_moves p
-  unfolding listed_moves if◌then◌else◌ moves_left row_moves filter bit
+  unfolding listed_moves when◌then◌else◌ moves_left row_moves filter bit
   none_listed e = rw e
 
   pub all_listed : has_line_of_boards p ≡ false → (q : Position) → q ≡ reopened p → (it : MoveIterator) → it ≡ cursor_over (moves q) →
       moves_left it ≡ listed_moves p
-  unfolding listed_moves if◌then◌else◌ moves
+  unfolding listed_moves when◌then◌else◌ moves
   all_listed e q f it h = ap moves_left h ∙ cursor_kept (accepts q) ∙ ap moves f ∙ rw e
 
   -- ---- what is expected
@@ -73,7 +73,7 @@ module _ (p : Position) where
   as_it_is (Won w) e t = absurd t
 
   pub judged_listed : T (unfinished p) → T (sound p) → listed_moves p ≡ moves p
-  unfolding listed_moves if◌then◌else◌
+  unfolding listed_moves when◌then◌else◌
   judged_listed u s =
       rw (sym (lined_by_o (is_true (unfinished p) u) (none X) false (none O))) (ap moves (as_it_is p.state refl u))
     where

@@ -2,7 +2,7 @@
 -- each listed move.
 use Rattle.std.specs.Prelude.{Bool, ◌&&◌, ◌||◌, List, [], ◌∷◌, ◌++◌, ℕ, eqb, get_or}
 use Rattle.std.proofs.Math.Option.{Option, none, some}
-use Rattle.base.specs.Branch.{if◌then◌else◌}
+use Rattle.base.specs.Branch.{when◌then◌else◌}
 use Rattle.base.specs.Lists.{any, concat_map}
 use Rattle.rules.specs.declared.GameState.TheVariants.{InPlay}
 use Rattle.rules.specs.Board.{sides, has_line}
@@ -29,7 +29,7 @@ reopened p = record { turn = p.turn; next_board = p.next_board; cells = p.cells;
 
 -- what the Rust lists: the rules' moves, of a finished game as if it went on; none where its analysis panics on a line of boards
 unfoldable pub listed_moves : Position → List ℕ
-listed_moves p = if has_line_of_boards p then (λ _. []) else λ _. moves (reopened p)
+listed_moves p = when has_line_of_boards p then (λ _. []) else λ _. moves (reopened p)
 
 -- where none is listed, the first cell of the first board
 abbrev pub or_first : List ℕ → List ℕ
@@ -75,4 +75,4 @@ comparison_for (reads p) (some ns) = comparison_of p ns
 -- of a line: one that has not two fields differs
 unfoldable pub outcome_of : List ℕ → Comparison
 outcome_of line =
-    if eqb (tabs line) 1 then (λ _. comparison_for (read (field 0 line)) (list_of 256 (field 1 line))) else λ _. Differs
+    when eqb (tabs line) 1 then (λ _. comparison_for (read (field 0 line)) (list_of 256 (field 1 line))) else λ _. Differs

@@ -5,7 +5,7 @@ use mathlib.Core.List.{List}
 use Prim.Native.Nat.{ℕ}
 use lib.Dec.{eqb}
 use lib.IntN.{ℤ}
-use Rattle.base.specs.Branch.{if◌then◌else◌}
+use Rattle.base.specs.Branch.{when◌then◌else◌}
 use Rattle.base.specs.Lists.{count}
 use Rattle.rules.specs.declared.DrawWinner.{DrawWinner}
 use Rattle.rules.specs.Evaluation.{default_weights, scoring_with, Evaluated, evaluated}
@@ -47,16 +47,16 @@ module _ (line : List ℕ) where
   fields_said p q r = cc
 
   pub not_three_differ : eqb (count (eqb 0x09) line) 2 ≡ false → Differs ≡ outcome_of line
-  unfolding outcome_of if◌then◌else◌
+  unfolding outcome_of when◌then◌else◌
   not_three_differ t = rw t
 
   pub three_agree : eqb (count (eqb 0x09) line) 2 ≡ true →
       agrees (field 0 line) (field 1 line) (field 2 line) ≡ true → Agrees ≡ outcome_of line
-  unfolding outcome_of if◌then◌else◌
+  unfolding outcome_of when◌then◌else◌
   three_agree t a = rw (t, a)
 
   pub three_differ :
       eqb (count (eqb 0x09) line) 2 ≡ true →
       agrees (field 0 line) (field 1 line) (field 2 line) ≡ false → Differs ≡ outcome_of line
-  unfolding outcome_of if◌then◌else◌
+  unfolding outcome_of when◌then◌else◌
   three_differ t a = rw (t, a)

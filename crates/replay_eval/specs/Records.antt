@@ -1,6 +1,6 @@
 -- A record of the evaluation, and what is found of it: a position's text, the draw winner and the score, parted by tabs.
 use Rattle.std.specs.Prelude.{Bool, false, ◌&&◌, List, ℕ, eqb, ℤ, pos, negsuc}
-use Rattle.base.specs.Branch.{if◌then◌else◌}
+use Rattle.base.specs.Branch.{when◌then◌else◌}
 use Rattle.rules.specs.Evaluation.{default_weights, scoring_with, evaluate}
 use Rattle.text.specs.Reading.{Reading, reads, refuses, read}
 use Rattle.decimals.specs.declared.number.Signed.{Signed}
@@ -37,5 +37,5 @@ agrees position draw score = is_evaluation (read position) (draw_of draw) (read_
 -- of a line: it agrees if it has three fields, and they do
 unfoldable pub outcome_of : List ℕ → Comparison
 outcome_of line =
-    if eqb (tabs line) 2 && agrees (field 0 line) (field 1 line) (field 2 line) then (λ _. Agrees) else
+    when eqb (tabs line) 2 && agrees (field 0 line) (field 1 line) (field 2 line) then (λ _. Agrees) else
     λ _. Differs

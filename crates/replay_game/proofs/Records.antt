@@ -7,7 +7,7 @@ use native.Mathlib.Numerals.{add-one}
 use native.Mathlib.Omega.{arith}
 use borrow.Author.Tests.{lt-ltb}
 use lib.ListN.{length, get_or}
-use Rattle.base.specs.Branch.{if◌then◌else◌}
+use Rattle.base.specs.Branch.{when◌then◌else◌}
 use Rattle.base.specs.Lists.{from}
 use Rattle.rules.specs.Position.{unfinished}
 use Rattle.rules.specs.Play.{move_of, no_move}
@@ -122,7 +122,7 @@ whole_play ns first a g h i r e f j =
     ∙ compared_is_same ns (first ++ play_numbers g ms))
 
 -- ---- a board and a cell below 9
-pub in_nine : (m n : ℕ) → (if in_range (m % 9) (n % 9) then (λ _. move_of (m % 9) (n % 9)) else λ _. no_move) ≡
+pub in_nine : (m n : ℕ) → (when in_range (m % 9) (n % 9) then (λ _. move_of (m % 9) (n % 9)) else λ _. no_move) ≡
     move_of (m % 9) (n % 9)
-unfolding if◌then◌else◌
+unfolding when◌then◌else◌
 in_nine m n = rw (lt-ltb (m % 9) 9 (omega arith), lt-ltb (n % 9) 9 (omega arith))

@@ -6,7 +6,7 @@ use mathlib.Core.Option.{Option, none, some}
 use Prim.Native.Nat.{ℕ, ◌%◌}
 use lib.Dec.{eqb}
 use lib.ListN.{get_or}
-use Rattle.base.specs.Branch.{if◌then◌else◌}
+use Rattle.base.specs.Branch.{when◌then◌else◌}
 use Rattle.rules.specs.Position.{unfinished}
 use Rattle.game.specs.declared.Game.{Game}
 use Rattle.game.specs.Meaning.{position_of}
@@ -40,8 +40,8 @@ module _ (ns : List ℕ) where
   record_said expected h = numbers_found ns expected false h
 
   by_kind : (kind : Bool) (found other : Comparison) → ((found ≡ Differs → ⊥) → Recorded ns) → ((other ≡ Differs → ⊥) → Recorded ns) →
-      ((if kind then (λ _. found) else λ _. other) ≡ Differs → ⊥) → Recorded ns
-  unfolding if◌then◌else◌
+      ((when kind then (λ _. found) else λ _. other) ≡ Differs → ⊥) → Recorded ns
+  unfolding when◌then◌else◌
   by_kind true found other f g h = f h
   by_kind false found other f g h = g h
 

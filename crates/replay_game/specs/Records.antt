@@ -1,7 +1,7 @@
 -- The records of games: the question that a record's numbers hold, and the record of that question.
 use Rattle.std.specs.Prelude.{false, not, cond, List, [], ◌∷◌, ◌++◌, map, ◌≡◌, ℕ, ◌+◌, ◌/◌, ◌%◌, ◌^◌, eqb, length, get_or}
 use Rattle.std.proofs.Math.Option.{Option, none, some}
-use Rattle.base.specs.Branch.{if◌then◌else◌}
+use Rattle.base.specs.Branch.{when◌then◌else◌}
 use Rattle.base.specs.Bits.{digits}
 use Rattle.base.specs.Lists.{from}
 use Rattle.rules.specs.declared.Player.TheVariants.{X, O}
@@ -35,13 +35,13 @@ use Rattle.replay_game.specs.declared.Run.{Run}
 -- ---- the question, whatever the numbers are
 unfoldable pub state_of : ℕ → GameState
 state_of n =
-    if eqb n 0 then (λ _. InPlay) else
-    λ _. if eqb n 1 then (λ _. Drawn) else
-    λ _. if eqb n 2 then (λ _. Won X) else
+    when eqb n 0 then (λ _. InPlay) else
+    λ _. when eqb n 1 then (λ _. Drawn) else
+    λ _. when eqb n 2 then (λ _. Won X) else
     λ _. Won O
 
 unfoldable pub next_of : ℕ → NextBoard
-next_of n = if eqb n 255 then (λ _. Any) else λ _. Only (n % 256)
+next_of n = when eqb n 255 then (λ _. Any) else λ _. Only (n % 256)
 
 -- the numbers from place i on
 abbrev pub row_in : List ℕ → ℕ → Row
@@ -134,11 +134,11 @@ of_record ns expected = comparison (same_numbers ns expected) false
 unfoldable pub comparison_of : List ℕ → Comparison
 comparison_of ns =
     let kind = get_or ns 0 0 in
-    if eqb kind 1 then (λ _. of_play ns (1 ∷ []) new_game 1) else
-    λ _. if eqb kind 2 then (λ _. of_play ns (2 ∷ position_numbers (game_in ns 1)) (game_in ns 1) 12) else
-    λ _. if eqb kind 3 then (λ _. of_record ns (equivalence_record (game_in ns 1) (game_in ns 12))) else
-    λ _. if eqb kind 10 then (λ _. of_record ns (10 ∷ looked_numbers (game_in ns 1))) else
-    λ _. if eqb kind 11 then (λ _. of_record ns (coordinates_record (get_or ns 1 0 % 9) (get_or ns 2 0 % 9))) else
+    when eqb kind 1 then (λ _. of_play ns (1 ∷ []) new_game 1) else
+    λ _. when eqb kind 2 then (λ _. of_play ns (2 ∷ position_numbers (game_in ns 1)) (game_in ns 1) 12) else
+    λ _. when eqb kind 3 then (λ _. of_record ns (equivalence_record (game_in ns 1) (game_in ns 12))) else
+    λ _. when eqb kind 10 then (λ _. of_record ns (10 ∷ looked_numbers (game_in ns 1))) else
+    λ _. when eqb kind 11 then (λ _. of_record ns (coordinates_record (get_or ns 1 0 % 9) (get_or ns 2 0 % 9))) else
     λ _. Differs
 
 -- a line that is no list of numbers differs

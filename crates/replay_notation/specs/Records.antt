@@ -3,7 +3,7 @@
 use Rattle.std.specs.Prelude.{Bool, false, cond, ◌&&◌, ◌||◌, List, [], ◌∷◌, ◌++◌, map, ℕ, ◌%◌, eqb, ltb, length, get_or, take}
 use Rattle.std.proofs.Math.Option.{Option, none, some}
 use Rattle.std.specs.Int.Bits.{bit_and}
-use Rattle.base.specs.Branch.{if◌then◌else◌}
+use Rattle.base.specs.Branch.{when◌then◌else◌}
 use Rattle.base.specs.Lists.{from}
 use Rattle.rules.specs.declared.Player.TheVariants.{X, O}
 use Rattle.rules.specs.Board.{state_number}
@@ -90,11 +90,11 @@ won_record b = 12 ∷ b ∷ cond (eqb b (won_byte X)) 1 0 ∷ cond (eqb b (won_b
 unfoldable pub expected_record : List ℕ → List ℕ
 expected_record ns =
     let kind = get_or ns 0 0 in
-    if eqb kind 6 then (λ _. move_record (bytes_in ns)) else
-    λ _. if eqb kind 7 then (λ _. byte_record (byte_in ns 1)) else
-    λ _. if eqb kind 8 then (λ _. merge_record (byte_in ns 1) (byte_in ns 2)) else
-    λ _. if eqb kind 9 then (λ _. play_record (bytes_in ns)) else
-    λ _. if eqb kind 12 then (λ _. won_record (byte_in ns 1)) else
+    when eqb kind 6 then (λ _. move_record (bytes_in ns)) else
+    λ _. when eqb kind 7 then (λ _. byte_record (byte_in ns 1)) else
+    λ _. when eqb kind 8 then (λ _. merge_record (byte_in ns 1) (byte_in ns 2)) else
+    λ _. when eqb kind 9 then (λ _. play_record (bytes_in ns)) else
+    λ _. when eqb kind 12 then (λ _. won_record (byte_in ns 1)) else
     λ _. reading_record (bytes_in ns) (read (bytes_in ns))
 
 -- ---- what is found

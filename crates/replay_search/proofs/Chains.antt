@@ -10,7 +10,7 @@ use lib.ListN.{length, get_or, take, drop, set, replicate, length-drop}
 use lib.Seq.{drop-cons, drop-length, take_at}
 use borrow.Author.Tests.{eq-eqb, ne_eqb}
 use Rattle.rules.specs.Board.{side_from}
-use Rattle.base.specs.Branch.{if◌then◌else◌}
+use Rattle.base.specs.Branch.{when◌then◌else◌}
 use Rattle.theory.specs.Memory.{Responses, no_responses, with_response}
 use Rattle.minimax.specs.declared.ResponseTables.{ResponseTables}
 use Rattle.minimax.specs.declared.Minimax.{Minimax}
@@ -118,18 +118,18 @@ start_read (b ∷ bs) h = refl
 
 pub begun_none : (text : List ℕ) (m : Minimax) → length text ≡ 0 → m ≡ empty_responses →
     begun_of (record { good = true; state = m }) ≡ start_of text
-unfolding start_of if◌then◌else◌
+unfolding start_of when◌then◌else◌
 begun_none [] m h e = ap (λ (q : Minimax). some (responses_of q.responses)) e ∙ ap some empty_is
 begun_none (b ∷ bs) m h e = absurd (omega arith)
 
 pub begun_bad : (text : List ℕ) (m : Minimax) → (length text ≡ 0 → ⊥) → list_of most_numbers text ≡ none →
     begun_of (record { good = false; state = m }) ≡ start_of text
-unfolding if◌then◌else◌
+unfolding when◌then◌else◌
 begun_bad text m h e = sym (start_read text h ∙ ap from_triples e)
 
 begun_if : (ns : List ℕ) (m : Minimax) (b : Bool) → responses_of m.responses ≡ with_responses no_responses ns →
     eqb (length ns % 3) 0 ≡ b → begun_of (record { good = b; state = m }) ≡ from_triples (some ns)
-unfolding if◌then◌else◌
+unfolding when◌then◌else◌
 begun_if ns m true f t = rw t (ap some f)
 begun_if ns m false f t = rw t
 

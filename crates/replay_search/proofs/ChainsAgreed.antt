@@ -7,7 +7,7 @@ use Prim.Native.Nat.{ℕ, zero, suc, ◌+◌, ◌-◌, ◌*◌, ◌/◌, ◌%◌
 use native.Mathlib.Omega.{arith}
 use lib.Dec.{T, eqb, leb, eqb→eq, leb→le}
 use lib.ListN.{replicate}
-use Rattle.base.specs.Branch.{if◌then◌else◌}
+use Rattle.base.specs.Branch.{when◌then◌else◌}
 use Rattle.base.proofs.Bool.{and→}
 use Rattle.rules.specs.declared.DrawWinner.{DrawWinner}
 use Rattle.rules.specs.Position.{Position}
@@ -33,10 +33,10 @@ use Rattle.replay_search.specs.Chains.{going_on, chain_of, for_number, for_draw,
 
 -- ---- one search
 matched : (ns : List ℕ) (r s : Reported) → matching ns r ≡ some s → (ns ≡ search_numbers r) × (r ≡ s)
-unfolding matching if◌then◌else◌
+unfolding matching when◌then◌else◌
 matched ns r s e = go (same_numbers ns (search_numbers r)) refl e
   where
-    go : (b : Bool) → same_numbers ns (search_numbers r) ≡ b → (if b then (λ _. some r) else λ _. none) ≡ some s →
+    go : (b : Bool) → same_numbers ns (search_numbers r) ≡ b → (when b then (λ _. some r) else λ _. none) ≡ some s →
         (ns ≡ search_numbers r) × (r ≡ s)
     go true t e = (same_numbers_equal ns (search_numbers r) (rw t tt), cc)
     go false t e = absurd (none-ne-some s e)

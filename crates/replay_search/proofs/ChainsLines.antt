@@ -8,7 +8,7 @@ use native.Mathlib.Omega.{arith}
 use lib.Dec.{eqb, leb}
 use lib.ListN.{replicate}
 use borrow.Author.Tests.{eq-eqb, ne_eqb, le-leb, lt-leb}
-use Rattle.base.specs.Branch.{if◌then◌else◌}
+use Rattle.base.specs.Branch.{when◌then◌else◌}
 use Rattle.rules.specs.declared.DrawWinner.{DrawWinner}
 use Rattle.theory.specs.Memory.{Responses}
 use Rattle.theory.specs.Reported.{Reported}
@@ -87,11 +87,11 @@ chain_start line w allowance count rs words =
 -- ---- what stands before the searches
 pub begun_some : (b : Begun) (text : List ℕ) → begun_of b ≡ start_of text → b.good ≡ true →
     start_of text ≡ some (responses_of b.state.responses)
-unfolding if◌then◌else◌
+unfolding when◌then◌else◌
 begun_some b text e g = sym e ∙ rw g
 
 pub begun_not : (b : Begun) (text : List ℕ) → begun_of b ≡ start_of text → b.good ≡ false → start_of text ≡ none
-unfolding if◌then◌else◌
+unfolding when◌then◌else◌
 begun_not b text e g = sym e ∙ rw g
 
 module _ (line : List ℕ) (n size : ℕ) where
@@ -136,10 +136,10 @@ module _ (line : List ℕ) (n size : ℕ) where
 module _ (room : ℕ) (line : List ℕ) (t : ℕ) (e : t ≡ tabs line) where
   abbrev from_entries : Number → Comparison
   from_entries a = for_number a (λ entries.
-      if leb (entries * 3) room then (λ _. run_of line (tabs line / 3 - 1) (entries * 3)) else λ _. Differs)
+      when leb (entries * 3) room then (λ _. run_of line (tabs line / 3 - 1) (entries * 3)) else λ _. Differs)
 
   none_found : has_searches line ≡ false → Differs ≡ outcome_of room line
-  unfolding outcome_of if◌then◌else◌
+  unfolding outcome_of when◌then◌else◌
   none_found h = rw h
 
   pub not_thirds : (t % 3 ≡ 0 → ⊥) → Differs ≡ outcome_of room line
@@ -159,7 +159,7 @@ module _ (room : ℕ) (line : List ℕ) (t : ℕ) (e : t ≡ tabs line) where
         has_all = rw (← e) (rw (eq-eqb (t % 3) 0 thirds, le-leb 2 (t / 3) enough, le-leb (t / 3) 1000 not_too_many))
 
         some_found : outcome_of room line ≡ from_entries (read_number (field 0 line))
-        unfolding outcome_of if◌then◌else◌
+        unfolding outcome_of when◌then◌else◌
         some_found = rw has_all
 
         is_entries : (b : Number) → a ≡ b → outcome_of room line ≡ from_entries b
@@ -170,12 +170,12 @@ module _ (room : ℕ) (line : List ℕ) (t : ℕ) (e : t ≡ tabs line) where
 
         module _ (entries : ℕ) (h : a ≡ Is entries) where
           pub no_room : room < entries * 3 → Differs ≡ outcome_of room line
-          unfolding if◌then◌else◌
+          unfolding when◌then◌else◌
           no_room l = sym (is_entries (Is entries) h ∙ rw (lt-leb (entries * 3) room l))
 
           pub is_run : (r : Comparison) → entries * 3 ≤ room → r ≡ run_of line (t / 3 - 1) (entries * 3) →
               r ≡ outcome_of room line
-          unfolding if◌then◌else◌
+          unfolding when◌then◌else◌
           is_run r l f =
               f ∙ ap (λ (n : ℕ). run_of line (n / 3 - 1) (entries * 3)) e
               ∙ sym (is_entries (Is entries) h ∙ rw (le-leb (entries * 3) room l))

@@ -6,7 +6,7 @@ use mathlib.Core.Option.{Option, none, some}
 use Prim.Native.Nat.{ℕ, ◌+◌, ◌*◌}
 use native.Mathlib.Omega.{arith}
 use lib.Dec.{T, eqb}
-use Rattle.base.specs.Branch.{if◌then◌else◌}
+use Rattle.base.specs.Branch.{when◌then◌else◌}
 use Rattle.rules.specs.declared.DrawWinner.{DrawWinner}
 use Rattle.rules.specs.Position.{Position}
 use Rattle.rules.specs.Hash.{hash}
@@ -58,13 +58,13 @@ module _ (text : List ℕ) (r : Parsed) (h : Parses text r) where
     is_fresh = subst Fresh (sym is_game) (read_gives_a_game text p (accepted_reads text r h a)).fresh
 
 -- ---- what matches
-known_if : (b : Bool) (r : Reported) → known (if b then (λ _. some r) else λ _. none) ≡ b
-unfolding if◌then◌else◌
+known_if : (b : Bool) (r : Reported) → known (when b then (λ _. some r) else λ _. none) ≡ b
+unfolding when◌then◌else◌
 known_if true r = refl
 known_if false r = refl
 
-same_if : (b : Bool) (x r : Reported) → (if b then (λ _. some x) else λ _. none) ≡ some r → x ≡ r
-unfolding if◌then◌else◌
+same_if : (b : Bool) (x r : Reported) → (when b then (λ _. some x) else λ _. none) ≡ some r → x ≡ r
+unfolding when◌then◌else◌
 same_if true x r e = cc
 same_if false x r e = absurd (let z : ◌≡◌ {A = ℕ} 0 1 = cc in omega arith)
 

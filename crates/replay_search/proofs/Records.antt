@@ -11,7 +11,7 @@ use lib.Seq.{take-suc, take_all}
 use lib.Signed.{mag, lt_z}
 use mir.Syntax.{w64}
 use mir.Val.{SFits}
-use Rattle.base.specs.Branch.{if◌then◌else◌}
+use Rattle.base.specs.Branch.{when◌then◌else◌}
 use Rattle.base.proofs.Signed.{reads, negative, natural}
 use Rattle.theory.specs.Deepening.{Stats as Meant}
 use Rattle.theory.specs.Reported.{Reported}
@@ -39,7 +39,7 @@ module _ (z : ℤ) (f : SFits w64 z) where
 
 -- ---- a refusal is its number
 refusal_number : (why : SearchError) → search_error_number why ≡ ending (search_error_number why) (is_spent why)
-unfolding ending if◌then◌else◌
+unfolding ending when◌then◌else◌
 refusal_number Depth = refl
 refusal_number Allowance = refl
 refusal_number Words = refl

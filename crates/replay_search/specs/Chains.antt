@@ -2,7 +2,7 @@
 -- three for each search: the position's text, the depth, the numbers. Each search begins with the memory that the one before left.
 use Rattle.std.specs.Prelude.{◌≡◌, Bool, false, not, cond, ◌&&◌, ◌||◌, List, [], ◌∷◌, ℕ, zero, suc, ◌+◌, ◌-◌, ◌*◌, ◌/◌, ◌%◌, eqb, leb, length, replicate}
 use Rattle.std.proofs.Math.Option.{Option, none, some}
-use Rattle.base.specs.Branch.{if◌then◌else◌}
+use Rattle.base.specs.Branch.{when◌then◌else◌}
 use Rattle.rules.specs.Board.{side_from}
 use Rattle.rules.specs.declared.DrawWinner.{DrawWinner}
 use Rattle.rules.specs.Position.{Position}
@@ -40,7 +40,7 @@ with_responses rs (side ∷ prev ∷ m ∷ ns) = with_responses (with_response r
 
 abbrev pub from_triples : Option (List ℕ) → Option Responses
 from_triples none = none
-from_triples (some ns) = if eqb (length ns % 3) 0 then (λ _. some (with_responses no_responses ns)) else λ _. none
+from_triples (some ns) = when eqb (length ns % 3) 0 then (λ _. some (with_responses no_responses ns)) else λ _. none
 
 -- none are given by an empty field
 unfoldable pub start_of : List ℕ → Option Responses
@@ -48,12 +48,12 @@ start_of [] = some no_responses
 start_of (b ∷ bs) = from_triples (list_of most_numbers (b ∷ bs))
 
 abbrev pub begun_of : Begun → Option Responses
-begun_of b = if b.good then (λ _. some (responses_of b.state.responses)) else λ _. none
+begun_of b = when b.good then (λ _. some (responses_of b.state.responses)) else λ _. none
 
 -- ---- one search
 -- what is reported, if the numbers say the same
 unfoldable pub matching : List ℕ → Reported → Option Reported
-matching ns r = if same_numbers ns (search_numbers r) then (λ _. some r) else λ _. none
+matching ns r = when same_numbers ns (search_numbers r) then (λ _. some r) else λ _. none
 
 abbrev pub matching_search : Reading → Number → Option (List ℕ) → (Position → ℕ → Reported) → Option Reported
 matching_search (refuses n offset size) depth ns search = none
@@ -120,6 +120,6 @@ has_searches line = eqb (tabs line % 3) 0 && (leb 2 (tabs line / 3) && leb (tabs
 -- with room for so many words
 unfoldable pub outcome_of : ℕ → List ℕ → Comparison
 outcome_of room line =
-    if has_searches line then (λ _. for_number (read_number (field 0 line)) (λ entries.
-    if leb (entries * 3) room then (λ _. run_of line (tabs line / 3 - 1) (entries * 3)) else λ _. Differs))
+    when has_searches line then (λ _. for_number (read_number (field 0 line)) (λ entries.
+    when leb (entries * 3) room then (λ _. run_of line (tabs line / 3 - 1) (entries * 3)) else λ _. Differs))
     else λ _. Differs

@@ -1,6 +1,6 @@
 -- What a record says of a search, number by number, as its report has it.
 use Rattle.std.specs.Prelude.{Bool, ◌&&◌, List, [], ◌∷◌, ◌++◌, ℕ, eqb, ℤ, pos, negsuc, nat_abs, take}
-use Rattle.base.specs.Branch.{if◌then◌else◌}
+use Rattle.base.specs.Branch.{when◌then◌else◌}
 use Rattle.theory.specs.Deepening.{Stats}
 use Rattle.theory.specs.Reported.{Reported}
 use Rattle.replay_search.specs.Digests.{responses_digest, response_count, table_digest, entry_count}
@@ -12,7 +12,7 @@ sign (negsuc n) = 1
 
 -- 15 to 18 for a refusal, 1 where the allowance stopped the search, 0 for a whole one
 unfoldable pub ending : ℕ → Bool → ℕ
-ending number is_stopped = if eqb number 0 && is_stopped then (λ _. 1) else λ _. number
+ending number is_stopped = when eqb number 0 && is_stopped then (λ _. 1) else λ _. number
 
 abbrev pub head_numbers : Reported → List ℕ
 head_numbers r =

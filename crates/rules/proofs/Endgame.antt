@@ -8,7 +8,7 @@ use Prim.Native.Nat.{ℕ, ◌<◌}
 use native.Mathlib.Omega.{arith}
 use lib.Dec.{T, eqb, eqb→eq, eqb_refl, T_not, not_T}
 use lib.Ieee.Bits.{is_true, is_false}
-use Rattle.base.specs.Branch.{if◌then◌else◌}
+use Rattle.base.specs.Branch.{when◌then◌else◌}
 use Rattle.base.specs.Lists.{any, all}
 use Rattle.base.specs.Update.{update}
 use Rattle.base.specs.Checks.{all_pass, first_failed}
@@ -301,14 +301,14 @@ merges_right t wins loses x o =
 
 -- all 32 cases, computed
 always_merges_right : (t : Player) (wins loses x o : Bool) → T (merges_right t wins loses x o)
-unfolding all merges_right says holds decides of_side combine narrow proven merge from_byte if◌then◌else◌
+unfolding all merges_right says holds decides of_side combine narrow proven merge from_byte when◌then◌else◌
 always_merges_right X = always 4 (merges_right X) tt
 always_merges_right O = always 4 (merges_right O) tt
 
 -- where neither side is proved to win
 undecided : (t : Player) (wins loses x o : Bool) → T (not wins) → T (not loses) →
     combine t wins loses x o ≡ some (record { x = x; o = o; draw = true })
-unfolding combine narrow proven merge from_byte if◌then◌else◌
+unfolding combine narrow proven merge from_byte when◌then◌else◌
 undecided t false false true true n m = refl
 undecided t false false true false n m = refl
 undecided t false false false true n m = refl
@@ -414,13 +414,13 @@ nothing_said n = record { refusal = n; status = unproven; stats = no_endgame_sta
 pub analysis_cases {κ} : (p : Position) (P : Analysis → Type κ) → (T (not (unfinished p)) → P (nothing_said 0)) →
     (T (unfinished p) → T (sound p) → P (record { refusal = 0; status = or_unproven (merged p); stats = endgame_stats p })) →
     (T (unfinished p) → T (not (sound p)) → P (nothing_said 14)) → P (analysis p)
-unfolding analysis first_failed if◌then◌else◌
+unfolding analysis first_failed when◌then◌else◌
 analysis_cases p P a b c = by (unfinished p) (sound p) a b c
   where
     by : (g s : Bool) → (T (not g) → P (nothing_said 0)) →
         (T g → T s → P (record { refusal = 0; status = or_unproven (merged p); stats = endgame_stats p })) →
         (T g → T (not s) → P (nothing_said 14)) →
-        P (if g && s then (λ _. record { refusal = 0; status = or_unproven (merged p); stats = endgame_stats p }) else
+        P (when g && s then (λ _. record { refusal = 0; status = or_unproven (merged p); stats = endgame_stats p }) else
         λ _. nothing_said (first_failed ((not (g && not s), 14) ∷ [])))
     by false s a b c = a tt
     by true true a b c = b tt tt
@@ -482,15 +482,15 @@ module _ (p : Position) (m : ℕ) where
 
   -- refused as unsound, refused by play, or judged
   pub evaluate_unsound : T (unfinished p && not (sound p)) → evaluate_move p m ≡ record { refusal = 14; status = unproven }
-  unfolding evaluate_move all_pass all first_failed if◌then◌else◌
+  unfolding evaluate_move all_pass all first_failed when◌then◌else◌
   evaluate_unsound t = rw (is_true (unfinished p && not (sound p)) t)
 
   module _ (fine : T (not (unfinished p && not (sound p)))) where
     abbrev cs : List (Bool × ℕ)
     cs = checks p (board_of m) (cell_of m)
 
-    by_play : evaluate_move p m ≡ record { refusal = first_failed cs; status = if all_pass cs then (λ _. judge p m) else λ _. unproven }
-    unfolding evaluate_move all_pass all first_failed if◌then◌else◌
+    by_play : evaluate_move p m ≡ record { refusal = first_failed cs; status = when all_pass cs then (λ _. judge p m) else λ _. unproven }
+    unfolding evaluate_move all_pass all first_failed when◌then◌else◌
     by_play = rw (is_false (unfinished p && not (sound p)) fine)
 
     pub evaluate_refused : T (not (accepts p m)) → evaluate_move p m ≡ record { refusal = first_failed cs; status = unproven }

@@ -5,7 +5,7 @@ use mathlib.Core.Bool.{Bool, true, false, not, cond, ◌||◌, ◌&&◌}
 use mathlib.Core.Logic.{◌↔◌}
 use Prim.Native.Nat.{ℕ, ◌+◌, ◌<◌}
 use lib.Dec.{T, eqb, eqb→eq, T_not, not_T}
-use Rattle.base.specs.Branch.{if◌then◌else◌}
+use Rattle.base.specs.Branch.{when◌then◌else◌}
 use Rattle.base.specs.Lists.{any, all, In}
 use Rattle.base.specs.Update.{update}
 use Rattle.base.proofs.Bool.{and→, →and, always, ◌⇒◌, ⇒→, →⇒}
@@ -77,10 +77,10 @@ not_two c i j n =
     (subst (λ (x : ℕ). T (eqb x j)) (eqb→eq c i r.0) r.1))
 
 update_or : (own : ℕ → Bool) (c i : ℕ) → update own c true i ≡ (eqb c i || own i)
-unfolding update if◌then◌else◌
+unfolding update when◌then◌else◌
 update_or own c i = go (eqb c i)
   where
-    go : (b : Bool) → (if b then (λ _. true) else λ _. own i) ≡ (b || own i)
+    go : (b : Bool) → (when b then (λ _. true) else λ _. own i) ≡ (b || own i)
     go true = refl
     go false = refl
 

@@ -6,7 +6,7 @@ use Prim.Native.Nat.{ℕ, zero, suc, ◌+◌, ◌*◌}
 use Prim.Native.Char.{code}
 use Prim.Native.String.{String}
 use lib.Dec.{eqb}
-use Rattle.base.specs.Branch.{if◌then◌else◌}
+use Rattle.base.specs.Branch.{when◌then◌else◌}
 use Rattle.base.specs.Lists.{count, concat_map, total}
 use Rattle.rules.specs.declared.Player.{Player}
 use Rattle.rules.specs.declared.Player.TheVariants.{X, O}
@@ -31,17 +31,17 @@ nth (String.◌∷◌ c s) zero = code c
 nth (String.◌∷◌ c s) (suc i) = nth s i
 
 unfoldable pub side_shown : ℕ → Player
-side_shown k = if eqb k 0x58 then (λ _. X) else λ _. O
+side_shown k = when eqb k 0x58 then (λ _. X) else λ _. O
 
 unfoldable pub cell_shown : ℕ → CellState
-cell_shown k = if eqb k 0x2e then (λ _. Empty) else λ _. Played (side_shown k)
+cell_shown k = when eqb k 0x2e then (λ _. Empty) else λ _. Played (side_shown k)
 
 unfoldable pub state_shown : ℕ → GameState
-state_shown k = if eqb k 0x2e || eqb k 0x40 then (λ _. InPlay) else λ _. if eqb k 0x23 then (λ _. Drawn) else λ _. Won (side_shown k)
+state_shown k = when eqb k 0x2e || eqb k 0x40 then (λ _. InPlay) else λ _. when eqb k 0x23 then (λ _. Drawn) else λ _. Won (side_shown k)
 
 unfoldable pub due_shown : String → List ℕ → NextBoard
 due_shown s [] = Any
-due_shown s (b ∷ bs) = if eqb (nth s (2 + b)) 0x40 then (λ _. Only b) else λ _. due_shown s bs
+due_shown s (b ∷ bs) = when eqb (nth s (2 + b)) 0x40 then (λ _. Only b) else λ _. due_shown s bs
 
 unfoldable pub shown : String → Position
 shown s =

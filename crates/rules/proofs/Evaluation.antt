@@ -8,7 +8,7 @@ use native.Mathlib.Omega.{arith}
 use lib.Dec.{T, ltb, leb, leb→le}
 use lib.IntN.{ℤ, pos, neg_ℤ, neg_ℤ-neg_ℤ, nat_abs}
 use lib.Signed.{◌≤ℤ◌, ◌<ℤ◌}
-use Rattle.base.specs.Branch.{if◌then◌else◌}
+use Rattle.base.specs.Branch.{when◌then◌else◌}
 use Rattle.base.proofs.Bool.{and→}
 use Rattle.base.proofs.Branch.{if_ind}
 use Rattle.base.proofs.Integers.{hi, lo, zarith, Within, within_abs, within_+, within_neg, within_pos, within_minus, times, within_sum}
@@ -176,11 +176,11 @@ value_inside sc a p t =
 -- the evaluation alone
 module _ (sc : Scoring) (p : Position) where
   pub evaluated_accepted : accepted_weights sc.weights ≡ true → evaluated sc p ≡ record { refusal = 0; value = evaluate sc p }
-  unfolding evaluated if◌then◌else◌
+  unfolding evaluated when◌then◌else◌
   evaluated_accepted e = rw e
 
   pub evaluated_refused : accepted_weights sc.weights ≡ false → evaluated sc p ≡ record { refusal = 20; value = pos 0 }
-  unfolding evaluated if◌then◌else◌
+  unfolding evaluated when◌then◌else◌
   evaluated_refused e = rw e
 
 -- ---- a finished game

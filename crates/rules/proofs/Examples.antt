@@ -5,7 +5,7 @@ use mathlib.Core.List.{List, [], ◌∷◌, map}
 use Prim.Native.Nat.{ℕ, suc, ◌+◌, ◌*◌}
 use lib.ListN.{length, get_or}
 use lib.IntN.{ℤ, pos, negsuc}
-use Rattle.base.specs.Branch.{if◌then◌else◌}
+use Rattle.base.specs.Branch.{when◌then◌else◌}
 use Rattle.base.specs.Lists.{any, all, filter, concat_map, from}
 use Rattle.base.specs.Update.{update}
 use Rattle.base.specs.Integers.{sum}
@@ -39,7 +39,7 @@ use Rattle.rules.specs.Endgame.{evaluate_move}
 
 -- ---- what the facts compute with
 unfoldable pub playing : Unit {0}
-unfolding reached tried left_by play accepts all_pass all any first_failed after update result_of has_line if◌then◌else◌
+unfolding reached tried left_by play accepts all_pass all any first_failed after update result_of has_line when◌then◌else◌
     last_effect effect
 playing = tt
 
@@ -48,11 +48,11 @@ unfolding moves filter places concat_map playing
 listing = tt
 
 hashing : Unit {0}
-unfolding zobrist with_turn hash xors board_hash cells_hash cell_key board_key next_board_key if◌then◌else◌
+unfolding zobrist with_turn hash xors board_hash cells_hash cell_key board_key next_board_key when◌then◌else◌
 hashing = tt
 
 valuing : Unit {0}
-unfolding evaluate score board_score sum places_in unless_both board_line overall_line if◌then◌else◌
+unfolding evaluate score board_score sum places_in unless_both board_line overall_line when◌then◌else◌
 valuing = tt
 
 unfoldable pub analysing : Unit {0}

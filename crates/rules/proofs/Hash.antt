@@ -4,7 +4,7 @@ use mathlib.Core.Path.{◌≡◌, refl, sym, ap, ap₂, ◌∙◌}
 use Prim.Native.Nat.{ℕ}
 use lib.Bits.{bit_xor, xor_zero_r, xor_self}
 use lib.Dec.{T}
-use Rattle.base.specs.Branch.{if◌then◌else◌}
+use Rattle.base.specs.Branch.{when◌then◌else◌}
 use Rattle.base.specs.Lists.{elem, unique}
 use Rattle.base.specs.Update.{update}
 use Rattle.base.proofs.Update.{update_at, update_off}
@@ -44,7 +44,7 @@ blank_key b c Empty t = refl
 blank_key b c (Played w) t = absurd t
 
 open_hash : (b : ℕ) (r : ℕ → CellState) (g : GameState) → T (in_play g) → board_hash b r g ≡ cells_hash b r
-unfolding board_hash if◌then◌else◌
+unfolding board_hash when◌then◌else◌
 open_hash b r InPlay t = refl
 open_hash b r Drawn t = absurd t
 open_hash b r (Won w) t = absurd t
@@ -70,8 +70,8 @@ module _ (p : Position) (b c : ℕ) (l : Legal p b c) where
 
   -- what the board gives now, for what it gave before
   board_change : (g : GameState) (h : ℕ) → bit_xor (bit_xor before (board_hash b (row p b c) g)) h
-      ≡ bit_xor (board_key b g) (bit_xor (if in_play g then (λ _. 0) else λ _. now) (bit_xor k h))
-  unfolding board_hash board_key if◌then◌else◌
+      ≡ bit_xor (board_key b g) (bit_xor (when in_play g then (λ _. 0) else λ _. now) (bit_xor k h))
+  unfolding board_hash board_key when◌then◌else◌
   board_change InPlay h = stays before k h now row_hash
   board_change Drawn h = closes before k h now _ row_hash
   board_change (Won w) h = closes before k h now _ row_hash

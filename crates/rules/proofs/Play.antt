@@ -6,7 +6,7 @@ use mathlib.Core.Logic.{inl, inr}
 use Prim.Native.Nat.{ℕ, ◌+◌, ◌≤◌, ◌<◌}
 use native.Mathlib.Omega.{arith}
 use lib.Dec.{T, ltb, ltb→lt, lt→ltb, T_not, not_T}
-use Rattle.base.specs.Branch.{if◌then◌else◌}
+use Rattle.base.specs.Branch.{when◌then◌else◌}
 use Rattle.base.specs.Lists.{any, all}
 use Rattle.base.proofs.Bool.{and→, →and, is}
 use Rattle.base.proofs.Branch.{if_ind}
@@ -111,8 +111,8 @@ module _ (p : Position) (m : ℕ) where
   effect_refused t = if_ind (λ e. e ≡ no_effect) (accepts p m) _ _ (λ u. absurd (T_not (accepts p m) t u)) (λ _. refl)
 
   -- of a next board that is the named one if this is in play
-  named : (opened : Bool) (c : ℕ) → is_free (if opened then (λ _. Only c) else λ _. Any) ≡ not opened
-  unfolding if◌then◌else◌
+  named : (opened : Bool) (c : ℕ) → is_free (when opened then (λ _. Only c) else λ _. Any) ≡ not opened
+  unfolding when◌then◌else◌
   named true c = refl
   named false c = refl
 

@@ -7,7 +7,7 @@ use mathlib.Core.Option.{Option, none, some}
 use Prim.Native.Nat.{ℕ, ◌≤◌}
 use native.Mathlib.Omega.{arith}
 use lib.Dec.{T, eqb, ltb, eqb→eq, ltb→lt, nltb→le}
-use Rattle.base.specs.Branch.{if◌then◌else◌}
+use Rattle.base.specs.Branch.{when◌then◌else◌}
 use Rattle.base.specs.Lists.{all, filter, from}
 use Rattle.base.proofs.Bool.{and→, is}
 use Rattle.base.proofs.Branch.{if_ind}
@@ -21,7 +21,7 @@ is_set (some s) = true
 
 -- of all bytes, 1, 2, 4, 5, 6 and 7 are a set's
 pub from_byte_takes : filter (λ v. is_set (from_byte v)) (from 0 256) ≡ 1 ∷ 2 ∷ 4 ∷ 5 ∷ 6 ∷ 7 ∷ []
-unfolding filter from_byte if◌then◌else◌
+unfolding filter from_byte when◌then◌else◌
 from_byte_takes = refl
 
 -- and no number from 8 on
@@ -37,7 +37,7 @@ back v none = true
 back v (some s) = eqb (as_byte s) v
 
 all_back : T (all (λ n. back n (from_byte n)) (from 0 8))
-unfolding all back from_byte if◌then◌else◌
+unfolding all back from_byte when◌then◌else◌
 all_back = tt
 
 -- the byte of the set that a byte stands for is that byte
@@ -52,7 +52,7 @@ byte_of_from_byte v s e = elim (is (ltb v 8)) [
 
 -- a set that a byte stands for comes back from its byte
 pub from_byte_of_byte : (s : Status) → (from_byte (as_byte s) ≡ some s) ⊎ (from_byte (as_byte s) ≡ none)
-unfolding from_byte if◌then◌else◌
+unfolding from_byte when◌then◌else◌
 from_byte_of_byte s = of s.x s.o s.draw
   where
     of : (x o d : Bool) → let s : Status =
@@ -77,5 +77,5 @@ pub merge_facts :
     × (merge (for_player X) (for_player O) ≡ none)
     × (merge (draw_or_other X) (draw_or_other O) ≡ some draw_only)
     × (merge unproven (record { x = true; o = true; draw = false }) ≡ none)
-unfolding merge from_byte if◌then◌else◌
+unfolding merge from_byte when◌then◌else◌
 merge_facts = (refl, refl, refl, refl, refl, refl)

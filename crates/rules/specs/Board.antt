@@ -6,7 +6,7 @@ use Rattle.rules.specs.declared.CellState.{CellState}
 use Rattle.rules.specs.declared.CellState.TheVariants.{Empty, Played}
 use Rattle.rules.specs.declared.GameState.{GameState}
 use Rattle.rules.specs.declared.GameState.TheVariants.{InPlay, Drawn, Won}
-use Rattle.base.specs.Branch.{if◌then◌else◌}
+use Rattle.base.specs.Branch.{when◌then◌else◌}
 use Rattle.base.specs.Lists.{any, from}
 
 -- ---- sides
@@ -99,4 +99,4 @@ has_line own = any (all_three own) lines
 
 -- what w's move makes of a board, or of the game: won if w has a line, drawn if nothing is left, else in play; only w's lines are looked at
 unfoldable pub result_of : Player → (ℕ → Bool) → (ℕ → Bool) → GameState
-result_of w own left = if has_line own then (λ _. Won w) else λ _. if any left nine then (λ _. InPlay) else λ _. Drawn
+result_of w own left = when has_line own then (λ _. Won w) else λ _. when any left nine then (λ _. InPlay) else λ _. Drawn

@@ -6,7 +6,7 @@ use Rattle.rules.specs.declared.Player.TheVariants.{X, O}
 use Rattle.rules.specs.declared.CellState.{CellState}
 use Rattle.rules.specs.declared.NextBoard.{NextBoard}
 use Rattle.rules.specs.declared.NextBoard.TheVariants.{Any, Only}
-use Rattle.base.specs.Branch.{if◌then◌else◌}
+use Rattle.base.specs.Branch.{when◌then◌else◌}
 use Rattle.base.specs.Lists.{any, all}
 use Rattle.base.specs.Checks.{all_pass, first_failed}
 use Rattle.base.specs.Update.{update}
@@ -68,11 +68,11 @@ winnable p w = has_line (λ b. won_boards p w b || open_board p b)
 
 -- ---- the status of an unfinished position; none stands for the Rust's panic at a merge
 unfoldable pub proven : Player → Bool → Bool → Status
-proven t wins loses = if wins then (λ _. for_player t) else λ _. if loses then (λ _. for_player (other t)) else λ _. unproven
+proven t wins loses = when wins then (λ _. for_player t) else λ _. when loses then (λ _. for_player (other t)) else λ _. unproven
 
 unfoldable pub narrow : Bool → Status → Option Status → Option Status
 narrow can t none = none
-narrow can t (some s) = if can then (λ _. some s) else λ _. merge s t
+narrow can t (some s) = when can then (λ _. some s) else λ _. merge s t
 
 unfoldable pub combine : Player → Bool → Bool → Bool → Bool → Option Status
 combine t wins loses x o = narrow o (draw_or_other O) (narrow x (draw_or_other X) (some (proven t wins loses)))
@@ -124,7 +124,7 @@ analysis_checks p = (not (unfinished p && not (sound p)), 14) ∷ []
 
 unfoldable pub analysis : Position → Analysis
 analysis p =
-    if unfinished p && sound p then (λ _. record { refusal = 0; status = or_unproven (merged p); stats = endgame_stats p }) else
+    when unfinished p && sound p then (λ _. record { refusal = 0; status = or_unproven (merged p); stats = endgame_stats p }) else
     λ _. record { refusal = first_failed (analysis_checks p); status = unproven; stats = no_endgame_stats }
 
 -- ---- a move, judged: 14 first, then what play refuses. The Rust's answer, which calls some moves lost that win at once
@@ -136,7 +136,7 @@ pub record Judged : Type 0 where
 unfoldable pub judge : Position → ℕ → Status
 judge p m =
     let v = other p.turn in
-    if has_critical p v && (not (critical p v (board_of m)) && suits p v (cell_of m)) then (λ _. for_player v) else λ _. unproven
+    when has_critical p v && (not (critical p v (board_of m)) && suits p v (cell_of m)) then (λ _. for_player v) else λ _. unproven
 
 abbrev pub judging_checks : Position → ℕ → List (Bool × ℕ)
 judging_checks p m = analysis_checks p ++ checks p (board_of m) (cell_of m)
@@ -144,5 +144,5 @@ judging_checks p m = analysis_checks p ++ checks p (board_of m) (cell_of m)
 unfoldable pub evaluate_move : Position → ℕ → Judged
 evaluate_move p m = record {
   refusal = first_failed (judging_checks p m);
-  status = if all_pass (judging_checks p m) then (λ _. judge p m) else λ _. unproven;
+  status = when all_pass (judging_checks p m) then (λ _. judge p m) else λ _. unproven;
 }

@@ -7,7 +7,7 @@ use Rattle.rules.specs.declared.GameState.TheVariants.{InPlay, Drawn, Won}
 use Rattle.rules.specs.declared.DrawWinner.{DrawWinner}
 use Rattle.rules.specs.declared.DrawWinner.TheVariants.{Nobody, Side}
 use Rattle.rules.specs.declared.Weights.{Weights}
-use Rattle.base.specs.Branch.{if◌then◌else◌}
+use Rattle.base.specs.Branch.{when◌then◌else◌}
 use Rattle.base.specs.Integers.{sum}
 use Rattle.rules.specs.Board.{Line, lines}
 use Rattle.rules.specs.Position.{Position, open_board, won_boards, has}
@@ -46,7 +46,7 @@ places_in own l = cond (own l.i) 1 0 + cond (own l.j) 1 0 + cond (own l.k) 1 0
 
 -- a line with both sides in it gives nothing
 unfoldable pub unless_both : ℕ → ℕ → ℤ → ℤ
-unless_both x o z = if ltb 0 x && ltb 0 o then (λ _. pos 0) else λ _. z
+unless_both x o z = when ltb 0 x && ltb 0 o then (λ _. pos 0) else λ _. z
 
 -- what a line of a board gives the one side that has places in it: a weight for one place, another for two, and nothing for all three
 abbrev pub worth : Weights → ℕ → ℕ
@@ -63,7 +63,7 @@ board_line w xs os l =
 
 -- a closed board scores 0
 unfoldable pub board_score : Weights → Position → ℕ → ℤ
-board_score w p b = if open_board p b then (λ _. sum (board_line w (has p X b) (has p O b)) lines) else λ _. pos 0
+board_score w p b = when open_board p b then (λ _. sum (board_line w (has p X b) (has p O b)) lines) else λ _. pos 0
 
 -- an overall line gives a weight for each board that its side has won, and the scores of its three boards; a drawn board is neither side's
 unfoldable pub overall_line : Weights → (ℕ → Bool) → (ℕ → Bool) → (ℕ → ℤ) → Line → ℤ
@@ -99,5 +99,5 @@ pub record Evaluated : Type 0 where
 
 unfoldable pub evaluated : Scoring → Position → Evaluated
 evaluated sc p =
-    if accepted_weights sc.weights then (λ _. record { refusal = 0; value = evaluate sc p }) else
+    when accepted_weights sc.weights then (λ _. record { refusal = 0; value = evaluate sc p }) else
     λ _. record { refusal = 20; value = pos 0 }

@@ -9,7 +9,7 @@ use Rattle.rules.specs.declared.GameState.{GameState}
 use Rattle.rules.specs.declared.GameState.TheVariants.{InPlay, Drawn, Won}
 use Rattle.rules.specs.declared.NextBoard.{NextBoard}
 use Rattle.rules.specs.declared.NextBoard.TheVariants.{Any, Only}
-use Rattle.base.specs.Branch.{if◌then◌else◌}
+use Rattle.base.specs.Branch.{when◌then◌else◌}
 use Rattle.base.specs.Update.{update}
 use Rattle.rules.specs.Board.{nine, in_play}
 use Rattle.rules.specs.Position.{Position}
@@ -51,7 +51,7 @@ unfoldable pub cells_hash : ℕ → (ℕ → CellState) → ℕ
 cells_hash b row = xors (λ c. cell_key b c (row c)) nine
 
 unfoldable pub board_hash : ℕ → (ℕ → CellState) → GameState → ℕ
-board_hash b row g = if in_play g then (λ _. cells_hash b row) else λ _. board_key b g
+board_hash b row g = when in_play g then (λ _. cells_hash b row) else λ _. board_key b g
 
 unfoldable pub hash : Position → ℕ
 hash p = xors (λ b. board_hash b (p.cells b) (p.states b)) nine
@@ -70,4 +70,4 @@ hash_after p b c h =
     let w = p.turn in
     let row = update (p.cells b) c (Played w) in
     let g = (after p b c).states b in
-    bit_xor (board_key b g) (bit_xor (if in_play g then (λ _. 0) else λ _. cells_hash b row) (bit_xor (cell_key b c (Played w)) h))
+    bit_xor (board_key b g) (bit_xor (when in_play g then (λ _. 0) else λ _. cells_hash b row) (bit_xor (cell_key b c (Played w)) h))

@@ -5,7 +5,7 @@ use Rattle.rules.specs.declared.GameState.TheVariants.{InPlay}
 use Rattle.rules.specs.declared.NextBoard.{NextBoard}
 use Rattle.rules.specs.declared.NextBoard.TheVariants.{Any, Only}
 use Rattle.rules.specs.declared.Effect.{Effect}
-use Rattle.base.specs.Branch.{if◌then◌else◌}
+use Rattle.base.specs.Branch.{when◌then◌else◌}
 use Rattle.base.specs.Checks.{all_pass, first_failed}
 use Rattle.base.specs.Update.{update}
 use Rattle.rules.specs.Board.{other, blank, mine, in_play, won_by, state_number, result_of}
@@ -50,7 +50,7 @@ after p b c =
     let states = update p.states b (result_of w (λ i. mine w (row i)) (λ i. blank (row i))) in
     record {
       turn = other w;
-      next_board = if in_play (states c) then (λ _. Only c) else λ _. Any;
+      next_board = when in_play (states c) then (λ _. Only c) else λ _. Any;
       cells = update p.cells b row;
       states = states;
       state = result_of w (λ i. won_by w (states i)) (λ i. in_play (states i));
@@ -63,7 +63,7 @@ pub data Tried : Type 0 where
 
 unfoldable pub play : Position → ℕ → Tried
 play p m =
-    if accepts p m then (λ _. played (after p (board_of m) (cell_of m)))
+    when accepts p m then (λ _. played (after p (board_of m) (cell_of m)))
     else λ _. refused (first_failed (checks p (board_of m) (cell_of m)))
 
 -- where a try leaves the position: a refused one changes nothing
@@ -89,7 +89,7 @@ abbrev pub no_effect : Effect
 no_effect = record { board = InPlay; free_choice = false }
 
 unfoldable pub effect : Position → ℕ → Effect
-effect p m = if accepts p m then (λ _. effect_in (board_of m) (after p (board_of m) (cell_of m))) else λ _. no_effect
+effect p m = when accepts p m then (λ _. effect_in (board_of m) (after p (board_of m) (cell_of m))) else λ _. no_effect
 
 -- what the last of some moves did, tried one after the other from p; e is for no moves, `no_effect` in every promise
 unfoldable pub last_effect : Effect → Position → List ℕ → Effect

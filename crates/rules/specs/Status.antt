@@ -3,7 +3,7 @@ use Rattle.std.specs.Prelude.{Bool, true, false, not, cond, ◌&&◌, ℕ, ◌+�
 use Rattle.std.proofs.Math.Option.{Option, none, some}
 use Rattle.rules.specs.declared.Player.{Player}
 use Rattle.rules.specs.declared.Player.TheVariants.{X, O}
-use Rattle.base.specs.Branch.{if◌then◌else◌}
+use Rattle.base.specs.Branch.{when◌then◌else◌}
 use Rattle.rules.specs.Board.{other, same}
 
 pub record Status : Type 0 where
@@ -35,7 +35,7 @@ as_byte s = cond s.x 1 0 + cond s.o 2 0 + cond s.draw 4 0
 
 -- 1, 2, 4, 5, 6 and 7 are a set's bytes: not 0, none left, and not 3, either side but no draw
 unfoldable pub from_byte : ℕ → Option Status
-from_byte v = if ltb v 8 && (not (eqb v 0) && not (eqb v 3))
+from_byte v = when ltb v 8 && (not (eqb v 0) && not (eqb v 3))
     then (λ _. some (record { x = eqb (v % 2) 1; o = eqb (v / 2 % 2) 1; draw = eqb (v / 4) 1 }))
     else λ _. none
 

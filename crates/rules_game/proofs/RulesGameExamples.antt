@@ -5,7 +5,7 @@ use mathlib.Core.List.{List, [], ◌∷◌}
 use Prim.Native.Nat.{ℕ}
 use lib.IntN.{ℤ, pos, negsuc}
 use lib.ListN.{set, replicate}
-use Rattle.base.specs.Branch.{if◌then◌else◌}
+use Rattle.base.specs.Branch.{when◌then◌else◌}
 use Rattle.base.specs.Lists.{any, all, filter, elem, concat_map}
 use Rattle.base.specs.Update.{update}
 use Rattle.base.specs.Integers.{sum, max_z}
@@ -34,20 +34,20 @@ use Rattle.rules_game.specs.RulesGame.{game, plain_minimax}
 
 -- ---- what the facts compute with
 playing : Unit {0}
-unfolding moves places concat_map filter tried left_by play accepts all_pass all any first_failed after update result_of has_line if◌then◌else◌
+unfolding moves places concat_map filter tried left_by play accepts all_pass all any first_failed after update result_of has_line when◌then◌else◌
 playing = tt
 
 valuing : Unit {0}
-unfolding evaluate score board_score sum places_in unless_both board_line overall_line if◌then◌else◌
+unfolding evaluate score board_score sum places_in unless_both board_line overall_line when◌then◌else◌
 valuing = tt
 
 hashing : Unit {0}
-unfolding zobrist with_turn hash xors board_hash cells_hash cell_key board_key next_board_key if◌then◌else◌
+unfolding zobrist with_turn hash xors board_hash cells_hash cell_key board_key next_board_key when◌then◌else◌
 hashing = tt
 
 remembering : Unit {0}
 unfolding begin enter leaf hit answered cut some_move hints probed on_probe with_stored set_first from_word entry_of off begins look_up
-    store suffices bound_of if◌then◌else◌
+    store suffices bound_of when◌then◌else◌
 remembering = tt
 
 searching : Unit {0}

@@ -5,7 +5,7 @@ use Prim.Native.Nat.{ℕ, zero, suc, ◌+◌, ◌*◌, ◌/◌, ◌%◌, ◌≤�
 use native.Mathlib.Omega.{arith}
 use lib.Bits.{bit_and, and_mask, and_step}
 use lib.Dec.{eqb, eqb→eq}
-use Rattle.base.specs.Branch.{if◌then◌else◌}
+use Rattle.base.specs.Branch.{when◌then◌else◌}
 use Rattle.base.specs.Bits.{bit}
 use Rattle.base.proofs.BitsOperations.{bit_low, bit_suc}
 use Rattle.base.proofs.Bool.{always}
@@ -20,7 +20,7 @@ over_7_is_nothing v h = sym (ap read_of (from_byte_none v h))
 
 -- of the others all but 0 and 3 are
 pub byte_is_set : (v : ℕ) → v < 8 → (v ≡ 0 → ⊥) → (v ≡ 3 → ⊥) → Set (record { bits = v }) ≡ read_of (from_byte v)
-unfolding from_byte if◌then◌else◌
+unfolding from_byte when◌then◌else◌
 byte_is_set zero h n m = absurd (n refl)
 byte_is_set (suc zero) h n m = refl
 byte_is_set (suc (suc zero)) h n m = refl

@@ -10,7 +10,7 @@ use lib.Dec.{eqb, ltb, ltb→lt, nltb→le}
 use lib.ListN.{length, get_or, set, length-set}
 use lib.Seq.{get_or-set_same, get_or-set_other}
 use borrow.Author.Tests.{eq-eqb, ne_eqb}
-use Rattle.base.specs.Branch.{if◌then◌else◌}
+use Rattle.base.specs.Branch.{when◌then◌else◌}
 use Rattle.base.proofs.Branch.{if_ind}
 use Rattle.theory.specs.Table.{Entry, to_word, rest_of, entry_of, off, begins, look_up, replaces, store}
 use Rattle.table.proofs.EntriesWords.{Kept, entry_back}
@@ -43,38 +43,38 @@ module _ (words : List ℕ) (h : ℕ) (k : length words < 3) where
 
 -- ---- one that is on, where the words of a hash begin at i
 module _ (words : List ℕ) (h i : ℕ) (k : 3 ≤ length words) (at : i ≡ begins (length words) h) where
-  look_up_on : look_up words h ≡ (if eqb (get_or words i 0) h then (λ _. held_at words i) else λ _. none)
+  look_up_on : look_up words h ≡ (when eqb (get_or words i 0) h then (λ _. held_at words i) else λ _. none)
   unfolding look_up off
   look_up_on =
-      if_ind (λ (o : Option Entry). o ≡ (if eqb (get_or words i 0) h then (λ _. held_at words i) else λ _. none)) (ltb (length words) 3)
+      if_ind (λ (o : Option Entry). o ≡ (when eqb (get_or words i 0) h then (λ _. held_at words i) else λ _. none)) (ltb (length words) 3)
       _ _
       (λ t. absurd (omega (arith, ltb→lt (length words) 3 t)))
-      (λ _. ap (λ (j : ℕ). if eqb (get_or words j 0) h then (λ _. held_at words j) else λ _. none) (sym at))
+      (λ _. ap (λ (j : ℕ). when eqb (get_or words j 0) h then (λ _. held_at words j) else λ _. none) (sym at))
 
   -- another position's entry is not taken
   pub look_up_other : (get_or words i 0 ≡ h → ⊥) → look_up words h ≡ none
-  unfolding if◌then◌else◌
+  unfolding when◌then◌else◌
   look_up_other f = look_up_on ∙ rw (ne_eqb (get_or words i 0) h f)
 
   pub look_up_same : get_or words i 0 ≡ h → look_up words h ≡ held_at words i
-  unfolding if◌then◌else◌
+  unfolding when◌then◌else◌
   look_up_same p = look_up_on ∙ rw (eq-eqb (get_or words i 0) h p)
 
   module _ (e : Entry) where
-    store_on : store words h e ≡ (if replaces e.depth (held_at words i) then (λ _. written words i h e) else λ _. words)
+    store_on : store words h e ≡ (when replaces e.depth (held_at words i) then (λ _. written words i h e) else λ _. words)
     unfolding store off
     store_on =
-        if_ind (λ (l : List ℕ). l ≡ (if replaces e.depth (held_at words i) then (λ _. written words i h e) else λ _. words))
+        if_ind (λ (l : List ℕ). l ≡ (when replaces e.depth (held_at words i) then (λ _. written words i h e) else λ _. words))
         (ltb (length words) 3) _ _
         (λ t. absurd (omega (arith, ltb→lt (length words) 3 t)))
-        (λ _. ap (λ (j : ℕ). if replaces e.depth (held_at words j) then (λ _. written words j h e) else λ _. words) (sym at))
+        (λ _. ap (λ (j : ℕ). when replaces e.depth (held_at words j) then (λ _. written words j h e) else λ _. words) (sym at))
 
     pub store_refused : replaces e.depth (held_at words i) ≡ false → store words h e ≡ words
-    unfolding if◌then◌else◌
+    unfolding when◌then◌else◌
     store_refused r = store_on ∙ rw r
 
     pub store_taken : replaces e.depth (held_at words i) ≡ true → store words h e ≡ written words i h e
-    unfolding if◌then◌else◌
+    unfolding when◌then◌else◌
     store_taken r = store_on ∙ rw r
 
     -- the same, where the two words are known by equations

@@ -5,7 +5,7 @@ use mathlib.Core.Option.{Option, none, some}
 use Prim.Native.Nat.{ℕ}
 use Prim.Native.String.{String}
 use lib.ListN.{length, take, replicate}
-use Rattle.base.specs.Branch.{if◌then◌else◌}
+use Rattle.base.specs.Branch.{when◌then◌else◌}
 use Rattle.base.specs.Lists.{any}
 use Rattle.rules.specs.declared.Player.TheVariants.{X, O}
 use Rattle.rules.specs.declared.GameState.{GameState}
@@ -41,7 +41,7 @@ seen r = told (λ p. record { text = text_of p; state = p.state; next_board = p.
 
 reading : Unit {0}
 unfolding quoted read sections read_overall first_bad read_cells first_fault fault_at side_of overall_mark cell_mark said last_at cell_in
-    state_in result_of has_line any if◌then◌else◌
+    state_in result_of has_line any when◌then◌else◌
 reading = tt
 
 seeing : Unit {0}
@@ -182,5 +182,5 @@ pub move_examples :
     × (read_move (quoted "aaa") ≡ bad_length)
     × (move_text 0x47 ≡ quoted "eh")
     × (move_text 0xff ≡ quoted "pp")
-unfolding quoted read_letters if◌then◌else◌
+unfolding quoted read_letters when◌then◌else◌
 move_examples = (refl, refl, refl, refl, refl, refl, refl, refl, refl, refl)

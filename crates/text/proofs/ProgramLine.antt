@@ -9,7 +9,7 @@ use native.Mathlib.Omega.{arith}
 use lib.Dec.{T, eqb, ltb, eqb→eq, nltb→le, T_not}
 use lib.IntN.{ℤ, pos, negsuc, nat_abs}
 use lib.ListN.{length, length-append}
-use Rattle.base.specs.Branch.{if◌then◌else◌}
+use Rattle.base.specs.Branch.{when◌then◌else◌}
 use Rattle.base.specs.Lists.{In}
 use Rattle.base.proofs.Branch.{if_ind, if_both}
 use Rattle.rules.specs.declared.Player.TheVariants.{X}
@@ -21,7 +21,7 @@ use Rattle.text.specs.ProgramLine.{decimal, signed, shown, status_letters, move_
 use Rattle.text.specs.ProgramLine.{refusal_text}
 
 computing : Unit {0}
-unfolding quoted parted depth_of in_places decimal signed move_letters if◌then◌else◌
+unfolding quoted parted depth_of in_places decimal signed move_letters when◌then◌else◌
 computing = tt
 
 -- ---- document 01's four outputs, from their parts
@@ -68,7 +68,7 @@ parted_parts (c ∷ cs) = parts_with c cs (parted cs) (parted_parts cs)
 
 -- one byte more: a blank
 pub parted_blank : (line : List ℕ) → parted (line ++ (space ∷ [])) ≡ around line []
-unfolding parted if◌then◌else◌
+unfolding parted when◌then◌else◌
 parted_blank [] = refl
 parted_blank (c ∷ cs) = ap (parted_with c (cs ++ (space ∷ []))) (parted_blank cs)
 
@@ -78,7 +78,7 @@ followed b no_blank = no_blank
 followed b (around text rest) = around text (rest ++ (b ∷ []))
 
 pub parted_other : (line : List ℕ) (b : ℕ) → eqb b space ≡ false → parted (line ++ (b ∷ [])) ≡ followed b (parted line)
-unfolding parted if◌then◌else◌
+unfolding parted when◌then◌else◌
 parted_other [] b n = rw n
 parted_other (c ∷ cs) b n = ap (parted_with c (cs ++ (b ∷ []))) (parted_other cs b n) ∙ front (parted cs)
   where

@@ -8,7 +8,7 @@ use native.Mathlib.Omega.{arith}
 use borrow.Author.Tests.{lt-ltb}
 use lib.Dec.{T, eqb, ltb, ltb→lt, lt→ltb, nltb→le, lit<, lit≤, T_not}
 use lib.ListN.{length, get_or, length-append, get_or-append}
-use Rattle.base.specs.Branch.{if◌then◌else◌}
+use Rattle.base.specs.Branch.{when◌then◌else◌}
 use Rattle.base.specs.Lists.{from}
 use Rattle.base.proofs.Bool.{and→, →and}
 use Rattle.base.proofs.Branch.{if_ind, if_both}
@@ -176,7 +176,7 @@ cell_in_at cs b c h k l = if_ind (λ s. s ≡ or_else (cell_mark (get_or cs (10 
 
 -- the board that is due has an `@`, so it reads as in play
 said_due : (w : Player) (os cs : List ℕ) → length os ≡ 9 → T (next_board_open (said w os cs) (said w os cs).next_board)
-unfolding said overall_mark if◌then◌else◌
+unfolding said overall_mark when◌then◌else◌
 said_due w os cs n = last_at_cases (λ d. T (next_board_open (said w os cs) d)) 0 os Any (λ _. tt) (λ k h e _.
     let z : 0 + k ≡ k = omega arith in
     rw z (→and (ltb k 9) _ (lt→ltb k 9 (omega arith)) (rw (state_in_at os k (omega arith) h, e) tt)))
@@ -231,12 +231,12 @@ spread [] = 0
 spread (s ∷ ss) = suc (length s) + spread ss
 
 spread_sections : (t : List ℕ) → spread (sections t) ≡ suc (length t)
-unfolding sections spread if◌then◌else◌
+unfolding sections spread when◌then◌else◌
 spread_sections [] = refl
 spread_sections (c ∷ cs) = go (eqb c semicolon) (sections cs) (spread_sections cs)
   where
     go : (b : Bool) (ss : List (List ℕ)) → spread ss ≡ suc (length cs) →
-        spread (if b then (λ _. [] ∷ ss) else λ _. first_longer c ss) ≡ suc (suc (length cs))
+        spread (when b then (λ _. [] ∷ ss) else λ _. first_longer c ss) ≡ suc (suc (length cs))
     go true ss e = omega arith
     go false [] e = absurd (omega arith)
     go false (s ∷ ss) e = omega arith
@@ -271,13 +271,13 @@ last_longer (s ∷ []) u = (s ++ u) ∷ []
 last_longer (s ∷ s' ∷ ss) u = s ∷ last_longer (s' ∷ ss) u
 
 sections_tail : (t u : List ℕ) → Clear u 0 (length u) → sections (t ++ u) ≡ last_longer (sections t) u
-unfolding sections last_longer if◌then◌else◌
+unfolding sections last_longer when◌then◌else◌
 sections_tail [] u f = one_section u f
 sections_tail (c ∷ cs) u f = rw (sections_tail cs u f) (go (eqb c semicolon) (sections cs) (section_count cs))
   where
     go : (b : Bool) (ss : List (List ℕ)) → length ss ≡ suc (semicolons cs) →
-        if b then (λ _. [] ∷ last_longer ss u) else (λ _. first_longer c (last_longer ss u))
-        ≡ last_longer (if b then (λ _. [] ∷ ss) else λ _. first_longer c ss) u
+        when b then (λ _. [] ∷ last_longer ss u) else (λ _. first_longer c (last_longer ss u))
+        ≡ last_longer (when b then (λ _. [] ∷ ss) else λ _. first_longer c ss) u
     go true [] e = absurd (omega arith)
     go true (s ∷ ss) e = refl
     go false [] e = absurd (omega arith)

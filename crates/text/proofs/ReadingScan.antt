@@ -11,7 +11,7 @@ use lib.Dec.{T, eqb, ltb, eqb→eq, eqb_refl, ltb→lt, nltb→le, lt→ltb, lit
 use borrow.Author.Tests.{eq-eqb}
 use lib.ListN.{length, get_or, take, drop, length-drop}
 use lib.Seq.{slice, take-nil, drop-cons, drop-drop, get_or-drop, get_or-take}
-use Rattle.base.specs.Branch.{if◌then◌else◌}
+use Rattle.base.specs.Branch.{when◌then◌else◌}
 use Rattle.base.specs.Lists.{count, from}
 use Rattle.base.proofs.Bool.{and→, →and, is, not_not}
 use Rattle.base.proofs.Branch.{if_ind}
@@ -23,7 +23,7 @@ use Rattle.text.specs.Reading.{fault_at, first_fault, lone_side}
 
 -- a choice by whether two numbers are equal
 pub if_equal {ℓ κ} : {A : Type ℓ} (P : A → Type κ) (m n : ℕ) (x y : Unit {0} → A) → (m ≡ n → P (x tt)) →
-    ((m ≡ n → ⊥) → P (y tt)) → P (if eqb m n then x else y)
+    ((m ≡ n → ⊥) → P (y tt)) → P (when eqb m n then x else y)
 if_equal P m n x y f g =
     if_ind P (eqb m n) x y (λ t. f (eqb→eq m n t)) (λ t. g (λ e. T_not (eqb m n) t (subst (λ (k : ℕ). T (eqb m k)) e (eqb_refl m))))
 
@@ -110,12 +110,12 @@ semicolons t = count (λ c. eqb c semicolon) t
 
 -- there is one section more
 pub section_count : (t : List ℕ) → length (sections t) ≡ suc (semicolons t)
-unfolding sections count if◌then◌else◌
+unfolding sections count when◌then◌else◌
 section_count [] = refl
 section_count (c ∷ cs) = go (eqb c semicolon) (sections cs) (section_count cs)
   where
     go : (b : Bool) (ss : List (List ℕ)) → length ss ≡ suc (semicolons cs) →
-        length (if b then (λ _. [] ∷ ss) else λ _. first_longer c ss) ≡ suc (cond b 1 0 + semicolons cs)
+        length (when b then (λ _. [] ∷ ss) else λ _. first_longer c ss) ≡ suc (cond b 1 0 + semicolons cs)
     go true ss e = omega arith
     go false [] e = absurd (omega arith)
     go false (s ∷ ss) e = omega arith
@@ -218,7 +218,7 @@ first_bad→ os i e = subst (BadMarks os) e (first_bad_is os)
 -- ---- the last `@`
 -- one mark on: the board that is due, as far as it is known
 pub last_at_steps : (i : ℕ) (os : List ℕ) (d : NextBoard) → i < length os
-    → last_at i (drop i os) d ≡ last_at (suc i) (drop (suc i) os) (if eqb (get_or os i 0) at_mark then (λ _. Only i) else λ _. d)
+    → last_at i (drop i os) d ≡ last_at (suc i) (drop (suc i) os) (when eqb (get_or os i 0) at_mark then (λ _. Only i) else λ _. d)
 unfolding last_at
 last_at_steps i os d h = ap (λ (cs : List ℕ). last_at i cs d) (drop-cons os i 0 h)
 

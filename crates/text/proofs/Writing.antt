@@ -5,7 +5,7 @@ use Prim.Native.Nat.{ℕ, zero, suc, ◌+◌, ◌/◌, ◌%◌, ◌<◌}
 use native.Mathlib.Omega.{arith}
 use borrow.Author.Tests.{eq-eqb, ne_eqb}
 use lib.ListN.{length, get_or}
-use Rattle.base.specs.Branch.{if◌then◌else◌}
+use Rattle.base.specs.Branch.{when◌then◌else◌}
 use Rattle.base.specs.Lists.{from}
 use Rattle.rules.specs.Board.{nine}
 use Rattle.rules.specs.Position.{Position}
@@ -26,17 +26,17 @@ run_at f d i (suc n) (suc k) h = run_at f d (suc i) n k (omega arith) ∙ ap f (
 
 -- each tenth byte is a `/`
 pub slash_every_tenth : (p : Position) (k : ℕ) → k % 10 ≡ 9 → cells_byte p k ≡ slash
-unfolding cells_byte if◌then◌else◌
+unfolding cells_byte when◌then◌else◌
 slash_every_tenth p k e = rw (eq-eqb (k % 10) 9 e)
 
 -- the others are cells
 pub cell_elsewhere : (p : Position) (k : ℕ) → (k % 10 ≡ 9 → ⊥) → cells_byte p k ≡ cell_byte (p.cells (k / 10) (k % 10))
-unfolding cells_byte if◌then◌else◌
+unfolding cells_byte when◌then◌else◌
 cell_elsewhere p k n = rw (ne_eqb (k % 10) 9 n)
 
 -- the text is those bytes
 pub text_is_bytes : (p : Position) → text_of p ≡ map (byte_at p) (from 0 101)
-unfolding text_of byte_at cells_byte joined_by board_text if◌then◌else◌
+unfolding text_of byte_at cells_byte joined_by board_text when◌then◌else◌
 text_is_bytes p = refl
 
 -- every position's text has 101 bytes
@@ -61,7 +61,7 @@ abbrev pub cells_of : Position → List ℕ
 cells_of p = joined_by slash (board_text p) nine
 
 cells_are_bytes : (p : Position) → cells_of p ≡ map (cells_byte p) (from 0 89)
-unfolding cells_byte joined_by board_text if◌then◌else◌
+unfolding cells_byte joined_by board_text when◌then◌else◌
 cells_are_bytes p = refl
 
 -- they take 89 bytes

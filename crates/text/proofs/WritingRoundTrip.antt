@@ -9,7 +9,7 @@ use native.Mathlib.Decide.{ℕ_discrete}
 use native.Mathlib.Omega.{arith}
 use lib.Dec.{T, eqb, ltb, eqb→eq, eqb_refl, ltb→lt, nltb→le, lit<, T_not}
 use lib.ListN.{length, get_or}
-use Rattle.base.specs.Branch.{if◌then◌else◌}
+use Rattle.base.specs.Branch.{when◌then◌else◌}
 use Rattle.base.specs.Lists.{any, from}
 use Rattle.base.proofs.Bool.{and→, or→, is}
 use Rattle.base.proofs.Branch.{if_ind}
@@ -42,23 +42,23 @@ use Rattle.text.proofs.Writing.{cells_have_89_bytes, cells_at}
 
 -- ---- each byte reads as what it was written for
 side_reads : (w : Player) → side_of (letter w) ≡ some w
-unfolding side_of if◌then◌else◌
+unfolding side_of when◌then◌else◌
 side_reads X = refl
 side_reads O = refl
 
 state_reads : (g : GameState) → overall_mark (state_byte g) ≡ some g
-unfolding overall_mark side_of if◌then◌else◌
+unfolding overall_mark side_of when◌then◌else◌
 state_reads InPlay = refl
 state_reads Drawn = refl
 state_reads (Won X) = refl
 state_reads (Won O) = refl
 
 at_reads : overall_mark at_mark ≡ some InPlay
-unfolding overall_mark if◌then◌else◌
+unfolding overall_mark when◌then◌else◌
 at_reads = refl
 
 cell_reads : (s : CellState) → cell_mark (cell_byte s) ≡ some s
-unfolding cell_mark side_of if◌then◌else◌
+unfolding cell_mark side_of when◌then◌else◌
 cell_reads Empty = refl
 cell_reads (Played X) = refl
 cell_reads (Played O) = refl
@@ -225,7 +225,7 @@ read_is_written t p e =
 
 -- so can the empty board
 pub start_is_written : Written start
-unfolding result_of has_line any if◌then◌else◌
+unfolding result_of has_line any when◌then◌else◌
 start_is_written =
     record {
       is_proper = start_is_proper;

@@ -1,6 +1,6 @@
 -- A move as two letters, board then cell.
 use Rattle.std.specs.Prelude.{Bool, ◌&&◌, List, [], ◌∷◌, ℕ, ◌+◌, ◌-◌, leb}
-use Rattle.base.specs.Branch.{if◌then◌else◌}
+use Rattle.base.specs.Branch.{when◌then◌else◌}
 use Rattle.rules.specs.Play.{move_of, board_of, cell_of}
 use Rattle.text.specs.Bytes.{first_letter}
 
@@ -22,8 +22,8 @@ coordinate c = leb first_letter c && leb c (first_letter + 8)
 
 unfoldable pub read_letters : ℕ → ℕ → MoveReading
 read_letters b c =
-    if coordinate b
-    then (λ _. if coordinate c then (λ _. reads_move (move_of (b - first_letter) (c - first_letter))) else λ _. bad_character c)
+    when coordinate b
+    then (λ _. when coordinate c then (λ _. reads_move (move_of (b - first_letter) (c - first_letter))) else λ _. bad_character c)
     else λ _. bad_character b
 
 abbrev pub read_move : List ℕ → MoveReading

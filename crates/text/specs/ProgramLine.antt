@@ -1,7 +1,7 @@
 -- One line of the program: what it asks, and the text of the answer.
 use Rattle.std.specs.Prelude.{Bool, true, false, ◌&&◌, List, [], ◌∷◌, ◌++◌, ℕ, zero, suc, ◌+◌, ◌-◌, ◌*◌, ◌/◌, ◌%◌, eqb, leb, ltb, ℤ, pos, negsuc}
 use Rattle.std.proofs.Math.Option.{Option, none, some}
-use Rattle.base.specs.Branch.{if◌then◌else◌}
+use Rattle.base.specs.Branch.{when◌then◌else◌}
 use Rattle.rules.specs.declared.Player.TheVariants.{X, O}
 use Rattle.rules.specs.Status.{Status}
 use Rattle.rules.specs.Play.{no_move}
@@ -16,7 +16,7 @@ pub data Parted : Type 0 where
 
 -- with c in front: a blank is the last one where none follows it
 abbrev pub parted_with : ℕ → List ℕ → Parted → Parted
-parted_with c cs no_blank = if eqb c space then (λ _. around [] cs) else λ _. no_blank
+parted_with c cs no_blank = when eqb c space then (λ _. around [] cs) else λ _. no_blank
 parted_with c cs (around text rest) = around (c ∷ text) rest
 
 unfoldable pub parted : List ℕ → Parted
@@ -29,8 +29,8 @@ is_digit c = leb first_digit c && leb c (first_digit + 9)
 -- one or two digits
 unfoldable pub depth_of : List ℕ → Option ℕ
 depth_of [] = none
-depth_of (c ∷ []) = if is_digit c then (λ _. some (c - first_digit)) else λ _. none
-depth_of (c ∷ d ∷ []) = if is_digit c && is_digit d then (λ _. some (10 * (c - first_digit) + (d - first_digit))) else λ _. none
+depth_of (c ∷ []) = when is_digit c then (λ _. some (c - first_digit)) else λ _. none
+depth_of (c ∷ d ∷ []) = when is_digit c && is_digit d then (λ _. some (10 * (c - first_digit) + (d - first_digit))) else λ _. none
 depth_of (c ∷ d ∷ e ∷ cs) = none
 
 pub data Question : Type 0 where
@@ -55,7 +55,7 @@ asked line = asked_by (parted line)
 unfoldable pub in_places : ℕ → ℕ → List ℕ
 in_places zero n = []
 in_places (suc k) n =
-    if ltb n 10 then (λ _. (first_digit + n) ∷ []) else
+    when ltb n 10 then (λ _. (first_digit + n) ∷ []) else
     λ _. in_places k (n / 10) ++ ((first_digit + n % 10) ∷ [])
 
 -- n has at most n + 1 digits
@@ -78,7 +78,7 @@ status_letters s = shown s.x (letter X) ++ (shown s.o (letter O) ++ shown s.draw
 -- moves up to the first empty one
 unfoldable pub move_letters : List ℕ → List ℕ
 move_letters [] = []
-move_letters (m ∷ ms) = if eqb m no_move then (λ _. []) else λ _. move_text m ++ move_letters ms
+move_letters (m ∷ ms) = when eqb m no_move then (λ _. []) else λ _. move_text m ++ move_letters ms
 
 abbrev pub or_minus : List ℕ → List ℕ
 or_minus [] = minus ∷ []

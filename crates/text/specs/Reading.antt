@@ -9,7 +9,7 @@ use Rattle.rules.specs.declared.GameState.{GameState}
 use Rattle.rules.specs.declared.GameState.TheVariants.{InPlay, Drawn, Won}
 use Rattle.rules.specs.declared.NextBoard.{NextBoard}
 use Rattle.rules.specs.declared.NextBoard.TheVariants.{Any, Only}
-use Rattle.base.specs.Branch.{if◌then◌else◌}
+use Rattle.base.specs.Branch.{when◌then◌else◌}
 use Rattle.base.specs.Lists.{from}
 use Rattle.rules.specs.Board.{other, in_play, won_by, result_of}
 use Rattle.rules.specs.Position.{Position}
@@ -29,8 +29,8 @@ text_refusal (refuses n offset size) = n
 -- a letter, as the side that it names
 unfoldable pub side_of : ℕ → Option Player
 side_of c =
-    if eqb c (letter X) then (λ _. some X) else
-    λ _. if eqb c (letter O) then (λ _. some O) else λ _. none
+    when eqb c (letter X) then (λ _. some X) else
+    λ _. when eqb c (letter O) then (λ _. some O) else λ _. none
 
 abbrev pub won_mark : Option Player → Option GameState
 won_mark none = none
@@ -39,15 +39,15 @@ won_mark (some w) = some (Won w)
 -- an overall mark: in play for `.` and `@`, `#` drawn, a letter for the side that has won
 unfoldable pub overall_mark : ℕ → Option GameState
 overall_mark c =
-    if eqb c dot || eqb c at_mark then (λ _. some InPlay) else
-    λ _. if eqb c hash_mark then (λ _. some Drawn) else λ _. won_mark (side_of c)
+    when eqb c dot || eqb c at_mark then (λ _. some InPlay) else
+    λ _. when eqb c hash_mark then (λ _. some Drawn) else λ _. won_mark (side_of c)
 
 abbrev pub played_mark : Option Player → Option CellState
 played_mark none = none
 played_mark (some w) = some (Played w)
 
 unfoldable pub cell_mark : ℕ → Option CellState
-cell_mark c = if eqb c dot then (λ _. some Empty) else λ _. played_mark (side_of c)
+cell_mark c = when eqb c dot then (λ _. some Empty) else λ _. played_mark (side_of c)
 
 abbrev pub known : {A : Type 0} → Option A → Bool
 known none = false
@@ -64,7 +64,7 @@ first_longer c (s ∷ ss) = (c ∷ s) ∷ ss
 
 unfoldable pub sections : List ℕ → List (List ℕ)
 sections [] = [] ∷ []
-sections (c ∷ cs) = if eqb c semicolon then (λ _. [] ∷ sections cs) else λ _. first_longer c (sections cs)
+sections (c ∷ cs) = when eqb c semicolon then (λ _. [] ∷ sections cs) else λ _. first_longer c (sections cs)
 
 -- ---- the overall section: its first bad mark; and the last `@`, which is the next board
 abbrev pub one_on : Option ℕ → Option ℕ
@@ -73,32 +73,32 @@ one_on (some i) = some (suc i)
 
 unfoldable pub first_bad : List ℕ → Option ℕ
 first_bad [] = none
-first_bad (c ∷ cs) = if known (overall_mark c) then (λ _. one_on (first_bad cs)) else λ _. some 0
+first_bad (c ∷ cs) = when known (overall_mark c) then (λ _. one_on (first_bad cs)) else λ _. some 0
 
 -- i is the number of the first mark
 unfoldable pub last_at : ℕ → List ℕ → NextBoard → NextBoard
 last_at i [] d = d
-last_at i (c ∷ cs) d = last_at (suc i) cs (if eqb c at_mark then (λ _. Only i) else λ _. d)
+last_at i (c ∷ cs) d = last_at (suc i) cs (when eqb c at_mark then (λ _. Only i) else λ _. d)
 
 -- ---- the cells' section: nine boards of nine cells joined by `/`, 89 bytes; what follows is ignored
 -- the fault of byte i: a `/` lacking or replaced is 5, a cell that is lacking 6, a bad cell mark 3; 0 for none
 unfoldable pub fault_at : List ℕ → ℕ → ℕ
 fault_at cs i =
-    if eqb (i % 10) 9 then (λ _. if ltb i (length cs) && eqb (get_or cs i 0) slash then (λ _. 0) else λ _. 5) else
-    λ _. if not (ltb i (length cs)) then (λ _. 6) else
-    λ _. if known (cell_mark (get_or cs i 0)) then (λ _. 0) else λ _. 3
+    when eqb (i % 10) 9 then (λ _. when ltb i (length cs) && eqb (get_or cs i 0) slash then (λ _. 0) else λ _. 5) else
+    λ _. when not (ltb i (length cs)) then (λ _. 6) else
+    λ _. when known (cell_mark (get_or cs i 0)) then (λ _. 0) else λ _. 3
 
 unfoldable pub first_fault : List ℕ → List ℕ → ℕ
 first_fault cs [] = 0
-first_fault cs (i ∷ is) = let f = fault_at cs i in if eqb f 0 then (λ _. first_fault cs is) else λ _. f
+first_fault cs (i ∷ is) = let f = fault_at cs i in when eqb f 0 then (λ _. first_fault cs is) else λ _. f
 
 -- ---- the position that three good sections say: the overall marks are taken on trust, and only the lines of the side not to move are
 -- looked at
 unfoldable pub cell_in : List ℕ → ℕ → ℕ → CellState
-cell_in cs b c = if ltb b 9 && ltb c 9 then (λ _. or_else (cell_mark (get_or cs (10 * b + c) dot)) Empty) else λ _. Empty
+cell_in cs b c = when ltb b 9 && ltb c 9 then (λ _. or_else (cell_mark (get_or cs (10 * b + c) dot)) Empty) else λ _. Empty
 
 unfoldable pub state_in : List ℕ → ℕ → GameState
-state_in os b = if ltb b 9 then (λ _. or_else (overall_mark (get_or os b dot)) InPlay) else λ _. InPlay
+state_in os b = when ltb b 9 then (λ _. or_else (overall_mark (get_or os b dot)) InPlay) else λ _. InPlay
 
 unfoldable pub said : Player → List ℕ → List ℕ → Position
 said w os cs =
@@ -114,7 +114,7 @@ said w os cs =
 -- ---- the tests, in their order
 -- the cells' section begins at 12
 unfoldable pub read_cells : Player → List ℕ → List ℕ → Reading
-read_cells w os cs = let f = first_fault cs (from 0 89) in if eqb f 0 then (λ _. reads (said w os cs)) else λ _. refuses f 12 (length cs)
+read_cells w os cs = let f = first_fault cs (from 0 89) in when eqb f 0 then (λ _. reads (said w os cs)) else λ _. refuses f 12 (length cs)
 
 -- the overall section begins at 2
 abbrev pub read_marks : Option ℕ → Player → List ℕ → List ℕ → Reading
@@ -122,7 +122,7 @@ read_marks none w os cs = read_cells w os cs
 read_marks (some i) w os cs = refuses 5 (2 + i) 1
 
 unfoldable pub read_overall : Player → List ℕ → List ℕ → Reading
-read_overall w os cs = if eqb (length os) 9 then (λ _. read_marks (first_bad os) w os cs) else λ _. refuses 4 2 (length os)
+read_overall w os cs = when eqb (length os) 9 then (λ _. read_marks (first_bad os) w os cs) else λ _. refuses 4 2 (length os)
 
 -- the side is one letter
 abbrev pub lone_side : List ℕ → Option Player
@@ -143,4 +143,4 @@ read_sections (s ∷ os ∷ cs ∷ t ∷ ts) n = refuses 2 0 n
 
 -- over 256 bytes is 1, which has no place
 unfoldable pub read : List ℕ → Reading
-read text = if ltb 256 (length text) then (λ _. refuses 1 0 0) else λ _. read_sections (sections text) (length text)
+read text = when ltb 256 (length text) then (λ _. refuses 1 0 0) else λ _. read_sections (sections text) (length text)

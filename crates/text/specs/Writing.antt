@@ -5,7 +5,7 @@ use Rattle.rules.specs.declared.CellState.TheVariants.{Empty, Played}
 use Rattle.rules.specs.declared.GameState.{GameState}
 use Rattle.rules.specs.declared.GameState.TheVariants.{InPlay, Drawn, Won}
 use Rattle.rules.specs.declared.NextBoard.TheVariants.{Only}
-use Rattle.base.specs.Branch.{if◌then◌else◌}
+use Rattle.base.specs.Branch.{when◌then◌else◌}
 use Rattle.rules.specs.Board.{nine}
 use Rattle.rules.specs.Position.{Position, same_next_board}
 use Rattle.text.specs.Bytes.{semicolon, slash, dot, hash_mark, at_mark, letter}
@@ -21,7 +21,7 @@ cell_byte (Played w) = letter w
 
 -- the board that is due is marked, whatever its state
 unfoldable pub overall_byte : Position → ℕ → ℕ
-overall_byte p b = if same_next_board p.next_board (Only b) then (λ _. at_mark) else λ _. state_byte (p.states b)
+overall_byte p b = when same_next_board p.next_board (Only b) then (λ _. at_mark) else λ _. state_byte (p.states b)
 
 unfoldable pub board_text : Position → ℕ → List ℕ
 board_text p b = map (λ c. cell_byte (p.cells b c)) nine
@@ -38,11 +38,11 @@ text_of p = letter p.turn ∷ semicolon ∷ (map (overall_byte p) nine ++ (semic
 -- ---- the same, byte by byte
 -- what stands at place k of the cells' 89: cell k % 10 of board k / 10, and a `/` after nine of them
 unfoldable pub cells_byte : Position → ℕ → ℕ
-cells_byte p k = if eqb (k % 10) 9 then (λ _. slash) else λ _. cell_byte (p.cells (k / 10) (k % 10))
+cells_byte p k = when eqb (k % 10) 9 then (λ _. slash) else λ _. cell_byte (p.cells (k / 10) (k % 10))
 
 -- what stands at place i of the 101: side, `;`, nine overall marks, `;`, cells
 unfoldable pub byte_at : Position → ℕ → ℕ
 byte_at p i =
-    if eqb i 0 then (λ _. letter p.turn) else
-    λ _. if eqb i 1 || eqb i 11 then (λ _. semicolon) else
-    λ _. if ltb i 11 then (λ _. overall_byte p (i - 2)) else λ _. cells_byte p (i - 12)
+    when eqb i 0 then (λ _. letter p.turn) else
+    λ _. when eqb i 1 || eqb i 11 then (λ _. semicolon) else
+    λ _. when ltb i 11 then (λ _. overall_byte p (i - 2)) else λ _. cells_byte p (i - 12)

@@ -11,7 +11,7 @@ use lib.Dec.{T, eqb, ltb, eqb→eq, ltb→lt, lt→ltb, nltb→le, T_not}
 use lib.ListN.{replicate}
 use lib.IntN.{ℤ, neg_ℤ}
 use lib.Signed.{le_z, lt_z}
-use Rattle.base.specs.Branch.{if◌then◌else◌}
+use Rattle.base.specs.Branch.{when◌then◌else◌}
 use Rattle.base.proofs.ListsAgree.{same_by}
 use Rattle.base.proofs.Bool.{and→, →and, is}
 use Rattle.base.proofs.Branch.{if_ind, if_both}
@@ -85,7 +85,7 @@ module _ (n : ℕ) where
   -- where the unlimited search enters a position, the limited one does so too, or stops before it
   agree_entering : (s : Memory) (ku ko : Memory → Outcome) → ((s' : Memory) → Agree s' (ku s') (ko s')) →
       Agree s (entering unlimited s ku) (entering (at_most n) s ko)
-  unfolding entering if◌then◌else◌ Agree
+  unfolding entering when◌then◌else◌ Agree
   agree_entering s ku ko f = if_ind (Agree s (ku (enter s))) (ltb s.count n) _ _
       (λ t. both (ku (enter s)) (ltb→lt s.count n t) (f (enter s)))
       (λ t. no_more (ku (enter s)) (ko (enter s)) (nltb→le s.count n t) (f (enter s)))
@@ -185,7 +185,7 @@ module _ (n : ℕ) where
       next_depth allowed k w o = on_outcome o
           (λ s'. record { is_stopped = true; completed = w; memory = s' })
           (λ r pv s'. let w' = one_deeper w r pv s'.tally in
-          if decided r then (λ _. record { is_stopped = false; completed = w'; memory = s' }) else λ _. deepen G allowed k p w' s')
+          when decided r then (λ _. record { is_stopped = false; completed = w'; memory = s' }) else λ _. deepen G allowed k p w' s')
 
       beside_next : (k : ℕ) (w : Completed) (s : Memory) (upto : ℕ → SearchAnswer) (u o : Outcome) →
           record { is_stopped = false; completed = w; memory = s } ≡ upto 0 →

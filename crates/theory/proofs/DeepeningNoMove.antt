@@ -8,7 +8,7 @@ use Prim.Native.Nat.{ℕ, zero, suc, ◌≤◌, ◌<◌}
 use native.Mathlib.Omega.{arith}
 use lib.Dec.{T}
 use borrow.Author.Tests.{lt-ltb}
-use Rattle.base.specs.Branch.{if◌then◌else◌}
+use Rattle.base.specs.Branch.{when◌then◌else◌}
 use Rattle.base.proofs.Lists.{no_member}
 use Rattle.rules.specs.Play.{no_move}
 use Rattle.theory.specs.Game.{Game}
@@ -57,6 +57,6 @@ module _ (G : Game) (n : ℕ) (p : G.Pos) (s : Memory) where
         (over_none G below p highest no_move lowest pv [] s₁)
 
     pub no_move_is_lowest : (limit : ℕ) → 1 ≤ limit → analyze G (at_most n) limit p s ≡ no_move_answer
-    unfolding analyze deepen on_outcome if◌then◌else◌
+    unfolding analyze deepen on_outcome when◌then◌else◌
     no_move_is_lowest zero k = absurd (omega arith)
     no_move_is_lowest (suc limit) k = rw depth_1

@@ -8,7 +8,7 @@ use lib.Dec.{T}
 use lib.ListN.{replicate}
 use lib.IntN.{ℤ, neg_ℤ}
 use lib.Signed.{le_z, lt_z}
-use Rattle.base.specs.Branch.{if◌then◌else◌}
+use Rattle.base.specs.Branch.{when◌then◌else◌}
 use Rattle.base.specs.Lists.{In}
 use Rattle.base.proofs.Branch.{if_both}
 use Rattle.rules.specs.Play.{no_move}
@@ -34,8 +34,8 @@ pub record Alike (G H : Game) : Type 1 where
       R (G.play p m) (H.play q m)
 
 if_same : {A : Type 0} (c c' : Bool) → c ≡ c' → (x y x' y' : Unit {0} → A) → (T c → x tt ≡ x' tt) →
-    (T (not c) → y tt ≡ y' tt) → (if c then x else y) ≡ (if c' then x' else y')
-if_same {A} c c' e x y x' y' f g = if_both (λ (a b : A). a ≡ b) c x y x' y' f g ∙ ap (λ (z : Bool). if z then x' else y') e
+    (T (not c) → y tt ≡ y' tt) → (when c then x else y) ≡ (when c' then x' else y')
+if_same {A} c c' e x y x' y' f g = if_both (λ (a b : A). a ≡ b) c x y x' y' f g ∙ ap (λ (z : Bool). when z then x' else y') e
 
 entering_same : (n : Allowance) (s : Memory) (k k' : Memory → Outcome) → ((s₁ : Memory) → k s₁ ≡ k' s₁) →
     entering n s k ≡ entering n s k'
@@ -67,8 +67,8 @@ module _ (G H : Game) (A : Alike G H) where
     alike_moves (m ∷ ms) ok a pv low s =
         λ i. unless_stopped (below (G.play p m) (H.play q m) (A.same_play p q h t m (inl (ok m (inl refl)))) (neg_ℤ b) (neg_ℤ a) low m
         s i) (λ r low' s'.
-        if lt_z a (neg_ℤ r)
-        then (λ _. if le_z b (neg_ℤ r)
+        when lt_z a (neg_ℤ r)
+        then (λ _. when le_z b (neg_ℤ r)
         then (λ _. found (neg_ℤ r) (m ∷ low') (cut (A.same_turn p q h i) s' prev m))
         else λ _. alike_moves ms (λ x j. ok x (inr j)) (neg_ℤ r) (m ∷ low') low' s' i)
         else λ _. alike_moves ms (λ x j. ok x (inr j)) a pv low' s' i)
@@ -97,7 +97,7 @@ module _ (G H : Game) (A : Alike G H) where
       λ i. on_outcome (alike_search n (suc w.depth) p q h lowest highest (w.pv ++ (no_move ∷ [])) no_move (begin s) i)
       (λ s'. record { is_stopped = true; completed = w; memory = s' })
       (λ r pv s'. let w' = one_deeper w r pv s'.tally in
-      if decided r then (λ _. record { is_stopped = false; completed = w'; memory = s' }) else λ _. alike_deepen n k p q h w' s' i)
+      when decided r then (λ _. record { is_stopped = false; completed = w'; memory = s' }) else λ _. alike_deepen n k p q h w' s' i)
 
   -- the answers are equal, memory and all
   pub alike_analyze : (n : Allowance) (limit : ℕ) (p : G.Pos) (q : H.Pos) → A.R p q → (s : Memory) →

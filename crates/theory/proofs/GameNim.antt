@@ -10,7 +10,7 @@ use lib.Dec.{T, eqb, leb, le→leb, T_not}
 use lib.ListN.{set, replicate}
 use lib.IntN.{ℤ, pos, negsuc, ◌-ℤ◌}
 use lib.Signed.{◌≤ℤ◌, ◌<ℤ◌, le_z_yes}
-use Rattle.base.specs.Branch.{if◌then◌else◌}
+use Rattle.base.specs.Branch.{when◌then◌else◌}
 use Rattle.base.specs.Integers.{max_z}
 use Rattle.base.specs.Lists.{In, elem, filter}
 use Rattle.base.proofs.Bool.{and→, →and}
@@ -55,7 +55,7 @@ nim = record {
   moves = λ p. filter (λ m. leb m p.heap) takes;
   accepts = λ p m. elem m takes && leb m p.heap;
   play = λ p m. record { heap = p.heap - m; side = other p.side };
-  value = λ p. if eqb p.heap 0 then (λ _. lost) else λ _. pos ((p.heap * 7) % 11) -ℤ pos 5;
+  value = λ p. when eqb p.heap 0 then (λ _. lost) else λ _. pos ((p.heap * 7) % 11) -ℤ pos 5;
   key = λ p. 2 * p.heap + number p.side;
 }
 
@@ -136,7 +136,7 @@ junk = fresh_memory (record { to_x = set none_yet 3 2; to_o = set (set (set none
 
 -- a limit, a heap with X to move, and a memory
 unfoldable answer : Allowance → ℕ → ℕ → Memory → SearchAnswer
-unfolding analyze deepen on_outcome search entering unless_stopped over_moves candidates fresh elem filter if◌then◌else◌ begin enter leaf
+unfolding analyze deepen on_outcome search entering unless_stopped over_moves candidates fresh elem filter when◌then◌else◌ begin enter leaf
     hit answered cut some_move hints probed on_probe with_stored set_first from_word entry_of off begins look_up store suffices bound_of
 answer n limit h s = analyze nim n limit (start h) s
 
@@ -146,7 +146,7 @@ run n limit h s = let x = answer n limit h s in seen x.is_stopped x.memory.count
 -- plain minimax, computed
 plain_values : (plain nim 4 (start 14) ≡ negsuc 2) × (plain nim 5 (start 9) ≡ won) × (plain nim 6 (start 12) ≡ lost) ×
     (plain nim 5 (start 12) ≡ pos 2)
-unfolding plain best max_z filter if◌then◌else◌
+unfolding plain best max_z filter when◌then◌else◌
 plain_values = (refl, refl, refl, refl)
 
 -- ---- the table is off
@@ -239,13 +239,13 @@ played_out : ((play_out nim 4 (start 14) (2 ∷ 1 ∷ 3 ∷ 3 ∷ [])).accepted 
     (ends_on nim 4 (start 14) (2 ∷ 1 ∷ 3 ∷ 3 ∷ []) ≡ negsuc 2) ×
     ((play_out nim 4 (start 4) (2 ∷ 2 ∷ 7 ∷ 7 ∷ [])).accepted ≡ true) ×
     (ends_on nim 4 (start 4) (2 ∷ 2 ∷ 7 ∷ 7 ∷ []) ≡ lost) × (ends_on nim 1 (start 3) (3 ∷ []) ≡ won)
-unfolding play_out ends_on elem if◌then◌else◌
+unfolding play_out ends_on elem when◌then◌else◌
 played_out = (refl, refl, refl, refl, refl)
 
 -- a variation that is too short, or has a move that is not accepted, is not
 not_played_out : ((play_out nim 4 (start 14) (2 ∷ 1 ∷ 3 ∷ [])).accepted ≡ false) ×
     ((play_out nim 2 (start 4) (2 ∷ 3 ∷ [])).accepted ≡ false)
-unfolding play_out elem if◌then◌else◌
+unfolding play_out elem when◌then◌else◌
 not_played_out = (refl, refl)
 
 -- ---- the table is on

@@ -9,7 +9,7 @@ use lib.Dec.{eqb, eqb→eq}
 use lib.IntN.{ℤ, neg_ℤ}
 use lib.ListN.{replicate}
 use lib.Signed.{le_z, lt_z}
-use Rattle.base.specs.Branch.{if◌then◌else◌}
+use Rattle.base.specs.Branch.{when◌then◌else◌}
 use Rattle.base.specs.Lists.{elem}
 use Rattle.base.proofs.ListsAgree.{false_by}
 use Rattle.base.proofs.Branch.{if_ind}
@@ -23,19 +23,19 @@ use Rattle.theory.specs.OrderedSearch.{probe, on_probe, with_stored, set_first, 
 -- ---- a position that is not searched further
 pub search_stopped : (G : Game) (n : Allowance) (d : ℕ) (p : G.Pos) (a b : ℤ) (pv : List ℕ) (prev : ℕ) (s : Memory) →
     has_room n s.count ≡ false → search G n d p a b pv prev s ≡ stopped s
-unfolding search entering if◌then◌else◌
+unfolding search entering when◌then◌else◌
 search_stopped G n zero p a b pv prev s e = rw e
 search_stopped G n (suc d) p a b pv prev s e = rw e
 
 pub search_leaf_zero : (G : Game) (n : Allowance) (d : ℕ) (p : G.Pos) (a b : ℤ) (pv : List ℕ) (prev : ℕ) (s : Memory) →
     has_room n s.count ≡ true → d ≡ 0 → search G n d p a b pv prev s ≡ found (G.value p) pv (leaf (enter s))
-unfolding search entering if◌then◌else◌
+unfolding search entering when◌then◌else◌
 search_leaf_zero G n zero p a b pv prev s e z = rw e
 search_leaf_zero G n (suc d) p a b pv prev s e z = absurd (omega arith)
 
 pub search_leaf_over : (G : Game) (n : Allowance) (d : ℕ) (p : G.Pos) (a b : ℤ) (pv : List ℕ) (prev : ℕ) (s : Memory) →
     has_room n s.count ≡ true → G.over p ≡ true → search G n d p a b pv prev s ≡ found (G.value p) pv (leaf (enter s))
-unfolding search entering if◌then◌else◌
+unfolding search entering when◌then◌else◌
 search_leaf_over G n zero p a b pv prev s e o = rw e
 search_leaf_over G n (suc d) p a b pv prev s e o = rw (e, o)
 
@@ -53,7 +53,7 @@ module _ (G : Game) (n : Allowance) (p : G.Pos) (a b : ℤ) (pv : List ℕ) (pre
 
   search_asks : (d : ℕ) (s : Memory) → has_room n s.count ≡ true → 0 < d → G.over p ≡ false →
       search G n d p a b pv prev s ≡ acted (d - 1) d (probe (enter s) (G.key p) d a b)
-  unfolding search entering if◌then◌else◌
+  unfolding search entering when◌then◌else◌
   search_asks zero s e h o = absurd (omega arith)
   search_asks (suc d) s e h o =
       let same : d ≡ suc d - 1 = omega arith in
@@ -71,7 +71,7 @@ module _ (G : Game) (n : Allowance) (d : ℕ) (p : G.Pos) (a b : ℤ) (pv : List
   -- its entry suffices
   pub search_known : (e : Entry) → look_up s.table (G.key p) ≡ some e → suffices e d a b ≡ true →
       search G n d p a b pv prev s ≡ found e.value (set_first e.move pv) (answered (hit (enter s)))
-  unfolding probed on_probe if◌then◌else◌
+  unfolding probed on_probe when◌then◌else◌
   search_known e l t = asked (some e) l ∙ rw t
 
   -- it has none
@@ -86,7 +86,7 @@ module _ (G : Game) (n : Allowance) (d : ℕ) (p : G.Pos) (a b : ℤ) (pv : List
       search G n d p a b pv prev s
       ≡ unless_stopped (over_moves G (search G n (d - 1)) p b prev (candidates G (e.move ∷ []) (hit (enter s)) p prev pv) a pv
       (replicate (d - 1) no_move) (hit (enter s))) (λ r line' s₃. found r line' (with_stored s₃ (G.key p) d a b r line'))
-  unfolding probed on_probe if◌then◌else◌
+  unfolding probed on_probe when◌then◌else◌
   search_some e l t = asked (some e) l ∙ rw t
 
 -- ---- the moves that are tried
@@ -94,9 +94,9 @@ module _ (G : Game) (n : Allowance) (d : ℕ) (p : G.Pos) (a b : ℤ) (pv : List
 -- if it was, x and x' what is left if it was not
 turn_same : (ok c c' : Bool) (m : ℕ) (w w' x x' : List ℕ) → (ok ≡ true → c ≡ c') → w ≡ w' → x ≡ x' →
     (ok ≡ false → w ≡ x') → (ok ≡ false → x ≡ w') →
-    (if c then (λ _. w) else λ _. if ok then (λ _. m ∷ x) else λ _. x) ≡
-    (if c' then (λ _. w') else λ _. if ok then (λ _. m ∷ x') else λ _. x')
-unfolding if◌then◌else◌
+    (when c then (λ _. w) else λ _. when ok then (λ _. m ∷ x) else λ _. x) ≡
+    (when c' then (λ _. w') else λ _. when ok then (λ _. m ∷ x') else λ _. x')
+unfolding when◌then◌else◌
 turn_same true true true m w w' x x' e p q y z = p
 turn_same true true false m w w' x x' e p q y z = absurd (true≢false (e refl))
 turn_same true false true m w w' x x' e p q y z = absurd (false≢true (e refl))
@@ -124,7 +124,7 @@ module _ (ok : ℕ → Bool) where
 
   -- a move that is not accepted, in front, is passed over
   fresh_passes : (m : ℕ) (ms : List ℕ) → ok m ≡ false → fresh ok [] (m ∷ ms) ≡ fresh ok [] ms
-  unfolding fresh elem if◌then◌else◌
+  unfolding fresh elem when◌then◌else◌
   fresh_passes m ms f = rw f (fresh_seen (m ∷ []) [] ms (λ k t. ap (λ (c : Bool). c || false) (other_move m k f t)))
 
 -- an entry without a move names none
@@ -147,19 +147,19 @@ module _ (G : Game) (below : Search G) (p : G.Pos) (b : ℤ) (prev m : ℕ) (ms 
       -- it is no better
       pub over_not : lt_z a (neg_ℤ r) ≡ false → over_moves G below p b prev (m ∷ ms) a pv low s
           ≡ over_moves G below p b prev ms a pv low' s'
-      unfolding over_moves unless_stopped if◌then◌else◌
+      unfolding over_moves unless_stopped when◌then◌else◌
       over_not t = rw (e, t)
 
       -- it is better
       pub over_better : lt_z a (neg_ℤ r) ≡ true → le_z b (neg_ℤ r) ≡ false → over_moves G below p b prev (m ∷ ms) a pv low s
           ≡ over_moves G below p b prev ms (neg_ℤ r) (m ∷ low') low' s'
-      unfolding over_moves unless_stopped if◌then◌else◌
+      unfolding over_moves unless_stopped when◌then◌else◌
       over_better t u = rw (e, t, u)
 
       -- it reaches the upper edge
       pub over_cut : lt_z a (neg_ℤ r) ≡ true → le_z b (neg_ℤ r) ≡ true → over_moves G below p b prev (m ∷ ms) a pv low s
           ≡ found (neg_ℤ r) (m ∷ low') (cut (G.turn p) s' prev m)
-      unfolding over_moves unless_stopped if◌then◌else◌
+      unfolding over_moves unless_stopped when◌then◌else◌
       over_cut t u = rw (e, t, u)
 
 -- no move is left

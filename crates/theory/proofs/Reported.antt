@@ -1,7 +1,7 @@
 -- The entry's refusals at their edges, computed: each number, the limits that it rests on, and the order of the four.
 use mathlib.Core.Path.{◌≡◌, refl}
 use Prim.Native.Nat.{ℕ}
-use Rattle.base.specs.Branch.{if◌then◌else◌}
+use Rattle.base.specs.Branch.{when◌then◌else◌}
 use Rattle.base.specs.Checks.{first_failed}
 use Rattle.rules.specs.Evaluation.{accepted_weights}
 use Rattle.theory.specs.Reported.{Settings, entry_refusal}
@@ -30,7 +30,7 @@ pub record EntryEdges : Type 0 where
   pub too_great_board : entry_refusal (weighing 1 3 1001) 0 ≡ 20
 
 pub entry_edges : EntryEdges
-unfolding entry_refusal first_failed accepted_weights if◌then◌else◌
+unfolding entry_refusal first_failed accepted_weights when◌then◌else◌
 entry_edges = record {
   least = refl;
   most = refl;

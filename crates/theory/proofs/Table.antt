@@ -5,7 +5,7 @@ use mathlib.Core.List.{List, [], ◌∷◌}
 use mathlib.Core.Option.{Option, none, some}
 use Prim.Native.Nat.{ℕ}
 use lib.IntN.{ℤ, pos, negsuc}
-use Rattle.base.specs.Branch.{if◌then◌else◌}
+use Rattle.base.specs.Branch.{when◌then◌else◌}
 use Rattle.theory.specs.PlainMinimax.{lowest, highest}
 use Rattle.theory.specs.Table.{Entry, from_word, entry_of, off, begins, look_up, store, suffices, bound_of}
 
@@ -24,11 +24,11 @@ abbrev nine : List ℕ
 nine = 0 ∷ 0 ∷ 0 ∷ 9 ∷ 5 ∷ 1114117 ∷ []
 
 unfoldable looked : List ℕ → ℕ → Option Entry
-unfolding look_up off begins entry_of from_word if◌then◌else◌
+unfolding look_up off begins entry_of from_word when◌then◌else◌
 looked = look_up
 
 unfoldable stored : List ℕ → ℕ → Entry → List ℕ
-unfolding store off begins entry_of from_word if◌then◌else◌
+unfolding store off begins entry_of from_word when◌then◌else◌
 stored = store
 
 -- an entry is written to its slot, and read again
@@ -54,7 +54,7 @@ unfolding looked stored
 too_short = (refl, refl, refl)
 
 unfoldable read : ℕ → ℕ → Option Entry
-unfolding entry_of from_word if◌then◌else◌
+unfolding entry_of from_word when◌then◌else◌
 read = entry_of
 
 -- an entry is absent with depth 0 or 82, bound 3, or a bit beyond the move
@@ -90,5 +90,5 @@ sufficing = (refl, refl, refl, refl, refl, refl)
 -- a score at the lower edge is AtMost, at the upper one AtLeast, between them Exact
 bounds : (bound_of (pos 0) (pos 9) (pos 0) ≡ 2) × (bound_of (pos 0) (pos 9) (pos 9) ≡ 1) × (bound_of (pos 0) (pos 9) (pos 8) ≡ 0) ×
     (bound_of (pos 0) (pos 9) (pos 1) ≡ 0)
-unfolding bound_of if◌then◌else◌
+unfolding bound_of when◌then◌else◌
 bounds = (refl, refl, refl, refl)

@@ -1,7 +1,7 @@
 -- The deepening search: one depth after another up to the limit, or until a score says that the game is won or lost.
 use Rattle.std.specs.Prelude.{Bool, true, false, ◌||◌, List, [], ◌∷◌, ◌++◌, map, ℕ, zero, suc, ℤ, pos}
 use Rattle.std.specs.Int.Signed.{le_z}
-use Rattle.base.specs.Branch.{if◌then◌else◌}
+use Rattle.base.specs.Branch.{when◌then◌else◌}
 use Rattle.base.specs.Lists.{total}
 use Rattle.rules.specs.Play.{no_move}
 use Rattle.rules.specs.Evaluation.{won, lost}
@@ -60,7 +60,7 @@ module _ (G : Game) (n : Allowance) where
       on_outcome (search G n (suc w.depth) p lowest highest (w.pv ++ (no_move ∷ [])) no_move (begin s))
       (λ s'. record { is_stopped = true; completed = w; memory = s' })
       (λ r pv s'. let w' = one_deeper w r pv s'.tally in
-      if decided r then (λ _. record { is_stopped = false; completed = w'; memory = s' }) else λ _. deepen k p w' s')
+      when decided r then (λ _. record { is_stopped = false; completed = w'; memory = s' }) else λ _. deepen k p w' s')
 
   unfoldable pub analyze : ℕ → G.Pos → Memory → SearchAnswer
   analyze limit p s = deepen limit p nothing_yet s

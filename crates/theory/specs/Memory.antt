@@ -2,7 +2,7 @@
 use Rattle.std.specs.Prelude.{List, [], ◌∷◌, ℕ, suc, eqb, get_or, set, replicate}
 use Rattle.rules.specs.declared.Player.{Player}
 use Rattle.rules.specs.declared.Player.TheVariants.{X, O}
-use Rattle.base.specs.Branch.{if◌then◌else◌}
+use Rattle.base.specs.Branch.{when◌then◌else◌}
 use Rattle.rules.specs.Board.{other}
 use Rattle.rules.specs.Play.{no_move}
 
@@ -91,10 +91,10 @@ cut w s prev m = let t = s.tally in record {
 
 -- the move, unless it is the empty one
 unfoldable pub some_move : ℕ → List ℕ
-some_move m = if eqb m no_move then (λ _. []) else λ _. m ∷ []
+some_move m = when eqb m no_move then (λ _. []) else λ _. m ∷ []
 
 -- what is tried before the list of moves, with w to move: the response to the previous move, or lacking one the variation's move
 unfoldable pub hints : Player → Memory → ℕ → List ℕ → List ℕ
 hints w s prev pv =
     let response = get_or (responses_to s (other w)) prev no_move in
-    if eqb response no_move then (λ _. some_move (get_or pv 0 no_move)) else λ _. response ∷ []
+    when eqb response no_move then (λ _. some_move (get_or pv 0 no_move)) else λ _. response ∷ []

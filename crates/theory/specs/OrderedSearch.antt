@@ -2,7 +2,7 @@
 use Rattle.std.specs.Prelude.{Bool, true, List, [], ◌∷◌, ◌++◌, ℕ, zero, suc, ltb, ℤ, neg_ℤ, get_or, replicate}
 use Rattle.std.proofs.Math.Option.{Option, none, some}
 use Rattle.std.specs.Int.Signed.{le_z, lt_z}
-use Rattle.base.specs.Branch.{if◌then◌else◌}
+use Rattle.base.specs.Branch.{when◌then◌else◌}
 use Rattle.base.specs.Lists.{elem}
 use Rattle.rules.specs.Play.{no_move}
 use Rattle.theory.specs.Game.{Game}
@@ -29,7 +29,7 @@ unless_stopped (found r l s) k = k r l s
 
 -- one position more is counted and searched, or, where none is left of the allowance, the search stops
 unfoldable pub entering : Allowance → Memory → (Memory → Outcome) → Outcome
-entering n s k = if has_room n s.count then (λ _. k (enter s)) else λ _. stopped s
+entering n s k = when has_room n s.count then (λ _. k (enter s)) else λ _. stopped s
 
 -- ---- the table, asked for a key at a depth and within the window from a to b: a value and its move; or the moves to be tried first
 pub data Probed : Type 0 where
@@ -39,7 +39,7 @@ pub data Probed : Type 0 where
 unfoldable pub probed : Memory → ℕ → ℤ → ℤ → Option Entry → Probed
 probed s depth a b none = missed [] s
 probed s depth a b (some e) =
-    if suffices e depth a b then (λ _. known e.value e.move (answered (hit s))) else λ _. missed (e.move ∷ []) (hit s)
+    when suffices e depth a b then (λ _. known e.value e.move (answered (hit s))) else λ _. missed (e.move ∷ []) (hit s)
 
 abbrev pub probe : Memory → ℕ → ℕ → ℤ → ℤ → Probed
 probe s key depth a b = probed s depth a b (look_up s.table key)
@@ -62,8 +62,8 @@ set_first m (x ∷ l) = m ∷ l
 unfoldable pub fresh : (ℕ → Bool) → List ℕ → List ℕ → List ℕ
 fresh ok seen [] = []
 fresh ok seen (m ∷ ms) =
-    if elem m seen then (λ _. fresh ok seen ms) else
-    λ _. if ok m then (λ _. m ∷ fresh ok (m ∷ seen) ms) else λ _. fresh ok (m ∷ seen) ms
+    when elem m seen then (λ _. fresh ok seen ms) else
+    λ _. when ok m then (λ _. m ∷ fresh ok (m ∷ seen) ms) else λ _. fresh ok (m ∷ seen) ms
 
 module _ (G : Game) where
   -- the table's move; the response or the variation's move; the list of moves
@@ -80,8 +80,8 @@ module _ (G : Game) where
   over_moves below p b prev [] a pv low s = found a pv s
   over_moves below p b prev (m ∷ ms) a pv low s =
       unless_stopped (below (G.play p m) (neg_ℤ b) (neg_ℤ a) low m s) (λ r low' s'.
-      if lt_z a (neg_ℤ r)
-      then (λ _. if le_z b (neg_ℤ r)
+      when lt_z a (neg_ℤ r)
+      then (λ _. when le_z b (neg_ℤ r)
       then (λ _. found (neg_ℤ r) (m ∷ low') (cut (G.turn p) s' prev m))
       else λ _. over_moves below p b prev ms (neg_ℤ r) (m ∷ low') low' s')
       else λ _. over_moves below p b prev ms a pv low' s')
@@ -90,7 +90,7 @@ module _ (G : Game) where
   unfoldable pub search : Allowance → ℕ → Search
   search n zero p a b pv prev s = entering n s (λ s₁. found (G.value p) pv (leaf s₁))
   search n (suc d) p a b pv prev s = entering n s (λ s₁.
-      if G.over p then (λ _. found (G.value p) pv (leaf s₁)) else
+      when G.over p then (λ _. found (G.value p) pv (leaf s₁)) else
       λ _. on_probe (probe s₁ (G.key p) (suc d) a b)
       (λ v m s₂. found v (set_first m pv) s₂)
       (λ first s₂. unless_stopped (over_moves (search n d) p b prev (candidates first s₂ p prev pv) a pv (replicate d no_move) s₂)

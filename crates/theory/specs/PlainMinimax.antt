@@ -1,6 +1,6 @@
 -- Plain minimax: a leaf's value is its evaluation, any other position's the greatest of its moves' values as the other side sees them.
 use Rattle.std.specs.Prelude.{List, [], ◌∷◌, ℕ, zero, suc, ℤ, pos, negsuc, neg_ℤ}
-use Rattle.base.specs.Branch.{if◌then◌else◌}
+use Rattle.base.specs.Branch.{when◌then◌else◌}
 use Rattle.base.specs.Integers.{max_z}
 use Rattle.theory.specs.Game.{Game}
 
@@ -19,7 +19,7 @@ best f (m ∷ ms) = max_z (f m) (best f ms)
 module _ (G : Game) where
   unfoldable pub plain : ℕ → G.Pos → ℤ
   plain zero p = G.value p
-  plain (suc d) p = if G.over p then (λ _. G.value p) else λ _. best (λ m. neg_ℤ (plain d (G.play p m))) (G.moves p)
+  plain (suc d) p = when G.over p then (λ _. G.value p) else λ _. best (λ m. neg_ℤ (plain d (G.play p m))) (G.moves p)
 
   -- what move m promises: the value one ply lower, negated
   abbrev pub promises : ℕ → G.Pos → ℕ → ℤ

@@ -1,6 +1,6 @@
 -- The entry point of the search: its settings, what it refuses, and what it reports.
 use Rattle.std.specs.Prelude.{Bool, false, ◌&&◌, List, [], ◌∷◌, ◌++◌, ℕ, ◌-◌, ◌%◌, eqb, leb, ℤ, pos, length, replicate}
-use Rattle.base.specs.Branch.{if◌then◌else◌}
+use Rattle.base.specs.Branch.{when◌then◌else◌}
 use Rattle.base.specs.Checks.{first_failed}
 use Rattle.rules.specs.declared.Weights.{Weights}
 use Rattle.rules.specs.Play.{no_move}
@@ -70,7 +70,7 @@ module _ (G : Game) where
   -- of a search of p. 18: the allowance was spent inside depth 1
   abbrev pub report : G.Pos → SearchAnswer → Reported
   report p x = record {
-    number = if x.is_stopped && eqb x.completed.depth 0 then (λ _. 18) else λ _. 0;
+    number = when x.is_stopped && eqb x.completed.depth 0 then (λ _. 18) else λ _. 0;
     is_stopped = x.is_stopped;
     depth = x.completed.depth;
     score = x.completed.score;
@@ -84,5 +84,5 @@ module _ (G : Game) where
   unfoldable pub reported : Settings → G.Pos → Responses → List ℕ → Reported
   reported c p rs words =
       let n = entry_refusal c (length words) in
-      if eqb n 0 then (λ _. report p (analyze G (at_most c.allowance) c.max_depth p (fresh_memory rs words)))
+      when eqb n 0 then (λ _. report p (analyze G (at_most c.allowance) c.max_depth p (fresh_memory rs words)))
       else λ _. refused_entry n rs words

@@ -2,7 +2,7 @@
 use Rattle.std.specs.Prelude.{Bool, true, ◌&&◌, List, ℕ, zero, suc, ◌+◌, ◌-◌, ◌*◌, ◌/◌, ◌%◌, eqb, leb, ltb, ℤ, pos, negsuc, length, get_or, set}
 use Rattle.std.proofs.Math.Option.{Option, none, some}
 use Rattle.std.specs.Int.Signed.{le_z}
-use Rattle.base.specs.Branch.{if◌then◌else◌}
+use Rattle.base.specs.Branch.{when◌then◌else◌}
 use Rattle.theory.specs.Limits.{console}
 use Rattle.theory.specs.PlainMinimax.{lowest, highest}
 
@@ -16,7 +16,7 @@ pub record Entry : Type 0 where
 -- ---- words
 -- two's complement
 unfoldable pub from_word : ℕ → ℤ
-from_word w = if ltb w 0x8000_0000_0000_0000 then (λ _. pos w) else λ _. negsuc (0xffff_ffff_ffff_ffff - w)
+from_word w = when ltb w 0x8000_0000_0000_0000 then (λ _. pos w) else λ _. negsuc (0xffff_ffff_ffff_ffff - w)
 
 abbrev pub to_word : ℤ → ℕ
 to_word (pos n) = n
@@ -32,7 +32,7 @@ entry_of value rest =
     let depth = rest % 256 in
     let bound = rest / 256 % 256 in
     let move = rest / 65536 in
-    if ltb 0 depth && (leb depth console.deepest && (leb bound 2 && (leb move 255 && (le_z lowest v && le_z v highest))))
+    when ltb 0 depth && (leb depth console.deepest && (leb bound 2 && (leb move 255 && (le_z lowest v && le_z v highest))))
     then (λ _. some (record { value = v; depth = depth; bound = bound; move = move }))
     else λ _. none
 
@@ -47,9 +47,9 @@ begins words h = 3 * (h % (words / 3))
 
 unfoldable pub look_up : List ℕ → ℕ → Option Entry
 look_up words h =
-    if off words then (λ _. none) else
+    when off words then (λ _. none) else
     λ _. let i = begins (length words) h in
-    if eqb (get_or words i 0) h then (λ _. entry_of (get_or words (i + 1) 0) (get_or words (i + 2) 0)) else λ _. none
+    when eqb (get_or words i 0) h then (λ _. entry_of (get_or words (i + 1) 0) (get_or words (i + 2) 0)) else λ _. none
 
 -- what is stored goes where no entry is, or one of less depth
 abbrev pub replaces : ℕ → Option Entry → Bool
@@ -58,9 +58,9 @@ replaces depth (some e) = ltb e.depth depth
 
 unfoldable pub store : List ℕ → ℕ → Entry → List ℕ
 store words h e =
-    if off words then (λ _. words) else
+    when off words then (λ _. words) else
     λ _. let i = begins (length words) h in
-    if replaces e.depth (entry_of (get_or words (i + 1) 0) (get_or words (i + 2) 0))
+    when replaces e.depth (entry_of (get_or words (i + 1) 0) (get_or words (i + 2) 0))
     then (λ _. set (set (set words i h) (i + 1) (to_word e.value)) (i + 2) (rest_of e))
     else λ _. words
 
@@ -76,4 +76,4 @@ suffices e depth a b = leb depth e.depth && bound_suffices e.bound e.value a b
 
 -- what a score within the window from a to b is: AtMost if it did not rise, AtLeast if it reached the upper edge, else Exact
 unfoldable pub bound_of : ℤ → ℤ → ℤ → ℕ
-bound_of a b r = if le_z r a then (λ _. 2) else λ _. if le_z b r then (λ _. 1) else λ _. 0
+bound_of a b r = when le_z r a then (λ _. 2) else λ _. when le_z b r then (λ _. 1) else λ _. 0

@@ -1,6 +1,6 @@
 -- A variation, played from a position up to its depth, or to the game's end if sooner; and what is claimed of an answer.
 use Rattle.std.specs.Prelude.{◌≡◌, Bool, true, false, not, cond, ◌&&◌, List, [], ◌∷◌, ◌⊎◌, ℕ, zero, suc, ◌≤◌, T, ℤ, neg_ℤ, length}
-use Rattle.base.specs.Branch.{if◌then◌else◌}
+use Rattle.base.specs.Branch.{when◌then◌else◌}
 use Rattle.base.specs.Lists.{In}
 use Rattle.theory.specs.Game.{Game}
 use Rattle.theory.specs.PlainMinimax.{plain, promises}
@@ -20,7 +20,7 @@ module _ (G : Game) where
   play_out zero p pv = record { accepted = true; end = p; odd = false }
   play_out (suc d) p [] = record { accepted = G.over p; end = p; odd = false }
   play_out (suc d) p (m ∷ pv) =
-      if G.over p then (λ _. record { accepted = true; end = p; odd = false }) else
+      when G.over p then (λ _. record { accepted = true; end = p; odd = false }) else
       λ _. let w = play_out d (G.play p m) pv in
       record { accepted = G.accepts p m && w.accepted; end = w.end; odd = not w.odd }
 

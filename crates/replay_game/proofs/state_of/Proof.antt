@@ -1,24 +1,24 @@
 -- Three numbers, and any other.
 use borrow.Author.Tests.{ne_eqb}
-use Rattle.base.specs.Branch.{if◌then◌else◌}
+use Rattle.base.specs.Branch.{when◌then◌else◌}
 use Rattle.replay_game.specs.Records.{state_of}
 use Rattle.replay_game.proofs.state_of.Statement.{statement}
 use Rattle.replay_game.proofs.state_of.Tie as tie
 
 returns : tie.Need-returns
-unfolding state_of if◌then◌else◌
+unfolding state_of when◌then◌else◌
 returns c = rw c.match.keys1
 
 returns-2 : tie.Need-returns-2
-unfolding state_of if◌then◌else◌
+unfolding state_of when◌then◌else◌
 returns-2 c = rw c.match.keys2
 
 returns-3 : tie.Need-returns-3
-unfolding state_of if◌then◌else◌
+unfolding state_of when◌then◌else◌
 returns-3 c = rw c.match.keys3
 
 returns-4 : tie.Need-returns-4
-unfolding state_of if◌then◌else◌
+unfolding state_of when◌then◌else◌
 returns-4 c =
     let r = c.match.rest in
     rw (ne_eqb _ 0 r.0.0.1, ne_eqb _ 1 r.0.1, ne_eqb _ 2 r.1)

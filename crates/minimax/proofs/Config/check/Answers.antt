@@ -1,7 +1,7 @@
 -- The tests are the definition's, in its order.
 use mathlib.Core.Path.{◌≡◌, sym, ◌∙◌}
 use mathlib.Core.Bool.{Bool}
-use Rattle.base.specs.Branch.{if◌then◌else◌}
+use Rattle.base.specs.Branch.{when◌then◌else◌}
 use Rattle.theory.specs.Reported.{entry_refusal}
 use Rattle.minimax.specs.Report.{settings_of}
 use Rattle.minimax.proofs.ReportRefusals.{no_depth, too_deep, no_allowance, too_many, not_threes, too_long, weights_decide}
@@ -38,15 +38,15 @@ returns-then-words-gt-MOST_WORDS c =
 
 -- the weights decide where all before them passed
 pub returns-then-not-are_accepted : goal.returns-then-not-are_accepted
-unfolding if◌then◌else◌
-returns-then-not-are_accepted c = 
+unfolding when◌then◌else◌
+returns-then-not-are_accepted c =
     weights_decide (settings_of c.args.self) c.args.words c.if-self-eq0.false c.if-self-gt-DEEPEST.false
     c.if-self-eq0-2.false c.if-self-gt-MOST_POSITIONS.false c.if-words-ne0.false c.if-words-gt-MOST_WORDS.false
     (sym c.are_accepted.ensures ∙ c.if-not-are_accepted.true)
 
 pub returns : goal.returns
-unfolding if◌then◌else◌
-returns c = 
+unfolding when◌then◌else◌
+returns c =
     weights_decide (settings_of c.args.self) c.args.words c.if-self-eq0.false c.if-self-gt-DEEPEST.false
     c.if-self-eq0-2.false c.if-self-gt-MOST_POSITIONS.false c.if-words-ne0.false c.if-words-gt-MOST_WORDS.false
     (sym c.are_accepted.ensures ∙ c.if-not-are_accepted.false)

@@ -1,6 +1,6 @@
 -- Each ending as the definition says it.
 use mathlib.Core.Path.{sym, ap}
-use Rattle.base.specs.Branch.{if◌then◌else◌}
+use Rattle.base.specs.Branch.{when◌then◌else◌}
 use Rattle.minimax.specs.declared.Ending.{Ending}
 use Rattle.minimax.specs.Report.{ending_number, ending_stopped}
 use Rattle.replay_search.specs.Records.{ending}
@@ -22,11 +22,11 @@ number-requires : tie.Need-number-requires
 number-requires c κs = search rules
 
 returns : tie.Need-returns
-unfolding ending if◌then◌else◌
+unfolding ending when◌then◌else◌
 returns c = ap (λ (e : Ending). ending (ending_number e) (ending_stopped e)) (sym c.enum_told.given.1)
 
 returns-2 : tie.Need-returns-2
-unfolding ending if◌then◌else◌
+unfolding ending when◌then◌else◌
 returns-2 c = ap (λ (e : Ending). ending (ending_number e) (ending_stopped e)) (sym c.enum-told2.given.1)
 
 returns-3 : tie.Need-returns-3

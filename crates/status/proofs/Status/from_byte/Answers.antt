@@ -2,7 +2,7 @@
 use mathlib.Core.Path.{sym, ap}
 use Prim.Native.Nat.{ℕ}
 use native.Mathlib.Omega.{arith}
-use Rattle.base.specs.Branch.{if◌then◌else◌}
+use Rattle.base.specs.Branch.{when◌then◌else◌}
 use Rattle.rules.specs.Status.{from_byte}
 use Rattle.status.specs.Sets.{read_of}
 use Rattle.status.proofs.Sets.{over_7_is_nothing, byte_is_set}
@@ -12,11 +12,11 @@ pub returns-then-v-gt-VALID_BITS : goal.returns-then-v-gt-VALID_BITS
 returns-then-v-gt-VALID_BITS c = over_7_is_nothing _ (omega arith)
 
 pub returns-in-0 : goal.returns-in-0
-unfolding from_byte if◌then◌else◌
+unfolding from_byte when◌then◌else◌
 returns-in-0 c = sym (ap (λ (v : ℕ). read_of (from_byte v)) c.in-0.is)
 
 pub returns-in-3 : goal.returns-in-3
-unfolding from_byte if◌then◌else◌
+unfolding from_byte when◌then◌else◌
 returns-in-3 c = sym (ap (λ (v : ℕ). read_of (from_byte v)) c.in-3.is)
 
 pub returns-in_default : goal.returns-in_default
