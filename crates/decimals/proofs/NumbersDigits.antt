@@ -11,7 +11,7 @@ use lib.Dec.{leb}
 use borrow.Author.Tests.{leb-true, lt-ltb, le-ltb, eq-eqb, ne_eqb}
 use Rattle.base.specs.Branch.{when◌then◌else◌}
 use Rattle.decimals.specs.declared.number.Number.TheVariants.{Is, Bad}
-use Rattle.decimals.specs.declared.number.Signed.TheVariants.{Bad as None}
+use Rattle.decimals.specs.declared.number.Signed.TheVariants.{Bad as NoWhole}
 use Rattle.decimals.specs.Numbers.{between, with_digit, digits_after, read_number, positive_of, negative_of, read_signed}
 
 -- ---- a byte within two others
@@ -61,7 +61,7 @@ module _ (text : List ℕ) (value i : ℕ) where
   digits_end h = rw (drop_of_length-le text h)
 
 -- ---- a sign
-pub signed_none : (text : List ℕ) → length text ≡ 0 → None ≡ read_signed text
+pub signed_none : (text : List ℕ) → length text ≡ 0 → NoWhole ≡ read_signed text
 unfolding read_signed
 signed_none [] h = refl
 signed_none (b ∷ bs) h = absurd (omega arith)

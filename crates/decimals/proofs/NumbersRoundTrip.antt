@@ -17,7 +17,7 @@ use Rattle.text.specs.ProgramLine.{in_places, decimal, signed}
 use Rattle.decimals.specs.declared.number.Number.{Number}
 use Rattle.decimals.specs.declared.number.Number.TheVariants.{Is, Bad}
 use Rattle.decimals.specs.declared.number.Signed.{Signed}
-use Rattle.decimals.specs.declared.number.Signed.TheVariants.{Is as Whole, Bad as None}
+use Rattle.decimals.specs.declared.number.Signed.TheVariants.{Is as Whole, Bad as NoWhole}
 use Rattle.decimals.specs.Numbers.{between, with_digit, and_then, digits_after, read_number, positive_of, negative_of, read_signed}
 use Rattle.decimals.proofs.NumbersDigits.{within_bounds, digit_fits, no_digit, some_digits}
 
@@ -204,10 +204,10 @@ SignedAfterZeros text (negsuc n) = MinusAfterZeros text (suc n)
 same_integer : (y z : ℤ) → Whole y ≡ Whole z → y ≡ z
 same_integer y z e = cc
 
-none_is_bad : (z : ℤ) → None ≡ Whole z → ⊥
+none_is_bad : (z : ℤ) → NoWhole ≡ Whole z → ⊥
 none_is_bad z e = let c : ◌≡◌ {A = ℕ} 0 1 = cc in omega arith
 
-small_read : (f : ℕ → ℤ) (n : ℕ) (z : ℤ) → (when ltb n (2 ^ 63) then (λ _. Whole (f n)) else λ _. None) ≡ Whole z →
+small_read : (f : ℕ → ℤ) (n : ℕ) (z : ℤ) → (when ltb n (2 ^ 63) then (λ _. Whole (f n)) else λ _. NoWhole) ≡ Whole z →
     (n < 2 ^ 63) × (f n ≡ z)
 small_read f n z e = if_ind (λ (s : Signed). s ≡ Whole z → (n < 2 ^ 63) × (f n ≡ z)) (ltb n (2 ^ 63)) _ _
     (λ t h. (ltb→lt n (2 ^ 63) t, same_integer (f n) z h)) (λ _ h. absurd (none_is_bad z h)) e

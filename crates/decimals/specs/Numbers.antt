@@ -4,7 +4,7 @@ use Rattle.base.specs.Branch.{when◌then◌else◌}
 use Rattle.decimals.specs.declared.number.Number.{Number}
 use Rattle.decimals.specs.declared.number.Number.TheVariants.{Is, Bad}
 use Rattle.decimals.specs.declared.number.Signed.{Signed}
-use Rattle.decimals.specs.declared.number.Signed.TheVariants.{Is as Whole, Bad as None}
+use Rattle.decimals.specs.declared.number.Signed.TheVariants.{Is as Whole, Bad as NoWhole}
 
 abbrev pub between : ℕ → ℕ → ℕ → Bool
 between b low high = leb low b && leb b high
@@ -27,13 +27,13 @@ read_number [] = Bad
 read_number (b ∷ bs) = digits_after 0 (b ∷ bs)
 
 unfoldable pub positive_of : Number → Signed
-positive_of (Is n) = when ltb n (2 ^ 63) then (λ _. Whole (pos n)) else λ _. None
-positive_of Bad = None
+positive_of (Is n) = when ltb n (2 ^ 63) then (λ _. Whole (pos n)) else λ _. NoWhole
+positive_of Bad = NoWhole
 
 unfoldable pub negative_of : Number → Signed
-negative_of (Is n) = when ltb n (2 ^ 63) then (λ _. Whole (neg_ℤ (pos n))) else λ _. None
-negative_of Bad = None
+negative_of (Is n) = when ltb n (2 ^ 63) then (λ _. Whole (neg_ℤ (pos n))) else λ _. NoWhole
+negative_of Bad = NoWhole
 
 unfoldable pub read_signed : List ℕ → Signed
-read_signed [] = None
+read_signed [] = NoWhole
 read_signed (b ∷ bs) = when eqb b 0x2d then (λ _. negative_of (read_number bs)) else λ _. positive_of (read_number (b ∷ bs))
