@@ -13,7 +13,7 @@ use Rattle.rules.specs.Evaluation.{accepted_weights}
 use Rattle.theory.specs.Limits.{console}
 use Rattle.theory.specs.PlainMinimax.{lowest, highest}
 use Rattle.theory.specs.Memory.{Memory, begin, fresh_memory}
-use Rattle.theory.specs.OrderedSearch.{at_most, Outcome, stopped, found, search}
+use Rattle.theory.specs.OrderedSearch.{at_most, Outcome, found, search}
 use Rattle.theory.specs.Deepening.{Completed, nothing_yet, one_deeper, SearchAnswer, decided, on_outcome, deepen, analyze}
 use Rattle.theory.proofs.OrderedSearchGrowth.{Ends, search_allowed}
 use Rattle.game.specs.declared.Game.{Game}

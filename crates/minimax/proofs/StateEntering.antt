@@ -16,7 +16,7 @@ use Rattle.rules.specs.Play.{accepts, no_move}
 use Rattle.rules.specs.Evaluation.{evaluate}
 use Rattle.theory.specs.Table.{Entry as Meant, look_up, suffices}
 use Rattle.theory.specs.Memory.{Memory, enter, leaf, hit, answered, some_move}
-use Rattle.theory.specs.OrderedSearch.{at_most, has_room, Outcome, stopped, found, unless_stopped, with_stored, candidates, over_moves}
+use Rattle.theory.specs.OrderedSearch.{at_most, has_room, Outcome, found, unless_stopped, with_stored, candidates, over_moves}
 use Rattle.theory.specs.OrderedSearch.{search}
 use Rattle.theory.proofs.OrderedSearchArms.{search_stopped, search_leaf_zero, search_leaf_over, search_known, search_none, search_some}
 use Rattle.theory.proofs.OrderedSearchArms.{candidates_some}

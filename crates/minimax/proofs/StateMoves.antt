@@ -19,7 +19,7 @@ use Rattle.rules.proofs.Evaluation.{value_inside, finished_within}
 use Rattle.rules.specs.Position.{Position}
 use Rattle.theory.specs.PlainMinimax.{lowest, highest}
 use Rattle.theory.specs.Memory.{Memory, enter, leaf, cut, some_move}
-use Rattle.theory.specs.OrderedSearch.{at_most, Outcome, stopped, found, candidates, over_moves, search}
+use Rattle.theory.specs.OrderedSearch.{at_most, Outcome, found, candidates, over_moves, search}
 use Rattle.theory.proofs.OrderedSearch.{Gives as Finds}
 use Rattle.theory.proofs.OrderedSearchArms.{over_stopped, over_not, over_better, over_cut, over_none}
 use Rattle.theory.proofs.OrderedSearchGrowth.{Ends, Grown, grown_refl, grown_trans, search_grows, search_allowed}

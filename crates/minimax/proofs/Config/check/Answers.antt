@@ -1,8 +1,6 @@
 -- The tests are the definition's, in its order.
-use mathlib.Core.Path.{◌≡◌, sym, ◌∙◌}
-use mathlib.Core.Bool.{Bool}
+use mathlib.Core.Path.{sym, ◌∙◌}
 use Rattle.base.specs.Branch.{when◌then◌else◌}
-use Rattle.theory.specs.Reported.{entry_refusal}
 use Rattle.minimax.specs.Report.{settings_of}
 use Rattle.minimax.proofs.ReportRefusals.{no_depth, too_deep, no_allowance, too_many, not_threes, too_long, weights_decide}
 use Rattle.minimax.proofs.Config.check.Goals as goal

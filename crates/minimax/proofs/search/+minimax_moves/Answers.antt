@@ -1,19 +1,18 @@
 -- A position is entered, answered or searched over its moves, and each turn over the moves is one of the definition's.
-use mathlib.Core.Path.{◌≡◌, refl, sym, ap, ◌∙◌}
-use mathlib.Core.Bool.{Bool, true, false}
+use mathlib.Core.Path.{refl, sym, ap, ◌∙◌}
+use mathlib.Core.Bool.{true, false}
 use mathlib.Core.List.{[]}
 use Prim.Native.Nat.{ℕ}
 use native.Mathlib.Omega.{arith}
-use lib.ListN.{length}
 use mir.Syntax.{w64}
 use mir.Val.{to_z}
 use Rattle.minimax.specs.declared.search.NodeResult.{NodeResult}
 use Rattle.base.proofs.Signed.{result}
 use Rattle.minimax.proofs.StateScores.{told}
-use Rattle.minimax.proofs.StateEntering.{Begun as Entering, Looked, Knows, Goes, may_enter, may_leaf, may_hit, may_suffice}
+use Rattle.minimax.proofs.StateEntering.{Begun as Entering, Looked, Knows, Goes, may_leaf, may_hit, may_suffice}
 use Rattle.minimax.proofs.StateEntering.{stop_gives, leaf_gives, none_goes, known_gives, some_goes, goes_gives, goes_on}
-use Rattle.minimax.proofs.StateMoves.{stand, Turn, Begun, Held, Met, Brought, Raised, order_shorter, words_long, may_raise}
-use Rattle.minimax.proofs.StateMoves.{turn_first, turn_done, may_count, may_tell_leaf, leaf_below, stop_below, by_parts}
+use Rattle.minimax.proofs.StateMoves.{stand, Held, Met, Brought, Raised, order_shorter, may_raise}
+use Rattle.minimax.proofs.StateMoves.{turn_done, may_tell_leaf, leaf_below, stop_below, by_parts}
 use Rattle.minimax.proofs.StateMoves.{under_asked, under_counted, under_lower, turn_stopped, score_within, cut_room, turn_not}
 use Rattle.minimax.proofs.StateMoves.{turn_better, turn_cut}
 use Rattle.minimax.proofs.search.+minimax_moves.Goals as goal
@@ -26,16 +25,16 @@ use Rattle.minimax.proofs.search.+minimax_moves.Goals.{moves-then-is_leaf+else-s
 -- ---- the search of a position: entered, no leaf, and what the table has
 abbrev entering : (t : ℕ) → minimax-After-enter-s t → Entering
 entering t c = record {
-    a = c.args.a;
-    s = c.args.state;
-    l = c.args.pv;
-    words = c.args.words.now;
-    asked = c.requires.0;
-    counted = c.requires.1;
-    more = c.if-state-a.false;
-    s₁ = c.enter-s.result;
-    entered = c.enter-s.ensures;
-  }
+  a = c.args.a;
+  s = c.args.state;
+  l = c.args.pv;
+  words = c.args.words.now;
+  asked = c.requires.0;
+  counted = c.requires.1;
+  more = c.if-state-a.false;
+  s₁ = c.enter-s.result;
+  entered = c.enter-s.ensures;
+}
 
 pub minimax-returns-then-state-a : goal.minimax-returns-then-state-a
 minimax-returns-then-state-a t c =
@@ -94,13 +93,13 @@ minimax-moves-f-requires t c =
     let goes : Goes e c.match-held.first c.match-held.s = elim c.match-held.branch [
       | minimax-in-Absent w ↦ goes_on w.first-is w.s-is (none_goes k w.in-Absent.is c.none-first.result c.none-first.ensures)
       | minimax-in-Entry+else-suffices w ↦ goes_on w.first-is w.s-is (some_goes {k = k} (record {
-          entry = _;
-          is_held = w.in-Entry.is;
-          s₂ = w.hit-s.result;
-          was_hit = w.hit-s.ensures;
-          b = w.suffices.result;
-          told_suffices = w.suffices.ensures;
-        }) w.if-suffices.false _ refl)
+        entry = _;
+        is_held = w.in-Entry.is;
+        s₂ = w.hit-s.result;
+        was_hit = w.hit-s.ensures;
+        b = w.suffices.result;
+        told_suffices = w.suffices.ensures;
+      }) w.if-suffices.false _ refl)
     ] in
     (omega (arith, c.decreases), (c.requires.0, goes.ready))
 
@@ -119,40 +118,39 @@ minimax-returns t c =
     let goes : Goes e c.match-held.first c.match-held.s = elim c.match-held.branch [
       | minimax-in-Absent w ↦ goes_on w.first-is w.s-is (none_goes k w.in-Absent.is c.none-first.result c.none-first.ensures)
       | minimax-in-Entry+else-suffices w ↦ goes_on w.first-is w.s-is (some_goes {k = k} (record {
-          entry = _;
-          is_held = w.in-Entry.is;
-          s₂ = w.hit-s.result;
-          was_hit = w.hit-s.ensures;
-          b = w.suffices.result;
-          told_suffices = w.suffices.ensures;
-        }) w.if-suffices.false _ refl)
+        entry = _;
+        is_held = w.in-Entry.is;
+        s₂ = w.hit-s.result;
+        was_hit = w.hit-s.ensures;
+        b = w.suffices.result;
+        told_suffices = w.suffices.ensures;
+      }) w.if-suffices.false _ refl)
     ] in
     goes_gives goes c.moves-f.ensures c.store.ensures
 
 -- ---- the search over its moves: where the loop begins and stands, the move that it meets, and what is found below that
 abbrev held : (t : ℕ) → moves-At-loop-a t → Held
 held t c = record {
-    begun = record {
-      a = c.args.a;
-      first = c.args.first;
-      pv = c.args.pv;
-      from = stand c.args.words.now c.order-order.result c.args.state c.best-best.result c.empty-local.result;
-      three = omega arith;
-      asked = c.requires.0;
-      ready = c.requires.1;
-      order_is = c.order-order.ensures c.args.words.now;
-      best_is = c.best-best.ensures;
-      local_is = c.empty-local.ensures;
-    };
-    at = stand c.loop-a.words c.loop-a.order c.loop-a.s c.loop-a.best c.loop-a.local;
-    turn = c.loop-a.invariant;
-  }
+  begun = record {
+    a = c.args.a;
+    first = c.args.first;
+    pv = c.args.pv;
+    from = stand c.args.words.now c.order-order.result c.args.state c.best-best.result c.empty-local.result;
+    three = omega arith;
+    asked = c.requires.0;
+    ready = c.requires.1;
+    order_is = c.order-order.ensures c.args.words.now;
+    best_is = c.best-best.ensures;
+    local_is = c.empty-local.ensures;
+  };
+  at = stand c.loop-a.words c.loop-a.order c.loop-a.s c.loop-a.best c.loop-a.local;
+  turn = c.loop-a.invariant;
+}
 
 pub moves-returns-then-is_none : goal.moves-returns-then-is_none
 moves-returns-then-is_none t c =
     turn_done (held t (goal.at.moves-returns-then-is_none t c).At-loop-a) c.next-child.ensures
     (sym c.is_none.ensures ∙ c.if-is_none.true) c.of.ensures
-
 
 -- at a leaf, where no position more may be entered
 pub moves-returns-then-s-a : goal.moves-returns-then-s-a
@@ -258,20 +256,23 @@ whole t c =
       next = c.next-child.ensures;
       is_some = sym c.is_none.ensures ∙ c.if-is_none.false;
       under_is = c.below-below.ensures;
-    } in
-    (h, m, record {
-      r = record { state = c.if-is_leaf.s; pv = c.if-is_leaf.local; score = to_z w64 c.if-is_leaf.score-bits; stopped = false };
-      words = c.if-is_leaf.words;
-      gives = elim c.if-is_leaf.branch [
-        | moves-then-is_leaf+else-s-a w ↦ by_parts _ _ refl (leaf_below m w.if-s-a.false w.enter.result w.enter.ensures w.leaf-s.result
-            w.leaf-s.ensures c.is_leaf.result c.is_leaf.ensures w.if-is_leaf.true _
-            (result w.evaluate-score.type_inv w.evaluate-score.ensures)) w.s-is w.local-is w.score-is w.words-is
-        | moves-else-is_leaf+else-r w ↦ by_parts w.minimax-r.result w.minimax-r.new.words w.if-r.false w.minimax-r.ensures
-            w.s-is w.local-is (w.score-is ∙ told w.minimax-r.result.score (omega arith)) w.words-is
-      ];
-      long = c.if-is_leaf.auto.words;
-      is_stopped = refl;
-    })
+    } in (
+      h,
+      m,
+      record {
+        r = record { state = c.if-is_leaf.s; pv = c.if-is_leaf.local; score = to_z w64 c.if-is_leaf.score-bits; stopped = false };
+        words = c.if-is_leaf.words;
+        gives = elim c.if-is_leaf.branch [
+          | moves-then-is_leaf+else-s-a w ↦ by_parts _ _ refl (leaf_below m w.if-s-a.false w.enter.result w.enter.ensures w.leaf-s.result
+              w.leaf-s.ensures c.is_leaf.result c.is_leaf.ensures w.if-is_leaf.true _
+              (result w.evaluate-score.type_inv w.evaluate-score.ensures)) w.s-is w.local-is w.score-is w.words-is
+          | moves-else-is_leaf+else-r w ↦ by_parts w.minimax-r.result w.minimax-r.new.words w.if-r.false w.minimax-r.ensures
+              w.s-is w.local-is (w.score-is ∙ told w.minimax-r.result.score (omega arith)) w.words-is
+        ];
+        long = c.if-is_leaf.auto.words;
+        is_stopped = refl;
+      },
+    )
 
 pub moves-is_below-requires : goal.moves-is_below-requires
 moves-is_below-requires t c = score_within (whole t c).2
