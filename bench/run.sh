@@ -9,7 +9,7 @@ set -euo pipefail
 checkout=$(cd "$1" && pwd)
 cd "$(dirname "${BASH_SOURCE[0]}")/.."
 
-rt staticlib interface
+tools/build interface
 tools/oracle/build.sh "$checkout"
 (cd bench && cargo build --release --quiet --target-dir ../target/bench)
 bench=target/bench/release/bench

@@ -12,11 +12,11 @@ checkout=
 if [ $# -eq 1 ]; then checkout=$(cd "$1" && pwd); fi
 cd "$(dirname "${BASH_SOURCE[0]}")/.."
 
-rt staticlib interface
+tools/build interface
 
 mkdir -p target/bindings
 sed -nE 's/^(#define| )* ULTIMATTT_([A-Z_]+) (= )?([0-9][0-9a-fx]*).*/\2 = \4/p' bindings/c/ultimattt.h > target/bindings/numbers
-sed -nE '/^[A-Z-]+ = [0-9a-fx]+$/ { y/-/_/; p }' crates/interface/specs/Header.antt | diff target/bindings/numbers -
+sed -nE '/^[A-Z_]+ = [0-9a-fx]+$/p' crates/interface/specs/Header.antt | diff target/bindings/numbers -
 cc -std=c99 -Wall -Wextra -Werror -pedantic -o target/bindings/example bindings/c/example.c target/staticlib/libinterface.a
 target/bindings/example | diff - bindings/c/example.out
 (cd bindings/rust && cargo test --offline)

@@ -1,7 +1,7 @@
 #!/usr/bin/env python3
 """Runs the programs on a terminal that is hung up inside a line, so that a read fails after others that did not.
 
-usage: tools/hung_up.py      once `rt check` has built the programs; tools/failures calls it
+usage: tools/hung_up.py      once tools/build has built the programs; tools/failures calls it
 
 The lines before it are answered, the cut one is not; a replay program gives no verdict. The status is 1 if a program does otherwise.
 """

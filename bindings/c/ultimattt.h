@@ -1,4 +1,4 @@
-/* The engine's C interface. Link target/staticlib/libinterface.a (rt staticlib interface).
+/* The engine's C interface. Link target/staticlib/libinterface.a (tools/build interface).
  *
  * Every slice is a pointer and a length in elements. A slice that is longer than needed keeps its other places. The slices of a call
  * must not overlap, and each pointer is good for its length and aligned; it may be null only if its length is 0.

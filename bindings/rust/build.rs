@@ -1,4 +1,4 @@
-// Links target/staticlib/libinterface.a, which `rt staticlib interface` makes; ULTIMATTT_LIB names another folder.
+// Links target/staticlib/libinterface.a, which `tools/build interface` makes; ULTIMATTT_LIB names another folder.
 use std::path::PathBuf;
 
 fn main() {
@@ -7,7 +7,7 @@ fn main() {
     let folder = std::env::var("ULTIMATTT_LIB").map(PathBuf::from).unwrap_or(made);
     let archive = folder.join("libinterface.a");
     if !archive.exists() {
-        panic!("{} is missing: run `rt staticlib interface`", archive.display());
+        panic!("{} is missing: run `tools/build interface`", archive.display());
     }
     println!("cargo:rerun-if-changed={}", archive.display());
     println!("cargo:rerun-if-env-changed=ULTIMATTT_LIB");

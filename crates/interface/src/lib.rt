@@ -1,5 +1,5 @@
-// A C interface over the proved functions, on numbers and lent slices; for C a slice is a pointer and a length. Asked wrongly, a call but
-// `ultimattt_answer` returns 255 and changes nothing; a slice that is longer than needed keeps its other places.
+// The functions of the C interface, on numbers and lent slices; for C, to which interface_c exports them, a slice is a pointer and a length.
+// Asked wrongly, a call but `ultimattt_answer` returns 255 and changes nothing; a slice that is longer than needed keeps its other places.
 #![tactic(auto)]
 
 mod lent;
@@ -17,8 +17,7 @@ use line_buffer::LineBuffer;
 pub const BAD_ARGUMENT: u64 = 255;
 
 // The program's answer to a line without its line feed: how many bytes it has. They are written only if there is room for all.
-#[unsafe(no_mangle)]
-pub extern "C" fn ultimattt_answer(line: &[u8], out: &mut [u8]) -> usize
+pub fn ultimattt_answer(line: &[u8], out: &mut [u8]) -> usize
     ensures { Answers line.now out.old out.new result }
 {
     let answer = program_line::answer(LineBuffer::new().push_all(line));
@@ -31,8 +30,7 @@ pub extern "C" fn ultimattt_answer(line: &[u8], out: &mut [u8]) -> usize
 }
 
 // The empty board.
-#[unsafe(no_mangle)]
-pub extern "C" fn ultimattt_new(position: &mut [u64]) -> u64
+pub fn ultimattt_new(position: &mut [u64]) -> u64
     ensures { Starts position.old position.new result }
 {
     if position.len() < 12 {
@@ -43,8 +41,7 @@ pub extern "C" fn ultimattt_new(position: &mut [u64]) -> u64
 }
 
 // A text, read as a position: 0, or refusal 1 to 6 with the empty board. In place, offset and length of the part that is refused.
-#[unsafe(no_mangle)]
-pub extern "C" fn ultimattt_read(text: &[u8], position: &mut [u64], place: &mut [u64]) -> u64
+pub fn ultimattt_read(text: &[u8], position: &mut [u64], place: &mut [u64]) -> u64
     ensures { ReadsPosition text.now position.old place.old position.new
         place.new result }
 {
@@ -62,8 +59,7 @@ pub extern "C" fn ultimattt_read(text: &[u8], position: &mut [u64], place: &mut 
 }
 
 // A position's text of 101 bytes.
-#[unsafe(no_mangle)]
-pub extern "C" fn ultimattt_render(position: &[u64], out: &mut [u8]) -> u64
+pub fn ultimattt_render(position: &[u64], out: &mut [u8]) -> u64
     ensures { Renders position.now out.old out.new result }
 {
     if !position::is_position(position) {
@@ -77,8 +73,7 @@ pub extern "C" fn ultimattt_render(position: &[u64], out: &mut [u8]) -> u64
 }
 
 // Tries moves one after the other, and answers each with 0 or refusal 9 to 13. A refused one changes nothing.
-#[unsafe(no_mangle)]
-pub extern "C" fn ultimattt_play(position: &mut [u64], moves: &[u8], answers: &mut [u8]) -> u64
+pub fn ultimattt_play(position: &mut [u64], moves: &[u8], answers: &mut [u8]) -> u64
     ensures { PlaysAll position.old moves.now answers.old
         position.new answers.new result }
 {
@@ -96,8 +91,7 @@ pub extern "C" fn ultimattt_play(position: &mut [u64], moves: &[u8], answers: &m
 // The endgame analysis and the search, after moves tried from a position: 0, or refusal 15 to 18 or 20.
 // The settings are depth, allowance, draw winner (0 for nobody, 1 for X, 2 for O) and the weights of one place, of two, and of a won board.
 // The 512 responses are those to X's moves, then those to O's, each by the move it responds to; the table is in words, and off without any.
-#[unsafe(no_mangle)]
-pub extern "C" fn ultimattt_analyze(
+pub fn ultimattt_analyze(
     position: &[u64],
     moves: &[u8],
     settings: &[u64],
@@ -134,8 +128,7 @@ pub extern "C" fn ultimattt_analyze(
 }
 
 // The evaluation of a position by three weights, into one word: 0, or refusal 20 with a score of 0.
-#[unsafe(no_mangle)]
-pub extern "C" fn ultimattt_evaluate(
+pub fn ultimattt_evaluate(
     position: &[u64],
     draw_winner: u64,
     weights: &[u64],
