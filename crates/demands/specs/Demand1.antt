@@ -1,6 +1,7 @@
 -- Demand 1: what each entry point asks, as a list of checks with the refusals' numbers in their order, and what it returns where one fails.
 -- The number that it answers is that of the first that fails, 0 where all pass.
-use Rattle.std.specs.Prelude.{◌≡◌, Bool, false, not, ◌||◌, ◌&&◌, List, [], ◌∷◌, ◌++◌, map, ℕ, suc, ◌+◌, ◌*◌, ◌-◌, ◌%◌, T, eqb, leb, ltb, pos, length, get_or, replicate}
+use Rattle.std.specs.Prelude.{◌≡◌, Bool, false, not, ◌||◌, ◌&&◌, List, [], ◌∷◌, ◌++◌, map, ℕ, suc, ◌+◌, ◌*◌, ◌-◌, ◌%◌}
+use Rattle.std.specs.Prelude.{T, eqb, leb, ltb, pos, length, get_or, replicate}
 use Rattle.base.specs.Lists.{any, elem, from}
 use Rattle.base.specs.Checks.{all_pass, first_failed}
 use Rattle.rules.specs.declared.Player.{Player}

@@ -1,5 +1,6 @@
 -- A line of bytes, as far as it came; and what is promised of taking and of reading the next one.
-use Rattle.std.specs.Prelude.{◌≡◌, Bool, true, false, not, ◌&&◌, ◌||◌, List, [], ◌++◌, ◌⊎◌, ℕ, ◌+◌, ◌≤◌, eqb, leb, ltb, ℤ, pos, length, set, take, drop}
+use Rattle.std.specs.Prelude.{◌≡◌, Bool, true, false, not, ◌&&◌, ◌||◌, List, [], ◌++◌, ◌⊎◌, ℕ, ◌+◌, ◌≤◌, eqb, leb, ltb}
+use Rattle.std.specs.Prelude.{ℤ, pos, length, set, take, drop}
 use Rattle.std.specs.Int.Signed.{lt_z}
 use Rattle.io.specs.Counts.{clamp_len}
 use Rattle.base.specs.Branch.{when◌then◌else◌}

@@ -1,5 +1,6 @@
 -- The order in which a position's moves are searched: what it means, and one step of it.
-use Rattle.std.specs.Prelude.{◌≡◌, Bool, not, ◌||◌, List, [], ◌∷◌, ◌++◌, ℕ, zero, suc, ◌-◌, ◌/◌, ◌%◌, ◌^◌, eqb, get_or, set, take, drop, length, replicate}
+use Rattle.std.specs.Prelude.{◌≡◌, Bool, not, ◌||◌, List, [], ◌∷◌, ◌++◌, ℕ, zero, suc, ◌-◌, ◌/◌, ◌%◌, ◌^◌, eqb, get_or}
+use Rattle.std.specs.Prelude.{set, take, drop, length, replicate}
 use Rattle.std.specs.Int.Bits.{bit_or}
 use Rattle.base.specs.Branch.{when◌then◌else◌}
 use Rattle.base.specs.Bits.{bit}

@@ -1,6 +1,7 @@
 -- A record's line: fields parted by tabs, which are the table's entries, the draw winner, the allowance, the responses at the start, and
 -- three for each search: the position's text, the depth, the numbers. Each search begins with the memory that the one before left.
-use Rattle.std.specs.Prelude.{◌≡◌, Bool, false, not, cond, ◌&&◌, ◌||◌, List, [], ◌∷◌, ℕ, zero, suc, ◌+◌, ◌-◌, ◌*◌, ◌/◌, ◌%◌, eqb, leb, length, replicate}
+use Rattle.std.specs.Prelude.{◌≡◌, Bool, false, not, cond, ◌&&◌, ◌||◌, List, [], ◌∷◌, ℕ, zero, suc, ◌+◌, ◌-◌, ◌*◌, ◌/◌}
+use Rattle.std.specs.Prelude.{◌%◌, eqb, leb, length, replicate}
 use Rattle.std.proofs.Math.Option.{Option, none, some}
 use Rattle.base.specs.Branch.{when◌then◌else◌}
 use Rattle.rules.specs.Board.{side_from}

@@ -99,7 +99,9 @@ unfolding lost_endgame judging
 lost_endgame_told = (refl, refl)
 
 -- neither side can win any more
-pub nobody_wins : told (analysis (shown "O;..#.####.;O....O.../.O..O..../.....XO.X/.X......./........./........./....X..../.....O.../.O..O....")) ≡ 4 ∷ 0 ∷ 0 ∷ 0 ∷ 2 ∷ 0 ∷ 0 ∷ []
+pub nobody_wins : told
+    (analysis (shown "O;..#.####.;O....O.../.O..O..../.....XO.X/.X......./........./........./....X..../.....O.../.O..O....")) ≡ 4 ∷ 0 ∷
+    0 ∷ 0 ∷ 2 ∷ 0 ∷ 0 ∷ []
 unfolding judging
 nobody_wins = refl
 

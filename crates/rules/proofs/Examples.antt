@@ -63,7 +63,13 @@ analysing = tt
 -- ---- positions from lists: boards in play and empty cells where a list ends
 unfoldable pub position : Player → NextBoard → List GameState → List (List CellState) → Position
 position w d states cells =
-    record { turn = w; next_board = d; cells = λ b c. get_or (get_or cells b []) c Empty; states = λ b. get_or states b InPlay; state = InPlay }
+    record {
+      turn = w;
+      next_board = d;
+      cells = λ b c. get_or (get_or cells b []) c Empty;
+      states = λ b. get_or states b InPlay;
+      state = InPlay;
+    }
 
 abbrev x : CellState
 x = Played X

@@ -34,7 +34,8 @@ use Rattle.rules_game.specs.RulesGame.{game, plain_minimax}
 
 -- ---- what the facts compute with
 playing : Unit {0}
-unfolding moves places concat_map filter tried left_by play accepts all_pass all any first_failed after update result_of has_line when◌then◌else◌
+unfolding moves places concat_map filter tried left_by play accepts all_pass all any first_failed after update result_of has_line
+    when◌then◌else◌
 playing = tt
 
 valuing : Unit {0}

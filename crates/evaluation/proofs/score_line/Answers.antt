@@ -6,7 +6,8 @@ use Rattle.evaluation.proofs.ValuesLines.{line_x, line_o, line_both}
 use Rattle.evaluation.proofs.score_line.Goals as goal
 
 pub returns-then-obits-mask-eq0 : goal.returns-then-obits-mask-eq0
-returns-then-obits-mask-eq0 c = held_gives {w = w32} (held_promised c.potential.ensures) tt (line_x _ _ _ _ c.requires c.if-obits-mask-eq0.true)
+returns-then-obits-mask-eq0 c = held_gives {w = w32} (held_promised c.potential.ensures) tt
+    (line_x _ _ _ _ c.requires c.if-obits-mask-eq0.true)
 
 pub overflow_sub-result : goal.overflow_sub-result
 overflow_sub-result c =

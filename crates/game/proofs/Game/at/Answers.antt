@@ -10,11 +10,13 @@ use Rattle.game.proofs.Game.at.Goals as goal
 
 pub returns-then-board-gt8 : goal.returns-then-board-gt8
 unfolding range_refusal when◌then◌else◌
-returns-then-board-gt8 c = record { number = rw (le-ltb _ 9 c.if-board-gt8.true); cell_is = sym (cell_past_board _ _ _ c.if-board-gt8.true) }
+returns-then-board-gt8 c = record
+    { number = rw (le-ltb _ 9 c.if-board-gt8.true); cell_is = sym (cell_past_board _ _ _ c.if-board-gt8.true) }
 
 pub returns-then-cell-gt8 : goal.returns-then-cell-gt8
 unfolding range_refusal when◌then◌else◌
-returns-then-cell-gt8 c = record { number = rw (le-ltb _ 9 c.if-cell-gt8.true, and-false _); cell_is = sym (cell_past_cell _ _ _ c.if-cell-gt8.true) }
+returns-then-cell-gt8 c = record
+    { number = rw (le-ltb _ 9 c.if-cell-gt8.true, and-false _); cell_is = sym (cell_past_cell _ _ _ c.if-cell-gt8.true) }
 
 pub returns : goal.returns
 unfolding range_refusal when◌then◌else◌
