@@ -41,7 +41,7 @@ unfolding when◌then◌else◌ any all filter elem concat_map update sum has_li
     tried
     places moves sound proper cell_key board_key next_board_key xors cells_hash board_hash hash with_turn zobrist hash_after places_in
     accepted_weights unless_both board_line board_score overall_line score evaluate completes winning critical has_critical suits
-        all_suit lure attack
+    all_suit lure attack
     prove_attacker forced forced_loss winnable proven narrow combine merged endgame_stats or_unproven analysis from_byte merge side_of
     overall_mark cell_mark sections first_bad last_at fault_at first_fault cell_in state_in said read_cells read_overall read parted
     depth_of in_places decimal signed move_letters read_letters from_word entry_of off begins look_up store suffices bound_of begin enter

@@ -129,23 +129,23 @@ pub rust_refusals :
     (read (quoted ";;;") ≡ refuses 2 0 3)
     × (read (quoted "X;...X@..O.") ≡ refuses 2 0 11)
     × (read (quoted "O;.@.......;.O......./.XOX...XX/XO......./.O......./........X/.X......X/.OX...X../.....O.../....OOO..;") ≡ refuses 2
-        0 102)
+    0 102)
     × (read (quoted ";;") ≡ refuses 3 0 0)
     × (read (0xc3 ∷ 0xa9 ∷ (quoted ";X." ++ (0xc3 ∷ 0xa9 ∷ quoted ".X..XX;........./........./......."))) ≡ refuses 3 0 2)
     × (read (quoted "O;...@.....;........./.O...@..X./....O....") ≡ refuses 3 12 30)
     × (read (quoted "X;@........;......../........./X......../........./" ++ (0xc3 ∷ 0xa9 ∷ [])) ≡ refuses 3 12 41)
     × (read (quoted "O;.XO.X.OXX;.O.." ++
-        (0xc3 ∷ 0xa9 ∷ quoted ".X../.OX.X.X../.....XOOO/........./XXXo...../.OX..OO../..O.O.O.X/..O.O.XXX/O...O.XXX")) ≡ refuses 3 12 90)
+    (0xc3 ∷ 0xa9 ∷ quoted ".X../.OX.X.X../.....XOOO/........./XXXo...../.OX..OO../..O.O.O.X/..O.O.XXX/O...O.XXX")) ≡ refuses 3 12 90)
     × (read (quoted "X;;") ≡ refuses 4 2 0)
     × (read (quoted "X;X" ++ (0xc3 ∷ 0xa9 ∷ quoted "XXXXXXX;...OO.X.O/OO....X.X/.O...X.../..X...XX./..O..O..X")) ≡ refuses 4 2 10)
     × (read (quoted "X;.X.@O.." ++ (0xe2 ∷ 0x82 ∷ 0xac ∷ quoted ".;XO..OX.../..OXXX.../..XOX..O")) ≡ refuses 4 2 11)
     × (read (quoted "O;O.X9X@..X;O") ≡ refuses 5 5 1)
     × (read (quoted "X;X.@.... .;..X.X.X.X/..X.O...X/OX..OX.../.O.XOX.../..OOXX.XO/OO.X.O.OO/..O....../O....X..O/..OOXX.X.") ≡ refuses 5
-        9 1)
+    9 1)
     × (read (quoted "O;...X@.X..;XO.O.OO.O/X.X.X..X./..OOX.O..") ≡ refuses 5 12 29)
     × (read (quoted "O;OXOXO.XXX;......OOO..X..X.OX..O..O..O..X.X.X...O..O..O.XO.O....OO..XXX.O.XXX........X.X.X..") ≡ refuses 5 12 81)
     × (read (quoted "X;...@.....;........./........./......O../................../...O...../.....X..O/........./..X...X..") ≡ refuses 5
-        12 88)
+    12 88)
     × (read (quoted "X;.OX.X..OO;.X.OO...X/") ≡ refuses 6 12 10)
     × (read (quoted "X;.......@.;..O....../........./.....O.X./X......../.......O./...O...X./....X..../..X..XOO./") ≡ refuses 6 12 80)
 unfolding reading
@@ -168,7 +168,7 @@ pub rust_readings :
     × (Rust (quoted "X;OO.OO..OO;..O.X...O/O..XX..X./X......../XO......./........./.....XO../.O......./........./.X.......tail")
     "X;OO.OO..OO;..O.X...O/O..XX..X./X......../XO......./........./.....XO../.O......./........./.X......." (Won O) Any 6599334585561191219)
     × (Rust (quoted "O;X#XOXOOXO;OXXXOOXXX/XOXOOXOXO/OOXOXOX.O/OOOX.X.OX/XX..O.XXX/O...OXO.O/XXOOOXOOX/...XXX.../OXXOOOXOX" ++
-        (0xc3 ∷ 0xa9 ∷ []))
+    (0xc3 ∷ 0xa9 ∷ []))
     "O;X#XOXOOXO;OXXXOOXXX/XOXOOXOXO/OOXOXOX.O/OOOX.X.OX/XX..O.XXX/O...OXO.O/XXOOOXOOX/...XXX.../OXXOOOXOX" Drawn Any 8260499521574549790)
     × (Rust (quoted "X;@@@.@@.@.;.O..X..../...XO..O./..X....../.....XO../OX.X..X.O/....OXXXX/X.OOO.X.O/.....O..O/.X.......")
     "X;.......@.;.O..X..../...XO..O./..X....../.....XO../OX.X..X.O/....OXXXX/X.OOO.X.O/.....O..O/.X......."

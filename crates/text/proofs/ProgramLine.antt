@@ -44,7 +44,7 @@ no_depths = (refl, refl, refl, refl, refl, refl, refl)
 -- the last of several blanks parts; zeros in front count for nothing; `00` and `82` are numbers
 pub depths :
     (asked (quoted "X 3") ≡ asks (quoted "X") 3) × (asked (quoted "X 12 3") ≡ asks (quoted "X 12") 3) ×
-        (asked (quoted "X  3") ≡ asks (quoted "X ") 3)
+    (asked (quoted "X  3") ≡ asks (quoted "X ") 3)
     × (asked (quoted " 3") ≡ asks [] 3) × (asked (quoted "X 04") ≡ asks (quoted "X") 4) × (asked (quoted "X 00") ≡ asks (quoted "X") 0)
     × (asked (quoted "X 82") ≡ asks (quoted "X") 82)
 unfolding computing

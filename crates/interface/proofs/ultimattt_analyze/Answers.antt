@@ -36,7 +36,7 @@ returns-then-report-lt655 c =
     let s = c.args in
     analyzes_no_report s.position.now s.moves.now s.settings.now s.responses.now s.words.now s.report.now
     (sym c.is_position.ensures ∙ c.if-not-is_position.false) c.if-settings-lt6.false c.if-settings-gt2.false c.if-responses-lt512.false
-        c.if-report-lt655.true
+    c.if-report-lt655.true
 
 pub game_from-requires : goal.game_from-requires
 game_from-requires c =
@@ -51,7 +51,7 @@ returns c =
     let s = c.args in
     analyzes_well s.position.now s.moves.now s.settings.now s.responses.now s.words.now s.report.now
     (sym c.is_position.ensures ∙ c.if-not-is_position.false) c.if-settings-lt6.false c.if-settings-gt2.false c.if-responses-lt512.false
-        c.if-report-lt655.false
+    c.if-report-lt655.false
     c.play_all-game.result (c.play_all-game.ensures ∙ ap (λ (g : Game). games_after g s.moves.now) c.game_from.ensures)
     c.config_from-config.result c.config_from-config.ensures c.memory.result c.memory.ensures
     c.analyze-found.result c.analyze-found.new.words c.analyze-found.ensures

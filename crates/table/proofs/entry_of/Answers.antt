@@ -12,13 +12,13 @@ use Rattle.table.proofs.entry_of.Goals as goal
 pub returns-then-v : goal.returns-then-v
 returns-then-v c =
     let value_read : to_z w64 (of_z w64 c.from_word-v.result) ≡ from_word c.args.value = to_z-of_z {w = w64} {z = c.from_word-v.result}
-        (record { sfits = c.from_word-v.type_inv }) ∙ c.from_word-v.ensures in
+    (record { sfits = c.from_word-v.type_inv }) ∙ c.from_word-v.ensures in
     absent_low _ _ value_read (less c.if-v.true)
 
 pub returns-then-v-gt-WIDEST : goal.returns-then-v-gt-WIDEST
 returns-then-v-gt-WIDEST c =
     let value_read : to_z w64 (of_z w64 c.from_word-v.result) ≡ from_word c.args.value = to_z-of_z {w = w64} {z = c.from_word-v.result}
-        (record { sfits = c.from_word-v.type_inv }) ∙ c.from_word-v.ensures in
+    (record { sfits = c.from_word-v.type_inv }) ∙ c.from_word-v.ensures in
     absent_high _ _ value_read (less c.if-v-gt-WIDEST.true)
 
 pub returns-then-depth-eq0 : goal.returns-then-depth-eq0
@@ -36,7 +36,7 @@ returns-then-m-gt255 c = absent _ _ (λ k. omega arith)
 pub returns : goal.returns
 returns c =
     let value_read : to_z w64 (of_z w64 c.from_word-v.result) ≡ from_word c.args.value = to_z-of_z {w = w64} {z = c.from_word-v.result}
-        (record { sfits = c.from_word-v.type_inv }) ∙ c.from_word-v.ensures in
+    (record { sfits = c.from_word-v.type_inv }) ∙ c.from_word-v.ensures in
     present _ _ _ (record {
       some_depth = omega arith;
       depth_most = omega arith;

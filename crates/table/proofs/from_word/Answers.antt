@@ -27,5 +27,5 @@ returns-then-w-lt9223372036854775808 c = low_word c.args.w c.if-w-lt922337203685
 pub returns-else-w-lt9223372036854775808 : goal.returns-else-w-lt9223372036854775808
 returns-else-w-lt9223372036854775808 c =
     to_z-of_z (overflow_sub-result-else-w-lt9223372036854775808-2 c) ∙ rw
-        (to_z-of_z (overflow_sub-result-else-w-lt9223372036854775808 c), low_word (18446744073709551615 - c.args.w) (omega arith))
+    (to_z-of_z (overflow_sub-result-else-w-lt9223372036854775808 c), low_word (18446744073709551615 - c.args.w) (omega arith))
     (minus_one_more (18446744073709551615 - c.args.w) ∙ sym (value_high c.args.w c.if-w-lt9223372036854775808.false))

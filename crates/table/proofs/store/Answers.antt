@@ -17,7 +17,7 @@ returns-then-n-lt3 c =
 pub returns-then-not-replaces : goal.returns-then-not-replaces
 returns-then-not-replaces c =
     let decision : c.replaces.result ≡ replaces c.args.e.depth (held_at c.args.words.now c.slot-i.result) = c.replaces.ensures ∙ ap
-        (replaces c.args.e.depth)
+    (replaces c.args.e.depth)
     c.entry_of-held.ensures in
     sym (store_refused _ _ _ c.if-n-lt3.false
     c.slot-i.ensures.0 (entry_means
@@ -30,7 +30,7 @@ bounds-words-i-4 c = simp length-set (omega arith)
 pub returns : goal.returns
 returns c =
     let decision : c.replaces.result ≡ replaces c.args.e.depth (held_at c.args.words.now c.slot-i.result) = c.replaces.ensures ∙ ap
-        (replaces c.args.e.depth)
+    (replaces c.args.e.depth)
     c.entry_of-held.ensures in
     let e = c.args.e in
     let value = to_z-of_z {w = w64} {z = e.value} (record { sfits = c.struct_told-1.given.0.1 }) in

@@ -14,30 +14,30 @@ returns-then-local-gt8 c = over_cell _ _ _ _ c.global-global.ensures c.local-loc
 pub returns-then-terminal : goal.returns-then-terminal
 returns-then-terminal c =
     finished _ _ _ _ c.global-global.ensures c.local-local.ensures c.if-global-gt8.false c.if-local-gt8.false _ c.terminal.ensures
-        c.if-terminal.true
+    c.if-terminal.true
 
 pub returns-then-not-open : goal.returns-then-not-open
 returns-then-not-open c =
     shut _ _ _ _ c.global-global.ensures c.local-local.ensures c.if-global-gt8.false c.if-local-gt8.false _ c.terminal.ensures
-        c.if-terminal.false _
+    c.if-terminal.false _
     c.in_play-open.ensures (ap not c.if-not-open.true)
 
 pub returns-then-not-due : goal.returns-then-not-due
 returns-then-not-due c =
     elsewhere _ _ _ _ c.global-global.ensures c.local-local.ensures c.if-global-gt8.false c.if-local-gt8.false _ c.terminal.ensures
-        c.if-terminal.false _
+    c.if-terminal.false _
     c.in_play-open.ensures (ap not c.if-not-open.false) _ c.allows-due.ensures (ap not c.if-not-due.true)
 
 pub returns-in-Empty : goal.returns-in-Empty
 returns-in-Empty c =
     looked _ _ _ _ c.global-global.ensures c.local-local.ensures c.if-global-gt8.false c.if-local-gt8.false _ c.terminal.ensures
-        c.if-terminal.false _
+    c.if-terminal.false _
     c.in_play-open.ensures (ap not c.if-not-open.false) _ c.allows-due.ensures (ap not c.if-not-due.false) _ c.at-cell.ensures true
-        (ap blank c.in-Empty.is)
+    (ap blank c.in-Empty.is)
 
 pub returns-in-Played : goal.returns-in-Played
 returns-in-Played c =
     looked _ _ _ _ c.global-global.ensures c.local-local.ensures c.if-global-gt8.false c.if-local-gt8.false _ c.terminal.ensures
-        c.if-terminal.false _
+    c.if-terminal.false _
     c.in_play-open.ensures (ap not c.if-not-open.false) _ c.allows-due.ensures (ap not c.if-not-due.false) _ c.at-cell.ensures false
-        (ap blank c.in-Played.is)
+    (ap blank c.in-Played.is)

@@ -7,4 +7,4 @@ use Rattle.interface.proofs.lent.put.Given as goal
 abbrev pub invariant-loop-i : goal.invariant-loop-i
 invariant-loop-i l =
     (l.i-end ≡ length l.words) × (length l.out ≡ length l.initial.out) ×
-        (sets l.out (l.at + l.i) (drop l.i l.words) ≡ sets l.initial.out l.at l.words)
+    (sets l.out (l.at + l.i) (drop l.i l.words) ≡ sets l.initial.out l.at l.words)

@@ -8,4 +8,4 @@ use Rattle.interface.proofs.report.put_moves.Given as goal
 abbrev pub invariant-loop-i : goal.invariant-loop-i
 invariant-loop-i l =
     (length l.out ≡ length l.initial.out) ×
-        (sets l.out (l.at + l.i) (drop l.i (bytes_of l.moves)) ≡ sets l.initial.out l.at (bytes_of l.moves))
+    (sets l.out (l.at + l.i) (drop l.i (bytes_of l.moves)) ≡ sets l.initial.out l.at (bytes_of l.moves))
