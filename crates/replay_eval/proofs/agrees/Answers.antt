@@ -1,0 +1,20 @@
+-- Each field is read, or the record differs.
+use mathlib.Core.Path.{sym, ◌∙◌}
+use Rattle.base.proofs.Signed.{result}
+use Rattle.replay_eval.proofs.Records.{refused_differs, no_draw_differs, scored}
+use Rattle.replay_eval.proofs.agrees.Goals as goal
+
+pub returns-in_default : goal.returns-in_default
+returns-in_default c = refused_differs _ _ _ _ c.parse-parsed.ensures c.in_default.is
+
+pub returns-in_default-draw_of : goal.returns-in_default-draw_of
+returns-in_default-draw_of c =
+    no_draw_differs _ _ _ _ c.parse-parsed.ensures c.in-Accepted.is
+    (sym c.draw_of.ensures ∙ c.in_default-draw_of.is)
+
+pub returns : goal.returns
+returns c =
+    c.is_score.ensures ∙
+    scored _ _ _ _ c.parse-parsed.ensures c.in-Accepted.is
+    (sym c.draw_of.ensures ∙ c.in-To.is)
+    (result c.struct_told-1.given.1.0.1 c.evaluate-evaluated.ensures.value)
