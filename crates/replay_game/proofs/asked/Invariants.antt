@@ -1,6 +1,6 @@
 use mathlib.Core.Path.{◌≡◌}
 use Prim.Native.Nat.{◌+◌, ◌<◌}
-use Rattle.replay.specs.Agreement.{compared, compared_all}
+use Rattle.replay.specs.Agreement.{compared_all}
 use Rattle.replay_game.specs.Records.{moves_from}
 use Rattle.replay_game.proofs.asked.Given as goal
 

@@ -1,15 +1,11 @@
 -- Those left, compared from where the loop stands, lead where all lead.
 use mathlib.Core.Path.{refl}
 use native.Mathlib.Omega.{arith}
-use Rattle.game.specs.declared.Game.{Game}
-use Rattle.game.specs.Meaning.{position_of}
 use Rattle.replay_game.proofs.Records.{place_compared, places_compared}
-use Prim.Native.Nat.{ℕ, ◌+◌, ◌-◌, ◌/◌, ◌%◌}
-use Rattle.replay_game.specs.Records.{cell_number, cells_numbers}
+use Prim.Native.Nat.{◌+◌, ◌-◌}
+use Rattle.replay_game.specs.Records.{cells_numbers}
+use Rattle.replay_game.proofs.cells.Invariants.{number_at}
 use Rattle.replay_game.proofs.cells.Goals as goal
-
-abbrev number_at : Game → ℕ → ℕ
-number_at g j = cell_number ((position_of g).cells (j / 9) (j % 9))
 
 pub loop-k-init : goal.loop-k-init
 unfolding cells_numbers

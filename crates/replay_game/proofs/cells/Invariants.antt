@@ -3,9 +3,13 @@ use mathlib.Core.List.{map}
 use Rattle.base.specs.Lists.{from}
 use Rattle.replay.specs.Agreement.{compared_all}
 use Rattle.game.specs.Meaning.{position_of}
-use Prim.Native.Nat.{◌-◌, ◌≤◌}
-use Rattle.replay_game.specs.Records.{cells_numbers}
+use Rattle.game.specs.declared.Game.{Game}
+use Prim.Native.Nat.{ℕ, ◌-◌, ◌/◌, ◌%◌, ◌≤◌}
+use Rattle.replay_game.specs.Records.{cell_number, cells_numbers}
 use Rattle.replay_game.proofs.cells.Given as goal
+
+abbrev pub number_at : Game → ℕ → ℕ
+number_at g j = cell_number ((position_of g).cells (j / 9) (j % 9))
 
 abbrev pub invariant-loop-k : goal.invariant-loop-k
 invariant-loop-k l =

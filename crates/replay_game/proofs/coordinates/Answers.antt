@@ -1,6 +1,6 @@
 -- The four numbers; the move is built, since both are below 9.
 use mathlib.Core.Path.{ap, ◌∙◌}
-use mathlib.Core.List.{◌∷◌}
+use mathlib.Core.List.{[], ◌∷◌}
 use Prim.Native.Nat.{ℕ, ◌%◌}
 use Rattle.replay.specs.Agreement.{new_agreement, compared_all}
 use Rattle.replay_game.proofs.Records.{in_nine, whole_record}

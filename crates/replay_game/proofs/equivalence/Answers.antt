@@ -1,6 +1,6 @@
 -- The kind, the two positions, and the two answers.
 use mathlib.Core.Bool.{cond}
-use mathlib.Core.List.{List, ◌∷◌, ◌++◌}
+use mathlib.Core.List.{List, [], ◌∷◌, ◌++◌}
 use Prim.Native.Nat.{ℕ}
 use Rattle.rules.specs.Compare.{equivalent}
 use Rattle.game.specs.Meaning.{position_of}

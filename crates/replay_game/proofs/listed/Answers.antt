@@ -20,15 +20,13 @@ returns-in-End c =
 pub loop-compared-smaller : goal.loop-compared-smaller
 loop-compared-smaller c =
     let l = c.loop-compared in
-    let m = c.m-1 in
-    let e = next_left l.left _ c.next.ensures _ _ m.given.1 in
+    let e = next_left l.left _ c.next.ensures _ _ c.in-Next.is in
     omega (arith, ap length e)
 
 pub loop-compared-preserved : goal.loop-compared-preserved
 loop-compared-preserved c =
     let l = c.loop-compared in
     let ns = c.args.words.now in
-    let m = c.m-1 in
-    let e = next_left l.left _ c.next.ensures _ _ m.given.1 in
-    ap (λ (q : Agreement). compared_all ns q (moves_left m.given.0.1.0)) c.number-compared.ensures
+    let e = next_left l.left _ c.next.ensures _ _ c.in-Next.is in
+    ap (λ (q : Agreement). compared_all ns q (moves_left c.in-Next.rest)) c.number-compared.ensures
     ∙ sym (ap (compared_all ns l.compared) e) ∙ l.invariant

@@ -1,5 +1,5 @@
 -- The kind, the position, its cells, its states and the drawn boards.
-use mathlib.Core.List.{◌∷◌, ◌++◌}
+use mathlib.Core.List.{[], ◌∷◌, ◌++◌}
 use Rattle.base.specs.Bits.{digits}
 use Rattle.rules.specs.Board.{drawn}
 use Rattle.game.specs.Meaning.{position_of}

@@ -1,6 +1,6 @@
 -- Whatever the moves left run to, all run to.
 use mathlib.Core.Path.{◌≡◌, sym, subst}
-use mathlib.Core.List.{List, ◌∷◌}
+use mathlib.Core.List.{List, [], ◌∷◌}
 use Prim.Native.Nat.{ℕ, ◌-◌, ◌%◌}
 use native.Mathlib.Omega.{arith}
 use lib.ListN.{get_or}

@@ -1,5 +1,5 @@
 -- Three numbers, and any other.
-use borrow.Author.Tests.{ne_eqb}
+use borrow.Author.Rules.{rules}
 use Rattle.base.specs.Branch.{when◌then◌else◌}
 use Rattle.replay_game.specs.Records.{state_of}
 use Rattle.replay_game.proofs.state_of.Goals as goal
@@ -19,5 +19,4 @@ returns-in-2 c = rw c.in-2.is
 pub returns-in_default : goal.returns-in_default
 unfolding state_of when◌then◌else◌
 returns-in_default c =
-    let r = c.in_default.in_default-own.rest in
-    rw (ne_eqb _ 0 r.0.0.1, ne_eqb _ 1 r.0.1, ne_eqb _ 2 r.1)
+    search rules

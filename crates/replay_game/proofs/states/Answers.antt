@@ -1,16 +1,11 @@
 -- Those left, compared from where the loop stands, lead where all lead.
 use mathlib.Core.Path.{refl}
 use native.Mathlib.Omega.{arith}
-use Rattle.game.specs.declared.Game.{Game}
-use Rattle.game.specs.Meaning.{position_of}
 use Rattle.replay_game.proofs.Records.{place_compared, places_compared}
-use Prim.Native.Nat.{ℕ, ◌+◌, ◌-◌}
-use Rattle.rules.specs.Board.{state_number}
+use Prim.Native.Nat.{◌+◌, ◌-◌}
 use Rattle.replay_game.specs.Records.{states_numbers}
+use Rattle.replay_game.proofs.states.Invariants.{number_at}
 use Rattle.replay_game.proofs.states.Goals as goal
-
-abbrev number_at : Game → ℕ → ℕ
-number_at g j = state_number ((position_of g).states j)
 
 pub loop-b-init : goal.loop-b-init
 unfolding states_numbers
