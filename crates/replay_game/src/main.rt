@@ -399,13 +399,14 @@ fn step(totals: Totals, line: &[u8]) -> Totals
     totals.count(outcome(line))
 }
 
-fn main() {
+fn main(rt: HostRuntime) {
+    let stdin = rt.stdin();
     let mut buffer = io::large_buffer();
     let mut kept = io::buffer();
     let mut input = Input::new();
     let mut totals = Totals::new();
     while totals.may_go_on() {
-        input = input.next_line(&mut buffer, &mut kept);
+        input = input.next_line(stdin, &mut buffer, &mut kept);
         if input.no_line_came() {
             break;
         }

@@ -1,0 +1,10 @@
+-- The kind, and the play.
+use mathlib.Core.List.{[], ◌∷◌}
+use Rattle.game.specs.Built.{new_game}
+use Rattle.replay_game.proofs.Records.{whole_play}
+use Rattle.replay_game.proofs.play_from_start.Goals as goal
+
+pub returns : goal.returns
+returns c =
+    whole_play c.args.words.now (1 ∷ []) c.number.result new_game c.new.result 1 _
+    c.number.ensures c.new.ensures c.play.ensures
