@@ -181,15 +181,20 @@ one_read_fewer p a s more w q = go (lt_z a.got (pos 0)) (read_bytes a) a.written
     go false (b ∷ bs) false w = absurd (true≢false (cc (sym q ∙ ap (λ (r : ProgramRun). r.progress) (stays _ s more refl w))))
 
 module _ (s : ProgramRun) (good : s.progress ≡ WriteFailed → ⊥) where
+  -- the same, with the run before the line that is held
+  holds_after : (r : ProgramRun) (steps : List ReadStep) (line : List ℕ) → RunsTo r steps s → Holds r.program line →
+      Holds s.program (split_bytes line (input_of (map read_bytes steps))).rest
+  unfolding split
+  holds_after r _ line (stops e) h = h
+  holds_after r (a ∷ more) line (reads e n w) h =
+      holds_after (after_read r.program a) more (split_bytes line (read_bytes a)).rest w (line_held r.program line a s more h w good)
+      ∙ sym (ap (λ (x : Split (List ℕ)). buffer_of x.rest)
+      (split_append with_byte [] line (read_bytes a) (input_of (map read_bytes more))))
+
   -- unless a write failed, the program at the end holds the line that goes on after all that came
   pub run_holds : (r : ProgramRun) (steps : List ReadStep) (line : List ℕ) → Holds r.program line → RunsTo r steps s →
       Holds s.program (split_bytes line (input_of (map read_bytes steps))).rest
-  unfolding split
-  run_holds r _ line h (stops e) = h
-  run_holds r (a ∷ more) line h (reads e n w) =
-      run_holds (after_read r.program a) more (split_bytes line (read_bytes a)).rest (line_held r.program line a s more h w good) w
-      ∙ sym (ap (λ (x : Split (List ℕ)). buffer_of x.rest)
-      (split_append with_byte [] line (read_bytes a) (input_of (map read_bytes more))))
+  run_holds r steps line h w = holds_after r steps line w h
 
 -- where the input ended, the last text is the answer to the last line of all that came
 pub last_line_answered : (s : ProgramRun) (steps : List ReadStep) → RunsTo new_run steps s → s.progress ≡ InputEnded →

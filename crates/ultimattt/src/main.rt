@@ -1,13 +1,18 @@
 // For each line `position depth` of standard input a line with its answer. There may be any number of lines, of any length.
 #![tactic(auto)]
 
-ghost use Rattle.std.specs.Prelude.{◌≡◌};
+ghost use Rattle.std.specs.Prelude.{◌≡◌, ◌≤ℤ◌, pos, negsuc, length};
 ghost use Rattle.answer_text.specs.AnswerBytes.{text_of_bytes};
 ghost use Rattle.ultimattt.specs.Runs.{new_run, goes_on, AfterFeeding, AfterRead, SomeRun, last_of_run, told_of_run, Concluded};
 
 use answer_text::AnswerText;
-use libc::{STDERR_FILENO, STDIN_FILENO, STDOUT_FILENO};
 use program_reads::Program;
+use std::io::Read;
+use std::rt::Stdin;
+
+const STDOUT_FILENO: i32 = 1;
+
+const STDERR_FILENO: i32 = 2;
 
 // How a run stands after its reads.
 #[derive(Clone, Copy)]
@@ -145,24 +150,35 @@ impl Progress {
     }
 }
 
+// One read into the buffer: how many bytes came, or -1 if the read failed.
+fn read_of(mut stdin: Stdin, buffer: &mut [u8]) -> isize
+    ensures low { negsuc 0 ≤ℤ result }
+    ensures high { result ≤ℤ pos (length buffer.new) }
+{
+    match stdin.read(buffer) {
+        Ok(n) => n as isize,
+        Err(_) => -1,
+    }
+}
+
 // Goes on with standard input until it ends, something fails or the reads are used up.
-fn answer_from(begun: ProgramRun) -> ProgramRun
+fn answer_from(begun: ProgramRun, stdin: Stdin) -> ProgramRun
     ensures { SomeRun begun result }
 {
     let mut buffer = io::large_buffer();
     let mut run = begun;
     while run.goes_on() {
-        let got = libc::read(STDIN_FILENO, &mut buffer);
+        let got = read_of(stdin, &mut buffer);
         run = run.after_read(&buffer, got);
     }
     run
 }
 
 // Answers standard input.
-fn answer_input() -> ProgramRun
+fn answer_input(stdin: Stdin) -> ProgramRun
     ensures { SomeRun new_run result }
 {
-    answer_from(ProgramRun::new())
+    answer_from(ProgramRun::new(), stdin)
 }
 
 // Writes the last answer. There is no exit status: what failed is told on standard error.
@@ -181,6 +197,6 @@ fn conclude(run: ProgramRun) -> RunEnd
     RunEnd { text, told }
 }
 
-fn main() {
-    conclude(answer_input());
+fn main(rt: HostRuntime) {
+    conclude(answer_input(rt.stdin()));
 }
