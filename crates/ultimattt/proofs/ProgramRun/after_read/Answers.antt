@@ -19,4 +19,4 @@ pub returns : goal.returns
 returns c =
     let a = c.args in
     bytes_fed a.self.program a.buffer.now a.got _ (to_z-of_z c.ranges.got) c.if-got-lt0.false _ c.count-n.ensures.value _
-    (omega (arith, c.count-n.ensures.in_bounds, c.if-n-eq0.false)) c.feed.ensures
+    (omega (arith, c.count-n.ensures.in_bounds)) c.feed.ensures
