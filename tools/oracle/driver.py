@@ -13,8 +13,7 @@ def build_driver(checkout):
 
 def build_programs():
     """Proves and compiles what has changed since it was proved."""
-    for name in PROGRAMS:
-        subprocess.run(["rt", "check", name], check=True, cwd=ROOT, stdout=subprocess.DEVNULL)
+    subprocess.run([os.path.join(ROOT, "tools/build"), *PROGRAMS], check=True, stdout=subprocess.DEVNULL)
 
 
 def run(program, lines):
