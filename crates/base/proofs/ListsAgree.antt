@@ -1,9 +1,10 @@
--- Tests that agree on a list, and tests that hold of the same things.
-use mathlib.Core.Path.{◌≡◌, refl, ap₂}
+-- Tests that agree on a list, tests that hold of the same things, and the library's `any` and `all` over a list.
+use mathlib.Core.Path.{◌≡◌, refl, ap, ap₂}
 use mathlib.Core.Bool.{Bool, true, false, ◌||◌, ◌&&◌}
 use mathlib.Core.List.{List, [], ◌∷◌}
 use mathlib.Core.Logic.{inl, inr}
 use lib.Dec.{T}
+use Rattle.std.specs.List.{list_any, list_all}
 use Rattle.base.specs.Branch.{when◌then◌else◌}
 use Rattle.base.specs.Lists.{any, all, filter, In}
 
@@ -33,3 +34,15 @@ module _ {A : Type 0} (f g : A → Bool) where
   filter_same [] e = refl
   filter_same (x ∷ xs) e =
       ap₂ (λ (p : Bool) (ys : List A). when p then (λ _. x ∷ ys) else λ _. ys) (e x (inl refl)) (filter_same xs (λ y i. e y (inr i)))
+
+-- what the library says of an iterator's `any` and `all`
+module _ {A : Type 0} (f : A → Bool) where
+  pub any_of_list : (xs : List A) → list_any f xs ≡ any f xs
+  unfolding any
+  any_of_list [] = refl
+  any_of_list (x ∷ xs) = ap (λ (b : Bool). f x || b) (any_of_list xs)
+
+  pub all_of_list : (xs : List A) → list_all f xs ≡ all f xs
+  unfolding all
+  all_of_list [] = refl
+  all_of_list (x ∷ xs) = ap (λ (b : Bool). f x && b) (all_of_list xs)

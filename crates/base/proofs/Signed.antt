@@ -5,10 +5,10 @@ use Prim.Native.Nat.{ℕ, zero, suc, ◌+◌, ◌-◌, ◌^◌, ◌≤◌, ◌<�
 use native.Mathlib.Omega.{arith}
 use lib.Dec.{T, ltb, ltb→lt}
 use lib.IntN.{ℤ, pos, negsuc, nat_abs, neg_ℤ, suc_ℤ, ◌+ℤ◌, ◌-ℤ◌, +ℤ_idl, +ℤ_one, -ℤ_one}
-use lib.Signed.{mag, lt_z, non_neg, ◌<ℤ◌, ◌≤ℤ◌, lt_z_yes, lt_z_no}
+use lib.Signed.{mag, lt_z, ◌<ℤ◌, ◌≤ℤ◌, lt_z_yes, lt_z_no}
 use mir.Facts.{to_z-of_z, sfits_widen}
 use mir.Syntax.{Width, w32, w64}
-use mir.Val.{Fits, SFits, hbits, sel, to_z, of_z}
+use mir.Val.{SFits, hbits, sel, to_z, of_z}
 use borrow.Author.Tests.{lt-ltb}
 use Rattle.base.proofs.Integers.{hi, lo, Within, within_abs, within_of, within_+, within_neg}
 
@@ -97,14 +97,6 @@ module _ (z : ℤ) (f : SFits w64 z) (e : lt_z (reads z) (pos 0) ≡ false) wher
       go : (z : ℤ) → pos 0 ≤ℤ z → z ≡ pos (nat_abs z)
       go (pos n) h = refl
       go (negsuc n) h = absurd h.le
-
-  -- it fits a word
-  pub natural_fits : T (non_neg z) × Fits w64 (nat_abs z)
-  natural_fits = go z f (subst (λ (y : ℤ). pos 0 ≤ℤ y) (back z f) (not_less e))
-    where
-      go : (z : ℤ) → SFits w64 z → pos 0 ≤ℤ z → T (non_neg z) × Fits w64 (nat_abs z)
-      go (pos n) f h = (tt, record { fits = omega (arith, f.sfits) })
-      go (negsuc n) f h = absurd h.le
 
 -- ---- within k of zero
 -- a number within k fits where k does

@@ -1,13 +1,16 @@
 -- Cursors: a list of moves and the cursor over it, the next move, and how many there are.
+use Rattle.std.specs.Prelude.{None, Some, ⊤}
+use Rattle.std.proofs.Common.{rules, tests}
+use Rattle.std.specs.Iterator.{MakesProgress, item_count}
 use mathlib.Core.Path.{◌≡◌, refl, sym, ap, ap₂, ◌∙◌, subst}
 use mathlib.Core.Bool.{Bool, false, ◌||◌, or-false}
 use mathlib.Core.List.{List, [], ◌∷◌, ◌++◌, map}
-use Prim.Native.Nat.{ℕ, ◌+◌, ◌-◌, ◌*◌, ◌/◌, ◌%◌, ◌^◌, ◌<◌}
+use Prim.Native.Nat.{ℕ, ◌+◌, ◌-◌, ◌*◌, ◌/◌, ◌%◌, ◌^◌, ◌≤◌, ◌<◌}
 use native.Mathlib.Nat.{mod-eq_of_lt, lt_of_le_of_lt}
 use native.Mathlib.Omega.{arith}
 use lib.Arith.{digits_div}
 use lib.Bits.{bit_and, and_mask, and_le_l, mask_lt}
-use lib.Count.{ones, count_trailing_zeros}
+use lib.Count.{ones, ones-le, count_trailing_zeros}
 use lib.Dec.{T, lit<}
 use lib.ListN.{length, length-map, length-append}
 use Rattle.base.specs.Branch.{when◌then◌else◌}
@@ -24,8 +27,7 @@ use Rattle.rules.specs.Moves.{places}
 use Rattle.rules.specs.Play.{move_of}
 use Rattle.boards.specs.declared.moves.Move.{Move}
 use Rattle.boards.specs.declared.moves.MoveIterator.{MoveIterator}
-use Rattle.boards.specs.declared.moves.Listed.TheVariants.{Next, End}
-use Rattle.boards.specs.Cursor.{move_at, row_moves, moves_left, row_over, cursor_over, listed}
+use Rattle.boards.specs.Cursor.{move_at, row_moves, moves_left, row_over, cursor_over, Lists}
 
 -- ---- moves at different places differ
 same_move : (r q k j : ℕ) → k < 27 → j < 27 → move_at r k ≡ move_at q j → (r ≡ q) × (k ≡ j)
@@ -139,8 +141,8 @@ module _ (left : MoveIterator) (a : left.top < 2 ^ 27) (b : left.middle < 2 ^ 27
         bottom = small left.bottom c i;
       })
 
-  listed_first : (m : Move) (n : ℕ) (ms : List ℕ) → m.bits ≡ n → ms ≡ n ∷ moves_left left → Next m left ≡ listed ms
-  listed_first m n ms e f = ap₂ Next (λ i. record { bits = e i }) (sym cursor_back) ∙ sym (ap listed f)
+  stepped : (it : MoveIterator) (m : Move) (n : ℕ) → m.bits ≡ n → moves_left it ≡ n ∷ moves_left left → Lists it (Some m) left
+  stepped it m n e f = (f ∙ ap (λ (k : ℕ). k ∷ moves_left left) (sym e), sym cursor_back)
 
 module _ (it : MoveIterator) (m : Move) (t : ℕ) where
   abbrev top : ℕ
@@ -153,39 +155,49 @@ module _ (it : MoveIterator) (m : Move) (t : ℕ) where
   bottom = bit_and it.bottom 134217727
 
   pub next_top : (top ≡ 0 → ⊥) → t ≡ bit_and top (top - 1) → m.bits ≡ move_at 0 (count_trailing_zeros 32 top)
-      → Next m (record { top = t; middle = middle; bottom = bottom }) ≡ listed (moves_left it)
+      → Lists it (Some m) (record { top = t; middle = middle; bottom = bottom })
   unfolding moves_left
   next_top z e f = rw e
-      (listed_first (record { top = bit_and top (top - 1); middle = middle; bottom = bottom }) (less it.top) (mask_lt it.middle 27)
+      (stepped (record { top = bit_and top (top - 1); middle = middle; bottom = bottom }) (less it.top) (mask_lt it.middle 27)
       (mask_lt it.bottom 27)
-      m _ (moves_left it) f (rw (row_masked 1 it.middle, row_masked 2 it.bottom)
+      it m _ f (rw (row_masked 1 it.middle, row_masked 2 it.bottom)
       (ap (λ (ms : List ℕ). ms ++ (row_moves 1 it.middle ++ row_moves 2 it.bottom)) (row_first 0 it.top z))))
 
   pub next_middle : top ≡ 0 → (middle ≡ 0 → ⊥) → t ≡ bit_and middle (middle - 1) →
       m.bits ≡ move_at 1 (count_trailing_zeros 32 middle)
-      → Next m (record { top = 0; middle = t; bottom = bottom }) ≡ listed (moves_left it)
+      → Lists it (Some m) (record { top = 0; middle = t; bottom = bottom })
   unfolding moves_left
   next_middle o z e f = rw e
-      (listed_first (record { top = 0; middle = bit_and middle (middle - 1); bottom = bottom }) (lit< tt) (less it.middle)
+      (stepped (record { top = 0; middle = bit_and middle (middle - 1); bottom = bottom }) (lit< tt) (less it.middle)
       (mask_lt it.bottom 27)
-      m _ (moves_left it) f (rw (row_none 0 it.top o, row_none 0 0 refl, row_masked 2 it.bottom)
+      it m _ f (rw (row_none 0 it.top o, row_none 0 0 refl, row_masked 2 it.bottom)
       (ap (λ (ms : List ℕ). ms ++ row_moves 2 it.bottom) (row_first 1 it.middle z))))
 
   pub next_bottom : top ≡ 0 → middle ≡ 0 → (bottom ≡ 0 → ⊥) → t ≡ bit_and bottom (bottom - 1) →
       m.bits ≡ move_at 2 (count_trailing_zeros 32 bottom)
-      → Next m (record { top = 0; middle = 0; bottom = t }) ≡ listed (moves_left it)
+      → Lists it (Some m) (record { top = 0; middle = 0; bottom = t })
   unfolding moves_left
   next_bottom o p z e f = rw e
-      (listed_first (record { top = 0; middle = 0; bottom = bit_and bottom (bottom - 1) }) (lit< tt) (lit< tt) (less it.bottom)
-      m _ (moves_left it) f (rw (row_none 0 it.top o, row_none 1 it.middle p, row_none 0 0 refl, row_none 1 0 refl)
+      (stepped (record { top = 0; middle = 0; bottom = bit_and bottom (bottom - 1) }) (lit< tt) (lit< tt) (less it.bottom)
+      it m _ f (rw (row_none 0 it.top o, row_none 1 it.middle p, row_none 0 0 refl, row_none 1 0 refl)
       (row_first 2 it.bottom z)))
 
 pub next_none : (it : MoveIterator) → bit_and it.top 134217727 ≡ 0 → bit_and it.middle 134217727 ≡ 0 →
-    bit_and it.bottom 134217727 ≡ 0 → End ≡ listed (moves_left it)
+    bit_and it.bottom 134217727 ≡ 0 → Lists it None it
 unfolding moves_left
-next_none it o p q = rw (row_none 0 it.top o, row_none 1 it.middle p, row_none 2 it.bottom q)
+next_none it o p q =
+    let e : moves_left it ≡ [] = rw (row_none 0 it.top o, row_none 1 it.middle p, row_none 2 it.bottom q) in
+    ((e, e), refl)
+
+-- after a move that it gave, fewer are left
+pub nearer : (it : MoveIterator) (m : Move) (after : MoveIterator) → Lists it (Some m) after →
+    MakesProgress (λ _. ⊤) (item_count moves_left) it (Some m) after
+nearer it m after l = let n = ap length l.0 in search (rules, tests)
 
 -- ---- how many are left
+pub at_most_27 : (n : ℕ) → ones (bit_and n 134217727) ≤ 27
+at_most_27 n = ones-le 27 (bit_and n 134217727) (mask_lt n 27)
+
 row_length : (r n : ℕ) → ones (bit_and n 134217727) ≡ length (row_moves r n)
 unfolding row_moves
 row_length r n =

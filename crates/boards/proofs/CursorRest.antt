@@ -1,4 +1,4 @@
--- The cursor over the rest of what a cursor has left has just that rest left; and so what a cursor gives next.
+-- The cursor over the rest of what a cursor has left has just that rest left.
 use mathlib.Core.Path.{◌≡◌, refl, sym, ap, ap₂, ◌∙◌, subst}
 use mathlib.Core.Bool.{Bool, true, false, not, ◌&&◌, and-true}
 use mathlib.Core.List.{List, [], ◌∷◌, ◌++◌}
@@ -14,11 +14,8 @@ use Rattle.base.proofs.Bool.{and→}
 use Rattle.base.proofs.Lists.{in_elem}
 use borrow.Author.Tests.{eq-eqb}
 use Rattle.rules.specs.Moves.{places}
-use Rattle.boards.specs.declared.moves.Move.{Move}
 use Rattle.boards.specs.declared.moves.MoveIterator.{MoveIterator}
-use Rattle.boards.specs.declared.moves.Listed.{Listed}
-use Rattle.boards.specs.declared.moves.Listed.TheVariants.{Next, End}
-use Rattle.boards.specs.Cursor.{row_moves, moves_left, row_over, cursor_over, listed}
+use Rattle.boards.specs.Cursor.{row_moves, moves_left, row_over, cursor_over}
 use Rattle.boards.proofs.Cursor.{cursor_again, row_over_kept, cursor_kept, row_masked}
 
 -- ---- without the first that is kept
@@ -84,23 +81,3 @@ module _ (it : MoveIterator) where
       go : (ms : List ℕ) → moves_left it ≡ ms → moves_left (cursor_over (drop 1 ms)) ≡ drop 1 ms
       go [] e = nothing_left
       go (m ∷ ms) e = rest_left m ms e
-
-  -- ---- what it gives next
-  next_of_left : (m : Move) (rest : MoveIterator) (ms : List ℕ) → moves_left it ≡ ms → Next m rest ≡ listed ms →
-      moves_left it ≡ m.bits ∷ moves_left rest
-  next_of_left m rest [] e h = absurd (let z : ◌≡◌ {A = ℕ} 0 1 = cc in omega arith)
-  next_of_left m rest (n ∷ ns) e h =
-      let p : m ≡ record { bits = n } = cc in
-      let q : rest ≡ cursor_over ns = cc in
-      e ∙ sym (ap₂ (λ (x : ℕ) (xs : List ℕ). x ∷ xs) (ap (λ (y : Move). y.bits) p) (ap moves_left q ∙ rest_left n ns e))
-
-  pub next_left : (l : Listed) → l ≡ listed (moves_left it) → (m : Move) (rest : MoveIterator) → l ≡ Next m rest →
-      moves_left it ≡ m.bits ∷ moves_left rest
-  next_left l p m rest q = next_of_left m rest (moves_left it) refl (sym q ∙ p)
-
-  end_of_left : (ms : List ℕ) → End ≡ listed ms → ms ≡ []
-  end_of_left [] h = refl
-  end_of_left (n ∷ ns) h = absurd (let z : ◌≡◌ {A = ℕ} 0 1 = cc in omega arith)
-
-  pub none_left : (l : Listed) → l ≡ listed (moves_left it) → l ≡ End → moves_left it ≡ []
-  none_left l p q = end_of_left (moves_left it) (sym q ∙ p)

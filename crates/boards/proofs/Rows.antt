@@ -1,7 +1,7 @@
 -- The cells of a row's boards as one number: all of them, the empty ones, and those in which two rows differ.
 use mathlib.Core.Path.{◌≡◌, refl, sym, ap, ap₂, ◌∙◌}
 use mathlib.Core.Bool.{Bool, true, false, not, cond, ◌&&◌, ◌||◌}
-use Prim.Native.Nat.{ℕ, zero, suc, ◌+◌, ◌-◌, ◌*◌, ◌/◌, ◌^◌, ◌<◌}
+use Prim.Native.Nat.{ℕ, zero, suc, ◌+◌, ◌-◌, ◌*◌, ◌/◌, ◌^◌, ◌≤◌, ◌<◌}
 use native.Mathlib.Nat.{lt_of_le_of_lt}
 use native.Mathlib.Omega.{arith}
 use lib.Bits.{bit_and, bit_or, bit_xor, and_le_l, and_le_r, or_lt}
@@ -21,6 +21,9 @@ use Rattle.boards.specs.Rows.{row_cell, row_free, row_same}
 use Rattle.boards.proofs.Packed.{bit_without, not_taken}
 
 -- ---- all cells of the boards that have their bit
+pub low_bit : (n : ℕ) → bit_and n 1 ≤ 1
+low_bit n = and_le_r n 1
+
 abbrev third : Bool → Bool → Bool → ℕ → Bool
 third p q r zero = p
 third p q r (suc zero) = q

@@ -1,4 +1,4 @@
-// Packed boards: moves and the cursor over them, the nine boards and their states.
+// Packed boards: moves and the iterator over them, the nine boards and their states.
 #![tactic(auto)]
 
 mod local;
@@ -6,5 +6,5 @@ mod moves;
 mod states;
 
 pub use local::{LocalBoards, Row};
-pub use moves::{Answer, Built, Listed, Move, MoveError, MoveIterator, PLACES};
+pub use moves::{Move, MoveError, MoveIterator, PLACES};
 pub use states::GlobalStates;

@@ -26,6 +26,7 @@ pub struct LocalBoards {
 }
 
 // The cells of a row's boards, by the boards' three bits.
+#[tactic(auto, using(crate::proofs::Rows::low_bit))]
 fn row_cells(boards: u32) -> u32
     ensures { result ≡ digits (λ k. bit boards (k / 9)) 27 }
 {
@@ -41,11 +42,11 @@ impl Row {
         match who {
             Player::X => Row {
                 x: self.x | bit,
-                o: self.o,
+                ..self
             },
             Player::O => Row {
-                x: self.x,
                 o: self.o | bit,
+                ..self
             },
         }
     }
@@ -73,7 +74,7 @@ impl LocalBoards {
         rows: [Row { x: 0, o: 0 }; 3],
     };
 
-    // The row of a board, empty if there is no such board.
+    // The row of a board, empty if there is no such board. Rows by a constant index: a variable one would go through memory.
     fn row(self, global: usize) -> Row
         ensures { result ≡ row_of self global }
     {
@@ -111,16 +112,11 @@ impl LocalBoards {
         }
         let idx = ((global % 3) * 9 + local) as u32;
         let mut rows = self.rows;
+        // By a constant index, as in `row`.
         match global / 3 {
-            0 => {
-                rows[0] = rows[0].with(idx, who);
-            }
-            1 => {
-                rows[1] = rows[1].with(idx, who);
-            }
-            2 => {
-                rows[2] = rows[2].with(idx, who);
-            }
+            0 => rows[0] = rows[0].with(idx, who),
+            1 => rows[1] = rows[1].with(idx, who),
+            2 => rows[2] = rows[2].with(idx, who),
             _ => {}
         }
         LocalBoards { rows }
@@ -180,13 +176,10 @@ impl LocalBoards {
     pub fn free_in(self, boards: u32) -> MoveIterator
         ensures { result ≡ free_cells self boards }
     {
-        let top = self.rows[0];
-        let middle = self.rows[1];
-        let bottom = self.rows[2];
         MoveIterator {
-            top: top.free_in(boards),
-            middle: middle.free_in(boards >> 3),
-            bottom: bottom.free_in(boards >> 6),
+            top: self.rows[0].free_in(boards),
+            middle: self.rows[1].free_in(boards >> 3),
+            bottom: self.rows[2].free_in(boards >> 6),
         }
     }
 
@@ -194,16 +187,9 @@ impl LocalBoards {
     pub fn same_in(self, boards: u32, rhs: LocalBoards) -> bool
         ensures { result ≡ same_cells self rhs boards }
     {
-        let top = self.rows[0];
-        let middle = self.rows[1];
-        let bottom = self.rows[2];
-        if !top.same_in(boards, rhs.rows[0]) {
-            return false;
-        }
-        if !middle.same_in(boards >> 3, rhs.rows[1]) {
-            return false;
-        }
-        bottom.same_in(boards >> 6, rhs.rows[2])
+        self.rows[0].same_in(boards, rhs.rows[0])
+            && self.rows[1].same_in(boards >> 3, rhs.rows[1])
+            && self.rows[2].same_in(boards >> 6, rhs.rows[2])
     }
 
     // The keys of the played cells of a board.
@@ -221,21 +207,19 @@ impl LocalBoards {
     pub fn board_hash(self, global: usize, state: GameState) -> u64
         ensures { result ≡ board_hash global (cell_at self global) state }
     {
-        match state {
-            GameState::InPlay => self.cells_hash(global),
-            GameState::Drawn => keys::for_board(global, state),
-            GameState::Won(_) => keys::for_board(global, state),
+        if state.terminal() {
+            return keys::for_board(global, state);
         }
+        self.cells_hash(global)
     }
 
     // The hash after a move in a board, whose cell's key it has: once the board closes, its state's key for those of its cells.
     pub fn hash_after(self, hash: u64, global: usize, state: GameState) -> u64
         ensures { result ≡ closing hash global (cell_at self global) state }
     {
-        match state {
-            GameState::InPlay => hash,
-            GameState::Drawn => hash ^ self.cells_hash(global) ^ keys::for_board(global, state),
-            GameState::Won(_) => hash ^ self.cells_hash(global) ^ keys::for_board(global, state),
+        if state.terminal() {
+            return hash ^ self.cells_hash(global) ^ keys::for_board(global, state);
         }
+        hash
     }
 }

@@ -1,16 +1,20 @@
-// Moves, and the cursor over a list of moves.
-// Ported from src/lib/game.rs of nelhage/ultimattt at commit 87ef0d9c7c (Apache-2.0, see NOTICE), changed: a cursor by value that holds
-// the cells still to be listed.
+// Moves, and the iterator over a list of moves.
+// Ported from src/lib/game.rs of nelhage/ultimattt at commit 87ef0d9c7c (Apache-2.0, see NOTICE), changed: refusals have numbers, and
+// the iterator holds the cells still to be listed.
 ghost use Rattle.std.specs.Prelude.{◌≡◌, not, ◌-◌, ◌<◌, eqb, length};
 ghost use Rattle.std.specs.Int.Bits.{bit_and};
-ghost use Rattle.rules.specs.Play.{board_of, cell_of, no_move};
-ghost use Rattle.boards.specs.Answers.{move_error_number, answer_number, Builds};
-ghost use Rattle.boards.specs.Cursor.{move_at, moves_left, listed};
+ghost use Rattle.std.specs.Iterator.{item_count};
+ghost use Rattle.rules.specs.Play.{move_of, board_of, cell_of, no_move};
+ghost use Rattle.boards.specs.Answers.{move_error_number, in_range, within};
+ghost use Rattle.boards.specs.Cursor.{move_at, moves_left, Lists};
+ghost use Rattle.std.proofs.Common.{rules};
+
+use rules::Refusal;
 
 // The cells of all boards: no game has more moves, so no search is deeper and no variation longer.
 pub const PLACES: usize = 81;
 
-#[derive(Clone, Copy)]
+#[derive(Clone, Copy, PartialEq, Eq)]
 pub enum MoveError {
     WrongBoard,
     WonBoard,
@@ -19,10 +23,12 @@ pub enum MoveError {
     GameOver,
 }
 
-impl MoveError {
-    pub fn number(self) -> u64
-        ensures { result ≡ move_error_number self }
-    {
+impl Refusal for MoveError {
+    ghost number_of = { move_error_number };
+
+    ghost never_0 = { Prim.search rules };
+
+    fn number(self) -> u64 {
         match self {
             MoveError::OutOfBounds => 9,
             MoveError::GameOver => 10,
@@ -33,61 +39,25 @@ impl MoveError {
     }
 }
 
-#[derive(Clone, Copy)]
-pub enum Answer {
-    Accepted,
-    Refused(MoveError),
-}
-
-impl Answer {
-    // 0 where nothing is refused.
-    pub fn number(self) -> u64
-        ensures { result ≡ answer_number self }
-    {
-        match self {
-            Answer::Accepted => 0,
-            Answer::Refused(why) => why.number(),
-        }
-    }
-}
-
 // 16 times board plus cell; 0xff is the empty move.
-#[derive(Clone, Copy)]
+#[derive(Clone, Copy, PartialEq, Eq)]
 pub struct Move {
     pub bits: u8,
-}
-
-// What building a move gives: refused, the empty move.
-#[derive(Clone, Copy)]
-pub struct Built {
-    pub answer: Answer,
-    pub m: Move,
 }
 
 impl Move {
     pub const NONE: Move = Move { bits: 0xff };
 
-    pub fn from_coords(global: usize, local: usize) -> Built
-        ensures { Builds global local result }
+    #[tactic(auto, using(crate::proofs::Answers::in_both, crate::proofs::Answers::past_either))]
+    pub fn from_coords(global: usize, local: usize) -> Result<Move, MoveError>
+        ensures { result ≡ within (in_range global local) (record { bits = move_of global local }) }
     {
-        if global > 8 {
-            return Built {
-                answer: Answer::Refused(MoveError::OutOfBounds),
-                m: Move::NONE,
-            };
+        if global > 8 || local > 8 {
+            return Err(MoveError::OutOfBounds);
         }
-        if local > 8 {
-            return Built {
-                answer: Answer::Refused(MoveError::OutOfBounds),
-                m: Move::NONE,
-            };
-        }
-        Built {
-            answer: Answer::Accepted,
-            m: Move {
-                bits: (global * 16 + local) as u8,
-            },
-        }
+        Ok(Move {
+            bits: (global * 16 + local) as u8,
+        })
     }
 
     pub fn global(self) -> usize
@@ -135,13 +105,6 @@ pub struct MoveIterator {
     pub bottom: u32,
 }
 
-// What comes next in a list of moves, and the rest of it.
-#[derive(Clone, Copy)]
-pub enum Listed {
-    Next(Move, MoveIterator),
-    End,
-}
-
 pub(crate) const ROW_MASK: u32 = 0x7ff_ffff;
 
 // The bits without the lowest one.
@@ -164,48 +127,55 @@ fn move_at(row: u32, place: u32) -> Move
     }
 }
 
-impl MoveIterator {
+impl Iterator for MoveIterator {
+    type Item = Move;
+
+    ghost next_gives = { Lists };
+
+    ghost remaining = { item_count moves_left };
+
     // Bits above the 27 count for nothing.
-    pub fn next(self) -> Listed
-        ensures { result ≡ listed (moves_left self) }
-    {
+    fn next(&mut self) -> Option<Move> {
         let top = self.top & ROW_MASK;
         let middle = self.middle & ROW_MASK;
         let bottom = self.bottom & ROW_MASK;
         if top != 0 {
-            let left = MoveIterator {
+            *self = MoveIterator {
                 top: without_lowest(top),
                 middle,
                 bottom,
             };
-            return Listed::Next(move_at(0, u32::trailing_zeros(top)), left);
+            return Some(move_at(0, top.trailing_zeros()));
         }
         if middle != 0 {
-            let left = MoveIterator {
+            *self = MoveIterator {
                 top: 0,
                 middle: without_lowest(middle),
                 bottom,
             };
-            return Listed::Next(move_at(1, u32::trailing_zeros(middle)), left);
+            return Some(move_at(1, middle.trailing_zeros()));
         }
         if bottom != 0 {
-            let left = MoveIterator {
+            *self = MoveIterator {
                 top: 0,
                 middle: 0,
                 bottom: without_lowest(bottom),
             };
-            return Listed::Next(move_at(2, u32::trailing_zeros(bottom)), left);
+            return Some(move_at(2, bottom.trailing_zeros()));
         }
-        Listed::End
+        None
     }
+}
 
-    // How many moves are left.
+impl MoveIterator {
+    // How many moves are left, by their bits: no walk over them, as the trait's `count` would be.
+    #[tactic(auto, using(crate::proofs::Cursor::at_most_27))]
     pub fn count(self) -> usize
         ensures { result ≡ length (moves_left self) }
     {
-        let top = u32::count_ones(self.top & ROW_MASK) as usize;
-        let middle = u32::count_ones(self.middle & ROW_MASK) as usize;
-        let bottom = u32::count_ones(self.bottom & ROW_MASK) as usize;
+        let top = (self.top & ROW_MASK).count_ones() as usize;
+        let middle = (self.middle & ROW_MASK).count_ones() as usize;
+        let bottom = (self.bottom & ROW_MASK).count_ones() as usize;
         top + middle + bottom
     }
 }

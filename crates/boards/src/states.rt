@@ -20,24 +20,28 @@ pub struct GlobalStates {
 impl GlobalStates {
     pub const EMPTY: GlobalStates = GlobalStates { x: 0, o: 0 };
 
+    #[tactic(auto, using(crate::proofs::Packed::x_states))]
     pub fn xbits(self) -> u32
         ensures { result ≡ digits (λ b. won_by Player.X (state_at self b)) 9 }
     {
         (self.x as u32) & !(self.o as u32) & BOARD_MASK
     }
 
+    #[tactic(auto, using(crate::proofs::Packed::o_states))]
     pub fn obits(self) -> u32
         ensures { result ≡ digits (λ b. won_by Player.O (state_at self b)) 9 }
     {
         (self.o as u32) & !(self.x as u32) & BOARD_MASK
     }
 
+    #[tactic(auto, using(crate::proofs::Packed::drawn_states))]
     pub fn drawbits(self) -> u32
         ensures { result ≡ digits (λ b. drawn (state_at self b)) 9 }
     {
         (self.x as u32) & (self.o as u32) & BOARD_MASK
     }
 
+    #[tactic(auto, using(crate::proofs::Packed::done_states))]
     pub fn donebits(self) -> u32
         ensures { result ≡ digits (λ b. not (in_play (state_at self b))) 9 }
     {
@@ -63,10 +67,7 @@ impl GlobalStates {
     pub fn in_play(self, board: usize) -> bool
         ensures { result ≡ in_play (state_at self board) }
     {
-        if board > 8 {
-            return true;
-        }
-        (self.donebits() >> board) & 1 == 0
+        board > 8 || (self.donebits() >> board) & 1 == 0
     }
 
     pub fn check_winner(self, player: Player) -> GameState
@@ -90,16 +91,11 @@ impl GlobalStates {
         }
         let x = (self.x >> board) & 1 == 1;
         let o = (self.o >> board) & 1 == 1;
-        if x {
-            if o {
-                GameState::Drawn
-            } else {
-                GameState::Won(Player::X)
-            }
-        } else if o {
-            GameState::Won(Player::O)
-        } else {
-            GameState::InPlay
+        match (x, o) {
+            (true, true) => GameState::Drawn,
+            (true, false) => GameState::Won(Player::X),
+            (false, true) => GameState::Won(Player::O),
+            (false, false) => GameState::InPlay,
         }
     }
 
@@ -116,15 +112,13 @@ impl GlobalStates {
                 x: self.x | bit,
                 o: self.o | bit,
             },
-            GameState::Won(who) => match who {
-                Player::X => GlobalStates {
-                    x: self.x | bit,
-                    o: self.o,
-                },
-                Player::O => GlobalStates {
-                    x: self.x,
-                    o: self.o | bit,
-                },
+            GameState::Won(Player::X) => GlobalStates {
+                x: self.x | bit,
+                ..self
+            },
+            GameState::Won(Player::O) => GlobalStates {
+                o: self.o | bit,
+                ..self
             },
         }
     }

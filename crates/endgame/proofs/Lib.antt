@@ -1,4 +1,3 @@
-pub mod PartsLoop
 pub mod PartsSets
 pub mod PartsSound
 pub mod PartsLacking

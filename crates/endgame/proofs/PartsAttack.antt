@@ -1,12 +1,13 @@
 -- The proofs of the side to move's win and loss: a critical set holds no board over 8, as no side of a sound position has a line yet, and
 -- the sets of boards say what the written tests say of each board.
+use Rattle.std.specs.Prelude.{None, Some}
 use mathlib.Core.Path.{◌≡◌, refl, sym, ap, ap₂, ◌∙◌}
 use mathlib.Core.Bool.{Bool, true, false, not, ◌||◌, ◌&&◌}
 use Prim.Native.Nat.{ℕ, ◌≤◌, ◌<◌}
 use native.Mathlib.Omega.{arith}
 use lib.Bits.{bit_or}
 use lib.Dec.{T, eqb, T_not}
-use borrow.Author.Tests.{ne_eqb}
+use borrow.Author.Tests.{eq-eqb, ne_eqb}
 use Rattle.base.specs.Bits.{bit, digits}
 use Rattle.base.specs.Branch.{when◌then◌else◌}
 use Rattle.base.specs.Update.{update}
@@ -15,7 +16,6 @@ use Rattle.base.proofs.ListsAgree.{any_same, all_same, false_by}
 use Rattle.base.proofs.Bool.{always}
 use Rattle.base.proofs.ListsEvery.{same_b, same_b_eq}
 use Rattle.rules.specs.declared.Player.{Player}
-use Rattle.rules.specs.declared.NextBoard.TheVariants.{Any, Only}
 use Rattle.rules.specs.Board.{other, nine, has_line}
 use Rattle.rules.specs.Position.{Position, open_board, won_boards, free_cell}
 use Rattle.rules.specs.Play.{board_of, cell_of}
@@ -41,13 +41,12 @@ critical_past p s w b h = false_by (critical p w b) (λ t.
     (rw (line_same (update (won_boards p w) b true) (won_boards p w) (λ k l. update_else (won_boards p w) b k (λ e. omega arith))) at
     (crit→ p w b t).boards))
 
--- the set of a side that is known otherwise
-pub set_of_side : (p : Position) (w v : Player) (n : ℕ) → n ≡ digits (critical p w) 9 → w ≡ v → n ≡ digits (critical p v) 9
-set_of_side p w v n e q = e ∙ ap (λ (x : Player). digits (critical p x) 9) q
-
 module _ (p : Position) (w : Player) (n : ℕ) (e : n ≡ digits (critical p w) 9) where
   pub set_critical : T (sound p) → (b : ℕ) → bit n b ≡ critical p w b
   set_critical s = set_bit_all (critical p w) n e (critical_past p s w)
+
+  pub known_critical : T (sound p) → (b : ℕ) (r : Bool) → r ≡ bit n b → critical p w b ≡ r
+  known_critical s b r f = sym (set_critical s b) ∙ sym f
 
   pub some_critical : (r : Bool) → eqb n 0 ≡ r → has_critical p w ≡ not r
   unfolding has_critical
@@ -56,6 +55,12 @@ module _ (p : Position) (w : Player) (n : ℕ) (e : n ≡ digits (critical p w) 
       turned : (a b : Bool) → not a ≡ b → a ≡ not b
       turned true b q = ap not q
       turned false b q = ap not q
+
+  pub none_critical : n ≡ 0 → has_critical p w ≡ false
+  none_critical z = some_critical true (eq-eqb n 0 z)
+
+  pub any_critical : (n ≡ 0 → ⊥) → has_critical p w ≡ true
+  any_critical z = some_critical false (ne_eqb n 0 z)
 
   -- the closed and the critical boards are those that suit
   module _ (done : ℕ) (d : done ≡ digits (λ b. not (open_board p b)) 9) where
@@ -75,11 +80,11 @@ module _ (p : Position) where
   no_attack e = rw e
 
   module _ (e : has_critical p p.turn ≡ true) where
-    pub attack_free : p.next_board ≡ Any → true ≡ prove_attacker p
+    pub attack_free : p.next_board ≡ None → true ≡ prove_attacker p
     unfolding prove_attacker attack
     attack_free d = rw (e, d)
 
-    module _ (b : ℕ) (d : p.next_board ≡ Only b) where
+    module _ (b : ℕ) (d : p.next_board ≡ Some b) where
       attack_at : (r : Bool) → critical p p.turn b ≡ r → (r || any (lure p p.turn b) nine) ≡ prove_attacker p
       unfolding prove_attacker attack
       attack_at r c = sym (rw e (ap (attack p p.turn) d) ∙ ap (λ (x : Bool). x || any (lure p p.turn b) nine) c)
@@ -119,11 +124,11 @@ module _ (p : Position) where
   no_threat e = rw e
 
   module _ (e : has_critical p (other p.turn) ≡ true) where
-    pub not_forced : p.next_board ≡ Any → false ≡ forced_loss p
+    pub not_forced : p.next_board ≡ None → false ≡ forced_loss p
     unfolding forced_loss forced
     not_forced d = rw (e, d)
 
-    module _ (b : ℕ) (d : p.next_board ≡ Only b) where
+    module _ (b : ℕ) (d : p.next_board ≡ Some b) where
       forced_at : (r : Bool) → critical p (other p.turn) b ≡ r → (not r && all_suit p (other p.turn) b) ≡ forced_loss p
       unfolding forced_loss forced
       forced_at r c = sym (rw e (ap (forced p (other p.turn)) d) ∙ ap (λ (x : Bool). not x && all_suit p (other p.turn) b) c)
@@ -160,3 +165,12 @@ module _ (p : Position) (m : ℕ) where
     pub judged_open : suits p v (cell_of m) ≡ false → unproven ≡ judge p m
     unfolding judge when◌then◌else◌
     judged_open s = rw (e, c, s)
+
+-- ---- what `search` takes of these, in the functions that cite them
+pub ruleset critical_sets = (none_critical, any_critical)
+
+pub ruleset attacks = (critical_sets, no_attack, attack_free)
+
+pub ruleset losses = (critical_sets, no_threat, not_forced)
+
+pub ruleset judgements = (critical_sets, known_critical, judged_safe, judged_blocking)

@@ -6,9 +6,9 @@ use mathlib.Core.Logic.{inl, inr}
 use Prim.Native.Nat.{ℕ, ◌+◌, ◌<◌}
 use native.Mathlib.Omega.{arith}
 use lib.Bits.{bit_and, bit_or, and_le_l}
-use lib.Count.{count_trailing_zeros}
+use lib.Count.{ones, count_trailing_zeros}
 use lib.Dec.{T, eqb, ltb, eqb→eq, ltb→lt}
-use lib.ListN.{take}
+use Rattle.std.specs.List.{list_any, fold}
 use borrow.Author.Tests.{eqb-true, eq-eqb}
 use Rattle.base.specs.Bits.{bit, digits}
 use Rattle.base.specs.Lists.{any, all, In}
@@ -26,12 +26,11 @@ use Rattle.rules.specs.Endgame.{critical}
 use Rattle.rules.proofs.Board.{in_nine}
 use Rattle.rules.proofs.Sound.{Fair}
 use Rattle.rules.proofs.EndgameCritical.{on, sole_empty, rust_critical, rust_critical_board, critical_is_rusts}
-use Rattle.lines.specs.Masks.{mask_of, line_at}
+use Rattle.lines.specs.Masks.{masks, mask_of, line_at}
 use Rattle.lines.proofs.Masks.{mask_at}
 use Rattle.endgame.specs.Parts.{lacks_one, critical_by}
-use Rattle.endgame.proofs.PartsLoop.{any_so_far}
-use Rattle.endgame.proofs.PartsSets.{set_lt, set_bit, no_digits, joined}
-use Rattle.endgame.proofs.PartsLacking.{lone_bit, lacks_counted, lacks_low}
+use Rattle.endgame.proofs.PartsSets.{set_lt, set_bit, no_digits, joined_all}
+use Rattle.endgame.proofs.PartsLacking.{lone_bit, line_lacks, mask_lacks, any_mask}
 
 -- ---- the places of a line
 on_test : Line → Bool
@@ -75,39 +74,45 @@ lone_place empty l i t =
 
 -- ---- some line of a board's cells lacks one exactly if the Rust finds a place
 module _ (own empty : ℕ → Bool) where
-  pub lacking_found : T (any (lacks_one own empty) lines) → T (any (λ c. empty c && rust_critical own empty c) nine)
-  unfolding lacks_one rust_critical sole_empty
+  pub lacking_found : T (any (line_lacks own empty) lines) → T (any (λ c. empty c && rust_critical own empty c) nine)
+  unfolding line_lacks rust_critical sole_empty
   lacking_found t =
-      let r = any_some (lacks_one own empty) lines t in let l = r.0 in
+      let r = any_some (line_lacks own empty) lines t in let l = r.0 in
       let s = and→ (all_three (λ i. own i || empty i) l) _ r.2 in
       let c = lone_place empty l r.1 s.1 in
       some_any (λ c. empty c && rust_critical own empty c) c.0 nine (in_nine c.0 c.1)
       (→and (empty c.0) _ c.2 (some_any (sole_empty own empty c.0) l lines r.1
       (→and (all_three (λ i. own i || empty i) l) _ s.0 (→and (eqb (places_in empty l) 1) _ s.1 c.3))))
 
-  pub found_lacking : T (any (λ c. empty c && rust_critical own empty c) nine) → T (any (lacks_one own empty) lines)
-  unfolding lacks_one rust_critical sole_empty
+  pub found_lacking : T (any (λ c. empty c && rust_critical own empty c) nine) → T (any (line_lacks own empty) lines)
+  unfolding line_lacks rust_critical sole_empty
   found_lacking t =
       let r = any_some (λ c. empty c && rust_critical own empty c) nine t in
       let s = any_some (sole_empty own empty r.0) lines (and→ (empty r.0) _ r.2).1 in let l = s.0 in
       let u = and→ (all_three (λ i. own i || empty i) l) _ s.2 in
-      some_any (lacks_one own empty) l lines s.1 (→and (all_three (λ i. own i || empty i) l) _ u.0
+      some_any (line_lacks own empty) l lines s.1 (→and (all_three (λ i. own i || empty i) l) _ u.0
       (and→ (eqb (places_in empty l) 1) _ u.1).0)
 
 -- ---- the lines' boards together
+-- board b is the one that line l lacks, and some line of its cells lacks one
+unfoldable pub line_critical : Position → Player → Line → ℕ → Bool
+line_critical p w l b =
+    (open_board p b && bit (mask_of l) b) &&
+    (line_lacks (won_boards p w) (open_board p) l && any (line_lacks (has p w b) (free_cell p b)) lines)
+
 module _ (p : Position) (f : Fair p) (w : Player) where
-  pub by_lines : (b : ℕ) → b < 9 → any (λ l. critical_by p w l b) lines ≡ critical p w b
-  unfolding critical_by lacks_one rust_critical_board rust_critical sole_empty
+  pub by_lines : (b : ℕ) → b < 9 → any (λ l. line_critical p w l b) lines ≡ critical p w b
+  unfolding line_critical line_lacks rust_critical_board rust_critical sole_empty
   by_lines b h =
-      same_by (any (λ l. critical_by p w l b) lines) (critical p w b) (λ t. (critical_is_rusts p f w b h).0 (there t))
+      same_by (any (λ l. line_critical p w l b) lines) (critical p w b) (λ t. (critical_is_rusts p f w b h).0 (there t))
       (λ t. back ((critical_is_rusts p f w b h).1 t))
     where
       covered : Line → Bool
       covered l = all_three (λ i. won_boards p w i || open_board p i) l
 
-      there : T (any (λ l. critical_by p w l b) lines) → T (rust_critical_board p w b)
+      there : T (any (λ l. line_critical p w l b) lines) → T (rust_critical_board p w b)
       there t =
-          let r = any_some (λ l. critical_by p w l b) lines t in let l = r.0 in
+          let r = any_some (λ l. line_critical p w l b) lines t in let l = r.0 in
           let s = and→ (open_board p b && bit (mask_of l) b) _ r.2 in
           let o = and→ (open_board p b) _ s.0 in
           let u = and→ (covered l && eqb (places_in (open_board p) l) 1) _ s.1 in
@@ -118,85 +123,82 @@ module _ (p : Position) (f : Fair p) (w : Player) where
           (subst (λ (x : Bool). T x) (on_line l b r.1 h) o.1))))
           (lacking_found (has p w b) (free_cell p b) u.1))
 
-      back : T (rust_critical_board p w b) → T (any (λ l. critical_by p w l b) lines)
+      back : T (rust_critical_board p w b) → T (any (λ l. line_critical p w l b) lines)
       back t =
           let o = and→ (open_board p b) _ t in
           let q = and→ (rust_critical (won_boards p w) (open_board p) b) _ o.1 in
           let r = any_some (sole_empty (won_boards p w) (open_board p) b) lines q.0 in let l = r.0 in
           let u = and→ (covered l) _ r.2 in let v = and→ (eqb (places_in (open_board p) l) 1) _ u.1 in
-          some_any (λ l. critical_by p w l b) l lines r.1
+          some_any (λ l. line_critical p w l b) l lines r.1
           (→and (open_board p b && bit (mask_of l) b) _ (→and (open_board p b) _ o.0
           (subst (λ (x : Bool). T x) (sym (on_line l b r.1 h)) v.1))
           (→and (covered l && eqb (places_in (open_board p) l) 1) _ (→and (covered l) _ u.0 v.0)
           (found_lacking (has p w b) (free_cell p b) q.1)))
 
-  pub all_lines : digits (λ b. any (λ l. critical_by p w l b) lines) 9 ≡ digits (critical p w) 9
-  all_lines = digits_same (λ b. any (λ l. critical_by p w l b) lines) (critical p w) 9 by_lines
+  by_masks : (b : ℕ) → list_any (λ m. critical_by p w m b) masks ≡ any (λ l. line_critical p w l b) lines
+  unfolding critical_by line_critical
+  by_masks b = any_mask (λ m. critical_by p w m b) (λ l. line_critical p w l b) (λ i h.
+      ap₂ ◌&&◌ (ap (λ (m : ℕ). open_board p b && bit m b) (mask_is i h))
+      (ap₂ ◌&&◌ (mask_lacks (won_boards p w) (open_board p) i h)
+      (any_mask (lacks_one (digits (has p w b) 9) (digits (free_cell p b) 9)) (line_lacks (has p w b) (free_cell p b))
+      (mask_lacks (has p w b) (free_cell p b)))))
 
--- ---- the loop over the lines
-module _ (p : Position) (w : Player) where
-  pub no_lines : 0 ≡ digits (λ b. any (λ l. critical_by p w l b) (take 0 lines)) 9
-  unfolding any
-  no_lines = no_digits (λ b. any (λ l. critical_by p w l b) (take 0 lines)) (λ _ _. refl)
+  pub all_masks : fold (λ out m. bit_or out (digits (critical_by p w m) 9)) 0 masks ≡ digits (critical p w) 9
+  all_masks =
+      joined_all (critical_by p w) masks (λ _. false) 0 (no_digits (λ _. false) (λ _ _. refl))
+      ∙ digits_same _ (critical p w) 9 (λ b h. by_masks b ∙ by_lines b h)
 
-  pub one_line_more : (i out one : ℕ) → i < 8 → out ≡ digits (λ b. any (λ l. critical_by p w l b) (take i lines)) 9 →
-      one ≡ digits (critical_by p w (line_at i)) 9 →
-      bit_or out one ≡ digits (λ b. any (λ l. critical_by p w l b) (take (i + 1) lines)) 9
-  one_line_more i out one h e d =
-      joined (λ b. any (λ l. critical_by p w l b) (take i lines)) (critical_by p w (line_at i)) out one e d
-      ∙ digits_same _ (λ b. any (λ l. critical_by p w l b) (take (i + 1) lines)) 9
-      (λ b _. sym (any_so_far (λ l. critical_by p w l b) lines _ i h))
-
--- ---- one line
-module _ (p : Position) (w : Player) (i own opens : ℕ) (h : i < 8) (e : own ≡ digits (won_boards p w) 9)
+-- ---- the line of one mask
+module _ (p : Position) (w : Player) (mask own opens : ℕ) (e : own ≡ digits (won_boards p w) 9)
     (d : opens ≡ digits (open_board p) 9) where
   abbrev lacked : ℕ
-  lacked = bit_and opens (mask_at i)
+  lacked = bit_and opens mask
 
   abbrev found : ℕ → Bool
-  found b = any (lacks_one (has p w b) (free_cell p b)) lines
+  found b = list_any (lacks_one (digits (has p w b) 9) (digits (free_cell p b) 9)) masks
 
-  lacks : lacks_one (bit own) (bit opens) (line_at i) ≡ lacks_one (won_boards p w) (open_board p) (line_at i)
-  lacks = lacks_low (won_boards p w) (open_board p) own opens (set_bit (won_boards p w) own e) (set_bit (open_board p) opens d) i h
+  module _ (r : Bool) (a : lacks_one own opens mask ≡ r) where
+    lacks : lacks_one (digits (won_boards p w) 9) (digits (open_board p) 9) mask ≡ r
+    lacks = (λ i. lacks_one (sym e i) (sym d i) mask) ∙ a
 
-  pub line_lacks_none : (r : Bool) → r ≡ lacks_one (bit own) (bit opens) (line_at i) → r ≡ false →
-      0 ≡ digits (critical_by p w (line_at i)) 9
-  unfolding critical_by
-  line_lacks_none r a f = no_digits (critical_by p w (line_at i)) (λ b _.
-      ap (λ (x : Bool). (open_board p b && bit (mask_of (line_at i)) b) && (x && found b)) (sym lacks ∙ sym a ∙ f)
-      ∙ and-false (open_board p b && bit (mask_of (line_at i)) b))
+    pub line_lacks_none : r ≡ false → 0 ≡ digits (critical_by p w mask) 9
+    unfolding critical_by
+    line_lacks_none f = no_digits (critical_by p w mask) (λ b _.
+        ap (λ (x : Bool). (open_board p b && bit mask b) && (x && found b)) (lacks ∙ f) ∙ and-false (open_board p b && bit mask b))
 
-  -- the line lacks one board: it is the lowest bit, and it counts if a line of its cells lacks one
-  module _ (r : Bool) (a : r ≡ lacks_one (bit own) (bit opens) (line_at i)) (t : r ≡ true) where
-    lacked_lt : lacked < 512
-    lacked_lt = omega (arith, set_lt (open_board p) opens d, and_le_l opens (mask_at i))
+    -- the line lacks one board: it is the lowest bit, and it counts if a line of its cells lacks one
+    module _ (t : r ≡ true) where
+      lacked_lt : lacked < 512
+      lacked_lt = omega (arith, set_lt (open_board p) opens d, and_le_l opens mask)
 
-    lacked_bit : (b : ℕ) → b < 9 → bit lacked b ≡ (open_board p b && bit (mask_of (line_at i)) b)
-    lacked_bit b l =
-        bit-bit_and opens (mask_at i) b ∙ ap₂ ◌&&◌ (set_bit (open_board p) opens d b l) (ap (λ (m : ℕ). bit m b) (mask_is i h))
+      lacked_bit : (b : ℕ) → b < 9 → bit lacked b ≡ (open_board p b && bit mask b)
+      lacked_bit b l = bit-bit_and opens mask b ∙ ap (λ (x : Bool). x && bit mask b) (set_bit (open_board p) opens d b l)
 
-    lacked_is : (b : ℕ) → b < 9 → (open_board p b && bit (mask_of (line_at i)) b) ≡ eqb b (count_trailing_zeros 32 lacked)
-    lacked_is b l =
-        sym (lacked_bit b l) ∙ lone_bit lacked b lacked_lt l (lacks_counted own opens i (set_lt (won_boards p w) own e)
-        (set_lt (open_board p) opens d) h (sym a ∙ t))
+      one_lacked : T (eqb (ones lacked) 1)
+      one_lacked = (and→ (eqb (bit_and (bit_or own opens) mask) mask) _ (rw (a ∙ t) tt)).1
 
-    module _ (c : Bool) (g : c ≡ found (count_trailing_zeros 32 lacked)) where
-      each : (b : ℕ) → b < 9 → critical_by p w (line_at i) b ≡ (eqb b (count_trailing_zeros 32 lacked) && c)
-      unfolding critical_by
-      each b l =
-          ap₂ (λ (x y : Bool). x && (y && found b)) (lacked_is b l) (sym lacks ∙ sym a ∙ t)
-          ∙ go (eqb b (count_trailing_zeros 32 lacked)) refl
-        where
-          go : (x : Bool) → eqb b (count_trailing_zeros 32 lacked) ≡ x → (x && found b) ≡ (x && c)
-          go true q = ap found (eqb-true b (count_trailing_zeros 32 lacked) q) ∙ sym g
-          go false q = refl
+      lacked_is : (b : ℕ) → b < 9 → (open_board p b && bit mask b) ≡ eqb b (count_trailing_zeros 32 lacked)
+      lacked_is b l = sym (lacked_bit b l) ∙ lone_bit lacked b lacked_lt l one_lacked
 
-      pub line_found : c ≡ true → lacked ≡ digits (critical_by p w (line_at i)) 9
-      line_found u = is_digits (critical_by p w (line_at i)) 9 lacked lacked_lt (λ b l.
-          lacked_bit b l ∙ lacked_is b l ∙ sym (and-true (eqb b (count_trailing_zeros 32 lacked)))
-          ∙ ap (◌&&◌ (eqb b (count_trailing_zeros 32 lacked))) (sym u) ∙ sym (each b l))
+      module _ (c : Bool) (g : c ≡ found (count_trailing_zeros 32 lacked)) where
+        each : (b : ℕ) → b < 9 → critical_by p w mask b ≡ (eqb b (count_trailing_zeros 32 lacked) && c)
+        unfolding critical_by
+        each b l =
+            ap₂ (λ (x y : Bool). x && (y && found b)) (lacked_is b l) (lacks ∙ t)
+            ∙ go (eqb b (count_trailing_zeros 32 lacked)) refl
+          where
+            go : (x : Bool) → eqb b (count_trailing_zeros 32 lacked) ≡ x → (x && found b) ≡ (x && c)
+            go true q = ap found (eqb-true b (count_trailing_zeros 32 lacked) q) ∙ sym g
+            go false q = refl
 
-      pub line_missed : c ≡ false → 0 ≡ digits (critical_by p w (line_at i)) 9
-      line_missed u =
-          no_digits (critical_by p w (line_at i)) (λ b l. each b l ∙ ap (◌&&◌ (eqb b (count_trailing_zeros 32 lacked))) u
-          ∙ and-false (eqb b (count_trailing_zeros 32 lacked)))
+        pub line_found : c ≡ true → lacked ≡ digits (critical_by p w mask) 9
+        line_found u = is_digits (critical_by p w mask) 9 lacked lacked_lt (λ b l.
+            lacked_bit b l ∙ lacked_is b l ∙ sym (and-true (eqb b (count_trailing_zeros 32 lacked)))
+            ∙ ap (◌&&◌ (eqb b (count_trailing_zeros 32 lacked))) (sym u) ∙ sym (each b l))
+
+        pub line_missed : c ≡ false → 0 ≡ digits (critical_by p w mask) 9
+        line_missed u =
+            no_digits (critical_by p w mask) (λ b l. each b l ∙ ap (◌&&◌ (eqb b (count_trailing_zeros 32 lacked))) u
+            ∙ and-false (eqb b (count_trailing_zeros 32 lacked)))
+
+pub ruleset lacked_boards = (line_lacks_none, line_found, line_missed)

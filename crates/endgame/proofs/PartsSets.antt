@@ -1,6 +1,7 @@
 -- Sets of boards, or of cells, as nine digits: what the bit operations make of the tests that they stand for.
 use mathlib.Core.Path.{◌≡◌, refl, sym, ap, ap₂, ◌∙◌}
-use mathlib.Core.Bool.{Bool, true, false, not, ◌||◌, ◌&&◌, and-true}
+use mathlib.Core.Bool.{Bool, true, false, not, ◌||◌, ◌&&◌, and-true, or-false, or_assoc}
+use mathlib.Core.List.{List, [], ◌∷◌}
 use Prim.Native.Nat.{ℕ, ◌-◌, ◌*◌, ◌%◌, ◌^◌, ◌≤◌, ◌<◌}
 use native.Mathlib.Decide.{dec_lt}
 use native.Mathlib.Omega.{arith}
@@ -8,16 +9,23 @@ use lib.Bits.{bit_and, bit_or, and_le_l, or_lt}
 use lib.Dec.{eqb}
 use lib.Pow.{pow-lt}
 use borrow.Author.Tests.{ne_eqb}
+use Rattle.std.specs.List.{list_any, fold}
 use Rattle.base.specs.Bits.{bit, digits}
 use Rattle.base.specs.Lists.{any, all}
+use Rattle.base.proofs.Bool.{neither}
 use Rattle.base.proofs.ListsAgree.{all_same}
 use Rattle.base.proofs.BitsOperations.{bit-bit_and, bit-bit_or, bit_nought, bit_pow}
-use Rattle.base.proofs.Bits.{bit_above, bit_digits, digits_lt, is_digits, none_set, shl_one}
+use Rattle.base.proofs.Bits.{bit_above, bit_digits, digits_lt, digits_same, is_digits, none_set, shl_one}
 use Rattle.rules.specs.Board.{nine, has_line}
 use Rattle.rules.proofs.Board.{nine_in}
 use Rattle.lines.proofs.Masks.{line_same}
 use Rattle.boards.proofs.Packed.{bit_without}
-use Rattle.endgame.proofs.PartsLoop.{all_fail}
+
+-- no element passes exactly if all fail
+all_fail : (f : ℕ → Bool) (xs : List ℕ) → all (λ x. not (f x)) xs ≡ not (any f xs)
+unfolding any all
+all_fail f [] = refl
+all_fail f (x ∷ xs) = ap (◌&&◌ (not (f x))) (all_fail f xs) ∙ neither (f x) (any f xs)
 
 -- ---- one set
 module _ (f : ℕ → Bool) (n : ℕ) (e : n ≡ digits f 9) where
@@ -58,6 +66,16 @@ module _ (f g : ℕ → Bool) (n m : ℕ) (e : n ≡ digits f 9) (d : m ≡ digi
   -- a line in both together
   pub joined_line : has_line (bit (bit_or n m)) ≡ has_line (λ k. f k || g k)
   joined_line = line_same (bit (bit_or n m)) (λ k. f k || g k) joined_bit
+
+-- some sets, each joined to those before it
+module _ {A : Type 0} (g : A → ℕ → Bool) where
+  pub joined_all : (xs : List A) (f : ℕ → Bool) (n : ℕ) → n ≡ digits f 9 → fold (λ m x. bit_or m (digits (g x) 9)) n xs
+      ≡ digits (λ k. f k || list_any (λ x. g x k) xs) 9
+  joined_all [] f n e = e ∙ digits_same f (λ k. f k || false) 9 (λ k _. sym (or-false (f k)))
+  joined_all (x ∷ xs) f n e =
+      joined_all xs (λ k. f k || g x k) (bit_or n (digits (g x) 9)) (joined f (g x) n _ e refl)
+      ∙ digits_same (λ k. (f k || g x k) || list_any (λ y. g y k) xs) (λ k. f k || list_any (λ y. g y k) (x ∷ xs)) 9
+      (λ k _. or_assoc (f k) (g x k) (list_any (λ y. g y k) xs))
 
 -- ---- a set without some digits of a word
 module _ (f : ℕ → Bool) (n want : ℕ) (e : n ≡ digits f 9) (w : want < 2 ^ 32) where

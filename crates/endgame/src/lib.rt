@@ -1,31 +1,34 @@
 // What the boards of a position alone say of its result.
 // Ported from src/lib/endgame.rs of nelhage/ultimattt at commit 87ef0d9c7c (Apache-2.0, see NOTICE), changed: an unfinished position that
-// is not sound is refused, and so is a move that play refuses; the counts come back with the analysis; sums of counts and printing are left
-// out.
+// is not sound is refused, and so is a move that play refuses; the counts come back with the analysis, and `Critical` has the position and
+// the critical boards that the Rust keeps in `Analysis`; sums of counts and printing are left out.
 #![tactic(auto)]
 
 ghost use Rattle.std.specs.Prelude.{◌≡◌, not, cond, ◌||◌, ◌&&◌, ◌<◌, T, eqb};
-ghost use Rattle.std.specs.Int.Count.{ones};
+ghost use Rattle.std.specs.List.{list_any};
 ghost use Rattle.base.specs.Bits.{bit, digits};
 ghost use Rattle.base.specs.Lists.{any, all};
-ghost use Rattle.rules.specs.Board.{other, nine, lines};
+ghost use Rattle.base.specs.Checks.{first_failed};
+ghost use Rattle.rules.specs.Board.{other, nine};
 ghost use Rattle.rules.specs.Position.{unfinished, open_board, free_cell};
 ghost use Rattle.rules.specs.Play.{cell_of};
 ghost use Rattle.rules.specs.Sound.{sound};
-ghost use Rattle.rules.specs.Status.{unproven};
-ghost use Rattle.rules.specs.Endgame.{critical, prove_attacker, forced_loss, winnable, proven, combine, no_endgame_stats, or_unproven};
-ghost use Rattle.rules.specs.Endgame.{judge};
+ghost use Rattle.rules.specs.Endgame.{critical, prove_attacker, forced_loss, winnable, proven, combine, merged, or_unproven};
+ghost use Rattle.rules.specs.Endgame.{endgame_stats, analysis_checks, judge};
+ghost use Rattle.rules.specs.Refusal.{answer_number};
 ghost use Rattle.status.specs.Sets.{status_of};
 ghost use Rattle.game.specs.Meaning.{position_of};
-ghost use Rattle.lines.specs.Masks.{line_at};
+ghost use Rattle.lines.specs.Masks.{masks};
 ghost use Rattle.endgame.specs.Parts.{live, lacks_one, critical_by};
-ghost use Rattle.endgame.specs.Means.{analysis_number, move_status_number, endgame_stats_of, Analyses, Judges, Narrows, Agrees};
+ghost use Rattle.endgame.specs.Means.{unsound_number, move_status_number, endgame_stats_of, analysis_status};
+ghost use Rattle.endgame.specs.Means.{Analyses, Judges, Narrows, Agrees};
+ghost use Rattle.std.proofs.Common.{rules};
 
-use boards::{Answer, Move, MoveError};
+use boards::{Move, MoveError};
 use game::Game;
 use lines::{WIN_MASKS, has_line};
-use rules::{NextBoard, Player};
-use status::{Read, Status};
+use rules::{Player, Refusal};
+use status::Status;
 
 // What one analysis found: each 0 or 1, `unwinnable` up to 2.
 #[derive(Clone, Copy)]
@@ -38,57 +41,65 @@ pub struct EndgameStats {
     pub prove_defender: usize,
 }
 
-// Whether an analysis was made.
-#[derive(Clone, Copy)]
-pub enum AnalysisAnswer {
-    Analysed,
-    Unsound,
-}
+// Why no analysis is made: the position is unfinished and not sound.
+#[derive(Clone, Copy, PartialEq, Eq)]
+pub struct Unsound;
 
-impl AnalysisAnswer {
-    pub fn number(self) -> u64
-        ensures { result ≡ analysis_number self }
-    {
-        match self {
-            AnalysisAnswer::Analysed => 0,
-            AnalysisAnswer::Unsound => 14,
-        }
+impl Refusal for Unsound {
+    ghost number_of = { unsound_number };
+
+    ghost never_0 = { Prim.search rules };
+
+    fn number(self) -> u64 {
+        14
     }
 }
 
-// Not made, or of a finished game: the full set and no counts.
+// Of a finished game: the full set and no counts.
 #[derive(Clone, Copy)]
 pub struct Analysis {
-    pub answer: AnalysisAnswer,
     pub proven: Status,
     pub stats: EndgameStats,
 }
 
-// Whether a move was judged.
-#[derive(Clone, Copy)]
-pub enum MoveStatusAnswer {
-    Judged,
-    Refused(MoveError),
+// Why a move is not judged.
+#[derive(Clone, Copy, PartialEq, Eq)]
+pub enum MoveStatusError {
     Unsound,
+    Refused(MoveError),
 }
 
-impl MoveStatusAnswer {
-    pub fn number(self) -> u64
-        ensures { result ≡ move_status_number self }
-    {
+impl Refusal for MoveStatusError {
+    ghost number_of = { move_status_number };
+
+    ghost never_0 = { Prim.search rules };
+
+    fn number(self) -> u64 {
         match self {
-            MoveStatusAnswer::Judged => 0,
-            MoveStatusAnswer::Refused(why) => why.number(),
-            MoveStatusAnswer::Unsound => 14,
+            MoveStatusError::Unsound => Unsound.number(),
+            MoveStatusError::Refused(why) => why.number(),
         }
     }
 }
 
-// What judging a move gives: refused, the full set.
-#[derive(Clone, Copy)]
-pub struct MoveStatus {
-    pub answer: MoveStatusAnswer,
-    pub status: Status,
+impl From<Unsound> for MoveStatusError {
+    ghost use Rattle.endgame.specs.declared.MoveStatusError.TheVariants.{Unsound};
+
+    ghost from_gives = { λ _ error. error ≡ Unsound };
+
+    fn from(_why: Unsound) -> MoveStatusError {
+        MoveStatusError::Unsound
+    }
+}
+
+impl From<MoveError> for MoveStatusError {
+    ghost use Rattle.endgame.specs.declared.MoveStatusError.TheVariants.{Refused};
+
+    ghost from_gives = { λ why error. error ≡ Refused why };
+
+    fn from(why: MoveError) -> MoveStatusError {
+        MoveStatusError::Refused(why)
+    }
 }
 
 impl EndgameStats {
@@ -106,114 +117,49 @@ impl EndgameStats {
 fn is_live(pos: Game, board: usize) -> bool
     ensures { result ≡ live (position_of pos) board }
 {
-    let states = pos.global_states;
     let boards = pos.local_boards;
-    if !states.in_play(board) {
-        return true;
-    }
-    if boards.free_squares(board) == 0 {
-        return false;
-    }
-    if has_line(boards.xbits(board)) {
-        return false;
-    }
-    !has_line(boards.obits(board))
+    !pos.global_states.in_play(board)
+        || (boards.free_squares(board) != 0
+            && !has_line(boards.xbits(board))
+            && !has_line(boards.obits(board)))
 }
 
 // Whether nobody has a line of boards, and all boards are live.
 fn is_sound(pos: Game) -> bool
     ensures { result ≡ sound (position_of pos) }
 {
-    let states = pos.global_states;
-    if has_line(states.xbits()) {
-        return false;
-    }
-    if has_line(states.obits()) {
-        return false;
-    }
-    for board in 0..9 {
-        if !is_live(pos, board) {
-            return false;
-        }
-    }
-    true
+    !has_line(pos.global_states.xbits())
+        && !has_line(pos.global_states.obits())
+        && (0..9).all(|board| is_live(pos, board))
 }
 
-// Unfinished and not sound.
-fn is_unsound(pos: Game) -> bool
-    ensures { result ≡ (unfinished (position_of pos) && not (sound (position_of pos))) }
+// What is asked of a position: an unfinished one is sound.
+#[tactic(auto, using(crate::proofs::MeansAnswers::soundness))]
+fn check_sound(pos: Game) -> Result<(), Unsound>
+    ensures { answer_number unsound_number result ≡ first_failed (analysis_checks (position_of pos)) }
 {
-    if pos.game_over() {
-        return false;
-    }
-    !is_sound(pos)
-}
-
-fn both(a: bool, b: bool) -> bool
-    ensures { result ≡ (a && b) }
-{
-    if a { b } else { false }
-}
-
-fn count(found: bool) -> usize
-    ensures { result ≡ cond found 1 0 }
-{
-    if found { 1 } else { 0 }
-}
-
-fn unanalysed(answer: AnalysisAnswer) -> Analysis
-    ensures { (result.answer ≡ answer) × (result.proven ≡ status_of unproven) ×
-        (endgame_stats_of result.stats ≡ no_endgame_stats) }
-{
-    Analysis {
-        answer,
-        proven: Status::unproven(),
-        stats: EndgameStats::NONE,
+    if pos.game_over() || is_sound(pos) {
+        Ok(())
+    } else {
+        Err(Unsound)
     }
 }
 
 impl Analysis {
-    pub fn new(pos: Game) -> Analysis
-        ensures { Analyses pos result }
-    {
-        if pos.game_over() {
-            return unanalysed(AnalysisAnswer::Analysed);
-        }
-        if !is_sound(pos) {
-            return unanalysed(AnalysisAnswer::Unsound);
-        }
-        Analysis::analysed(pos)
-    }
+    // Of a finished game.
+    const NONE: Analysis = Analysis {
+        proven: Status::UNPROVEN,
+        stats: EndgameStats::NONE,
+    };
 
-    // The analysis of an unfinished sound position.
-    fn analysed(pos: Game) -> Analysis
-        requires { T (unfinished (position_of pos)) × T (sound (position_of pos)) }
+    pub fn new(pos: Game) -> Result<Analysis, Unsound>
         ensures { Analyses pos result }
     {
-        let who = pos.player();
-        let attacker_critical = critical_boards(pos, who);
-        let defender_critical = critical_boards(pos, who.other());
-        let attacker = attacker_critical != 0;
-        let defender = defender_critical != 0;
-        let wins = prove_attacker(pos, attacker_critical, defender_critical);
-        let forced = forced_loss(pos, defender_critical);
-        let loses = both(!wins, forced);
-        let x = is_winnable(pos, Player::X);
-        let o = is_winnable(pos, Player::O);
-        let unwinnable = count(!x) + count(!o);
-        let stats = EndgameStats {
-            attacker_critical: count(attacker),
-            defender_critical: count(defender),
-            both_critical: count(both(attacker, defender)),
-            unwinnable,
-            prove_attacker: count(wins),
-            prove_defender: count(loses),
-        };
-        Analysis {
-            answer: AnalysisAnswer::Analysed,
-            proven: combined(who, wins, loses, x, o),
-            stats,
+        check_sound(pos)?;
+        if pos.game_over() {
+            return Ok(Analysis::NONE);
         }
+        Ok(Critical::of(pos).analysis())
     }
 
     pub fn status(self) -> Status
@@ -221,78 +167,150 @@ impl Analysis {
     {
         self.proven
     }
+
+    // What is reported of an analysis: of a refused one the full set.
+    pub fn reported_status(analysis: Result<Analysis, Unsound>) -> Status
+        ensures { result ≡ analysis_status analysis }
+    {
+        analysis.map_or(Status::unproven(), Analysis::status)
+    }
 }
 
 // A move is judged if the position is not refused and play accepts it.
-pub fn evaluate_move(pos: Game, m: Move) -> MoveStatus
+pub fn evaluate_move(pos: Game, m: Move) -> Result<Status, MoveStatusError>
     ensures { Judges pos m result }
 {
-    if is_unsound(pos) {
-        return MoveStatus {
-            answer: MoveStatusAnswer::Unsound,
-            status: Status::unproven(),
-        };
-    }
-    let tried = pos.make_move(m);
-    let answer = tried.answer;
-    match answer {
-        Answer::Accepted => MoveStatus {
-            answer: MoveStatusAnswer::Judged,
-            status: move_status(pos, m),
-        },
-        Answer::Refused(why) => MoveStatus {
-            answer: MoveStatusAnswer::Refused(why),
-            status: Status::unproven(),
-        },
-    }
+    check_sound(pos)?;
+    pos.make_move(m)?;
+    Ok(Critical::of(pos).evaluate_move(m))
 }
 
-// As the Rust gives it, for a move that play accepts.
-fn move_status(pos: Game, m: Move) -> Status
-    requires { T (sound (position_of pos)) × (cell_of m.bits < 9) }
-    ensures { result ≡ status_of (judge (position_of pos) m.bits) }
-{
-    let states = pos.global_states;
-    let by = pos.player().other();
-    let defender_critical = critical_boards(pos, by);
-    if defender_critical == 0 {
-        return Status::unproven();
+// A sound position, with the critical boards of the side to move and of the other side.
+#[derive(Clone, Copy)]
+struct Critical {
+    pos: Game,
+    attacker: u32,
+    defender: u32,
+    ghost is_sound: { T (sound (position_of pos)) },
+    ghost of_attacker: { attacker ≡ digits (critical (position_of pos) (position_of pos).turn) 9 },
+    ghost of_defender: { defender ≡ digits (critical (position_of pos) (other (position_of pos).turn)) 9 },
+}
+
+impl Critical {
+    fn of(pos: Game) -> Critical
+        requires { T (sound (position_of pos)) }
+        ensures { result.pos ≡ pos }
+    {
+        let who = pos.player();
+        Critical {
+            pos,
+            attacker: critical_boards(pos, who),
+            defender: critical_boards(pos, who.other()),
+        }
     }
-    // A move there could block or take the board: it is left to the search.
-    if holds(defender_critical, m.global()) {
-        return Status::unproven();
+
+    fn analysis(self) -> Analysis
+        ensures { (result.proven ≡ status_of (or_unproven (merged (position_of self.pos)))) ×
+            (endgame_stats_of result.stats ≡ endgame_stats (position_of self.pos)) }
+    {
+        let attacker = self.attacker != 0;
+        let defender = self.defender != 0;
+        let wins = self.prove_attacker();
+        let loses = !wins && self.forced_loss();
+        let x = is_winnable(self.pos, Player::X);
+        let o = is_winnable(self.pos, Player::O);
+        let stats = EndgameStats {
+            attacker_critical: usize::from(attacker),
+            defender_critical: usize::from(defender),
+            both_critical: usize::from(attacker && defender),
+            unwinnable: usize::from(!x) + usize::from(!o),
+            prove_attacker: usize::from(wins),
+            prove_defender: usize::from(loses),
+        };
+        Analysis {
+            proven: combined(self.pos.player(), wins, loses, x, o),
+            stats,
+        }
     }
-    let bad = states.donebits() | defender_critical;
-    if holds(bad, m.local()) {
-        return Status::for_player(by);
+
+    // As the Rust gives it, for a move that play accepts.
+    #[tactic(auto, using(crate::proofs::PartsAttack::judgements))]
+    fn evaluate_move(self, m: Move) -> Status
+        requires { cell_of m.bits < 9 }
+        ensures { result ≡ status_of (judge (position_of self.pos) m.bits) }
+    {
+        if self.defender == 0 {
+            return Status::unproven();
+        }
+        // A move there could block or take the board: it is left to the search.
+        if holds(self.defender, m.global()) {
+            return Status::unproven();
+        }
+        let bad = self.pos.global_states.donebits() | self.defender;
+        if holds(bad, m.local()) {
+            return Status::for_player(self.pos.player().other());
+        }
+        Status::unproven()
     }
-    Status::unproven()
+
+    #[tactic(auto, using(crate::proofs::PartsAttack::attacks))]
+    fn prove_attacker(self) -> bool
+        ensures { result ≡ prove_attacker (position_of self.pos) }
+    {
+        if self.attacker == 0 {
+            return false;
+        }
+        // With a critical board in which the attacker may play, she wins.
+        let Some(due) = self.pos.board_to_play() else {
+            return true;
+        };
+        let board = due as usize;
+        if holds(self.attacker, board) {
+            return true;
+        }
+        // Can the defender be made to send the attacker where she wins? Not from a board in which the defender wins, blocks or takes, nor
+        // from this one, which the attacker's move could close, leaving the defender free.
+        let dests = dests_of(self.pos, board, self.attacker | self.defender);
+        let want = self.pos.global_states.donebits() | self.attacker;
+        any_sends_to(self.pos, dests, want)
+    }
+
+    #[tactic(auto, using(crate::proofs::PartsAttack::losses))]
+    fn forced_loss(self) -> bool
+        ensures { result ≡ forced_loss (position_of self.pos) }
+    {
+        if self.defender == 0 {
+            return false;
+        }
+        // With free choice nothing is forced, and in a critical board the defender could be blocked.
+        let Some(due) = self.pos.board_to_play() else {
+            return false;
+        };
+        let board = due as usize;
+        let bad = self.pos.global_states.donebits() | self.defender;
+        !holds(self.defender, board) && sends_to(self.pos, board, bad)
+    }
 }
 
 // What is proved of the side to move, who wins, or loses, or neither.
+#[tactic(auto, using(crate::proofs::MeansStatuses::proofs_of_a_side))]
 fn proven_of(who: Player, wins: bool, loses: bool) -> Status
     ensures { result ≡ status_of (proven who wins loses) }
 {
     if wins {
-        return Status::for_player(who);
+        Status::for_player(who)
+    } else if loses {
+        Status::for_player(who.other())
+    } else {
+        Status::unproven()
     }
-    if loses {
-        return Status::for_player(who.other());
-    }
-    Status::unproven()
 }
 
 // What is left of a set if a side can no longer win. Nothing is said of a byte that is no set's: `combined`, the only caller, has none.
-fn limited(can: bool, left: Status, proven: Read) -> Read
+fn limited(can: bool, left: Status, proven: Option<Status>) -> Option<Status>
     ensures { Narrows can left proven result }
 {
-    if can {
-        return proven;
-    }
-    match proven {
-        Read::Set(status) => status.merge(left),
-        Read::Nothing => Read::Nothing,
-    }
+    if can { proven } else { proven?.merge(left) }
 }
 
 // What is proved and what can still be won are not in conflict, so the Rust's two panics are never met.
@@ -300,39 +318,30 @@ fn combined(who: Player, wins: bool, loses: bool, x: bool, o: bool) -> Status
     requires { Agrees (combine who wins loses x o) }
     ensures { result ≡ status_of (or_unproven (combine who wins loses x o)) }
 {
-    let proven = Read::Set(proven_of(who, wins, loses));
+    let proven = Some(proven_of(who, wins, loses));
     let without_x = limited(x, Status::draw_or_o(), proven);
     let without_o = limited(o, Status::draw_or_x(), without_x);
-    match without_o {
-        Read::Set(status) => status,
-        Read::Nothing => Status::unproven(),
-    }
+    without_o.unwrap()
 }
 
 fn is_winnable(pos: Game, by: Player) -> bool
     ensures { result ≡ winnable (position_of pos) by }
 {
-    let states = pos.global_states;
-    has_line(states.playerbits(by) | states.openbits())
+    has_line(pos.global_states.playerbits(by) | pos.global_states.openbits())
 }
 
-// Whether a set of boards holds a board: none over 8.
+// Whether a set of boards holds a board.
 fn holds(set: u32, board: usize) -> bool
-    requires { set < 512 }
     ensures { result ≡ bit set board }
 {
-    if board > 8 {
-        return false;
-    }
-    (set >> board) & 1 == 1
+    board < 32 && (set >> board) & 1 == 1
 }
 
 // Whether every empty cell of a board sends to a wanted one.
 fn sends_to(pos: Game, board: usize, want: u32) -> bool
     ensures { result ≡ all (λ c. not (free_cell (position_of pos) board c) || bit want c) nine }
 {
-    let boards = pos.local_boards;
-    boards.free_squares(board) & !want == 0
+    pos.local_boards.free_squares(board) & !want == 0
 }
 
 // The other boards in play to which a board's empty cells send, but for the critical ones.
@@ -340,121 +349,48 @@ fn dests_of(pos: Game, board: usize, critical: u32) -> u32
     ensures { result ≡ digits (λ i. free_cell (position_of pos) board i &&
         (open_board (position_of pos) i && (not (bit critical i) && not (eqb i board)))) 9 }
 {
-    let boards = pos.local_boards;
-    let states = pos.global_states;
-    let dests = boards.free_squares(board) & states.openbits() & !critical;
-    if board > 8 {
-        return dests;
+    let dests = pos.local_boards.free_squares(board) & pos.global_states.openbits() & !critical;
+    if board < 9 {
+        dests & !(1u32 << board)
+    } else {
+        dests
     }
-    dests & !(1u32 << board)
 }
 
 // Whether one of the boards sends only to wanted ones.
 fn any_sends_to(pos: Game, dests: u32, want: u32) -> bool
     ensures { result ≡ any (λ i. bit dests i && all (λ c. not (free_cell (position_of pos) i c) || bit want c) nine) nine }
 {
-    for i in 0..9 {
-        let sends = sends_to(pos, i, want);
-        if both((dests >> i) & 1 == 1, sends) {
-            return true;
-        }
-    }
-    false
+    (0..9).any(|board| holds(dests, board) && sends_to(pos, board, want))
 }
 
-fn prove_attacker(pos: Game, attacker_critical: u32, defender_critical: u32) -> bool
-    requires { T (sound (position_of pos)) × (attacker_critical ≡ digits (critical (position_of pos) (position_of pos).turn) 9)
-        × (defender_critical ≡ digits (critical (position_of pos) (other (position_of pos).turn)) 9) }
-    ensures { result ≡ prove_attacker (position_of pos) }
+// Whether the line of a mask lacks one place only, which is empty.
+fn is_critical(player: u32, empty: u32, mask: u32) -> bool
+    ensures { result ≡ lacks_one player empty mask }
 {
-    if attacker_critical == 0 {
-        return false;
-    }
-    // With a critical board in which the attacker may play, she wins.
-    let next = pos.board_to_play();
-    let NextBoard::Only(b) = next else {
-        return true;
-    };
-    let board = b as usize;
-    if holds(attacker_critical, board) {
-        return true;
-    }
-    // Can the defender be made to send the attacker where she wins? Not from a board in which the defender wins, blocks or takes, nor from
-    // this one, which the attacker's move could close, leaving the defender free.
-    let dests = dests_of(pos, board, attacker_critical | defender_critical);
-    let states = pos.global_states;
-    let want = states.donebits() | attacker_critical;
-    any_sends_to(pos, dests, want)
-}
-
-fn forced_loss(pos: Game, defender_critical: u32) -> bool
-    requires { T (sound (position_of pos)) ×
-        (defender_critical ≡ digits (critical (position_of pos) (other (position_of pos).turn)) 9) }
-    ensures { result ≡ forced_loss (position_of pos) }
-{
-    if defender_critical == 0 {
-        return false;
-    }
-    // With free choice nothing is forced, and in a critical board the defender could be blocked.
-    let next = pos.board_to_play();
-    let NextBoard::Only(b) = next else {
-        return false;
-    };
-    let board = b as usize;
-    if holds(defender_critical, board) {
-        return false;
-    }
-    let states = pos.global_states;
-    let bad = states.donebits() | defender_critical;
-    sends_to(pos, board, bad)
-}
-
-fn is_single_bit(v: u32) -> bool
-    ensures { result ≡ eqb (ones v) 1 }
-{
-    if v == 0 {
-        return false;
-    }
-    v & (v - 1) == 0
-}
-
-// Whether line i lacks one place only, which is empty.
-fn is_critical(player: u32, empty: u32, i: usize) -> bool
-    requires { (player < 512) × (empty < 512) × (i < 8) }
-    ensures { result ≡ lacks_one (bit player) (bit empty) (line_at i) }
-{
-    let mask = WIN_MASKS[i];
-    if (player | empty) & mask != mask {
-        return false;
-    }
-    is_single_bit(empty & mask)
+    (player | empty) & mask == mask && (empty & mask).count_ones() == 1
 }
 
 fn has_critical(player: u32, empty: u32) -> bool
-    requires { (player < 512) × (empty < 512) }
-    ensures { result ≡ any (lacks_one (bit player) (bit empty)) lines }
+    ensures { result ≡ list_any (lacks_one player empty) masks }
 {
-    for i in 0..8 {
-        if is_critical(player, empty, i) {
-            return true;
-        }
-    }
-    false
+    WIN_MASKS
+        .iter()
+        .any(|&mask| is_critical(player, empty, mask))
 }
 
-// The board that line i lacks only, if the player could win it at once.
-fn critical_board(pos: Game, who: Player, i: usize) -> u32
-    requires { i < 8 }
-    ensures { result ≡ digits (critical_by (position_of pos) who (line_at i)) 9 }
+// The board that a line lacks only, if the player could win it at once.
+#[tactic(auto, using(crate::proofs::PartsCritical::lacked_boards))]
+fn critical_board(pos: Game, who: Player, mask: u32) -> u32
+    ensures { result ≡ digits (critical_by (position_of pos) who mask) 9 }
 {
-    let states = pos.global_states;
     let boards = pos.local_boards;
-    let open = states.openbits();
-    if !is_critical(states.playerbits(who), open, i) {
+    let open = pos.global_states.openbits();
+    if !is_critical(pos.global_states.playerbits(who), open, mask) {
         return 0;
     }
-    let lacked = open & WIN_MASKS[i];
-    let board = u32::trailing_zeros(lacked) as usize;
+    let lacked = open & mask;
+    let board = lacked.trailing_zeros() as usize;
     if has_critical(boards.playerbits(who, board), boards.free_squares(board)) {
         lacked
     } else {
@@ -466,9 +402,7 @@ fn critical_boards(pos: Game, who: Player) -> u32
     requires { T (sound (position_of pos)) }
     ensures { result ≡ digits (critical (position_of pos) who) 9 }
 {
-    let mut out: u32 = 0;
-    for i in 0..8 {
-        out |= critical_board(pos, who, i);
-    }
-    out
+    WIN_MASKS
+        .iter()
+        .fold(0, |out, &mask| out | critical_board(pos, who, mask))
 }

@@ -1,8 +1,9 @@
 -- A line's three places in the digits of a number: its mask finds them, and only the nine low digits count.
-use mathlib.Core.Path.{◌≡◌, sym, ap, ◌∙◌}
+use native.Mathlib.Numerals.{unary_clauses}
+use mathlib.Core.Path.{◌≡◌, refl, sym, ap, ◌∙◌}
 use mathlib.Core.Bool.{Bool, and-false}
 use mathlib.Core.List.{[], ◌∷◌}
-use Prim.Native.Nat.{ℕ, ◌-◌, ◌%◌, ◌<◌}
+use Prim.Native.Nat.{ℕ, zero, suc, ◌+◌, ◌-◌, ◌%◌, ◌<◌}
 use native.Mathlib.Nat.{mod-lt}
 use native.Mathlib.Omega.{arith}
 use lib.Bits.{bit_and, and_mask, and_mod, and_le_r}
@@ -42,6 +43,21 @@ unfolding sum
 eight f =
     left_sum (f (line_at 0)) (f (line_at 1) ∷ f (line_at 2) ∷ f (line_at 3) ∷ f (line_at 4) ∷ f (line_at 5) ∷ f (line_at 6) ∷
     f (line_at 7) ∷ [])
+
+-- the first lines, one after another
+unfoldable pub first_lines : (Line → ℤ) → ℕ → ℤ
+first_lines f zero = pos 0
+first_lines f (suc i) = first_lines f i +ℤ f (line_at i)
+
+pub first_more : (f : Line → ℤ) (i : ℕ) → first_lines f (i + 1) ≡ first_lines f i +ℤ f (line_at i)
+unfolding first_lines
+first_more f i = simp unary_clauses refl
+
+pub first_eight : (f : Line → ℤ) → first_lines f 8 ≡ sum f lines
+unfolding first_lines
+first_eight f =
+    ap (λ z. z +ℤ f (line_at 1) +ℤ f (line_at 2) +ℤ f (line_at 3) +ℤ f (line_at 4) +ℤ f (line_at 5) +ℤ f (line_at 6) +ℤ f (line_at 7))
+    (+ℤ_idl (f (line_at 0))) ∙ eight f
 
 -- ---- what the mask finds
 -- how many places the code takes the line to have, by those, p, that it found by the mask m

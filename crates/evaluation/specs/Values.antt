@@ -1,5 +1,5 @@
 -- The values of the nine boards, the evaluation by them, and what the evaluation alone answers.
-use Rattle.std.specs.Prelude.{◌≡◌, Bool, List, map, ℕ, ℤ, pos, neg_ℤ, ◌+ℤ◌, get_or}
+use Rattle.std.specs.Prelude.{◌≡◌, Bool, List, map, ℕ, ℤ, pos, neg_ℤ, ◌+ℤ◌, get_or, Result, Ok, Err}
 use Rattle.rules.specs.declared.Player.TheVariants.{X, O}
 use Rattle.rules.specs.declared.GameState.{GameState}
 use Rattle.rules.specs.declared.GameState.TheVariants.{InPlay, Drawn, Won}
@@ -8,12 +8,11 @@ use Rattle.base.specs.Branch.{when◌then◌else◌}
 use Rattle.base.specs.Integers.{sum}
 use Rattle.rules.specs.Board.{nine, Line, lines}
 use Rattle.rules.specs.Position.{Position, unfinished, won_boards}
+use Rattle.rules.specs.Refusal.{answer_number}
 use Rattle.rules.specs.Evaluation.{Scoring, places_in, unless_both, board_score, seen_by, evaluate, evaluated}
 use Rattle.game.specs.declared.Game.{Game}
 use Rattle.game.specs.Meaning.{position_of}
-use Rattle.evaluation.specs.declared.EvaluationAnswer.{EvaluationAnswer}
-use Rattle.evaluation.specs.declared.EvaluationAnswer.TheVariants.{Accepted, BadWeight}
-use Rattle.evaluation.specs.declared.Evaluation.{Evaluation}
+use Rattle.evaluation.specs.declared.BadWeight.{BadWeight}
 
 -- ---- the values
 -- the weight of a board that a side has won, and the score of one in play
@@ -47,11 +46,14 @@ unfoldable pub evaluate_by : Scoring → Position → List ℤ → ℤ
 evaluate_by sc p values = when unfinished p then (λ _. seen_by p.turn (score_by p values)) else λ _. evaluate sc p
 
 -- ---- the evaluation alone
-abbrev pub evaluation_number : EvaluationAnswer → ℕ
-evaluation_number Accepted = 0
-evaluation_number BadWeight = 20
+abbrev pub bad_weight_number : BadWeight → ℕ
+bad_weight_number why = 20
 
--- what `evaluate` gives
-pub record Evaluates (sc : Scoring) (g : Game) (r : Evaluation) : Type 0 where
-  pub refusal : evaluation_number r.answer ≡ (evaluated sc (position_of g)).refusal
-  pub value : r.value ≡ (evaluated sc (position_of g)).value
+abbrev pub value_or_0 : Result ℤ BadWeight → ℤ
+value_or_0 (Ok value) = value
+value_or_0 (Err why) = pos 0
+
+-- what `evaluate` gives: refused, as the value 0
+pub record Evaluates (sc : Scoring) (g : Game) (r : Result ℤ BadWeight) : Type 0 where
+  pub refusal : answer_number bad_weight_number r ≡ (evaluated sc (position_of g)).refusal
+  pub value : value_or_0 r ≡ (evaluated sc (position_of g)).value

@@ -4,6 +4,7 @@
 // the next.
 #![tactic(auto)]
 
+ghost use Rattle.std.proofs.Common.{rules};
 ghost use Rattle.std.specs.Prelude.{◌≡◌, ◌≤◌, ◌<◌, pos, nat_abs, set};
 ghost use Rattle.base.specs.Bits.{bit};
 ghost use Rattle.base.specs.Integers.{sum};
@@ -13,12 +14,12 @@ ghost use Rattle.boards.specs.Packed.{cell_at};
 ghost use Rattle.game.specs.Meaning.{position_of};
 ghost use Rattle.lines.specs.Masks.{line_at};
 ghost use Rattle.evaluation.specs.Values.{board_value, values_of, overall_value, score_by, evaluate_by};
-ghost use Rattle.evaluation.specs.Values.{evaluation_number, Evaluates};
+ghost use Rattle.evaluation.specs.Values.{bad_weight_number, Evaluates};
 
 use boards::LocalBoards;
 use game::Game;
 use lines::{WIN_MASKS, WIN_PATTERNS};
-use rules::{DrawWinner, GameState, Player, Weights};
+use rules::{GameState, Player, Refusal, Weights};
 
 pub const EVAL_WON: i64 = 1152921504606846976;
 
@@ -28,20 +29,13 @@ pub const EVAL_LOST: i64 = -1152921504606846976;
 fn won_by(who: Player, turn: Player) -> i64
     ensures { result ≡ seen_by turn (seen_by who won) }
 {
-    if who.as_bit() == turn.as_bit() {
-        EVAL_WON
-    } else {
-        EVAL_LOST
-    }
+    if who == turn { EVAL_WON } else { EVAL_LOST }
 }
 
-fn drawn(draw_winner: DrawWinner, turn: Player) -> i64
+fn drawn(draw_winner: Option<Player>, turn: Player) -> i64
     ensures { result ≡ seen_by turn (draw_value draw_winner) }
 {
-    match draw_winner {
-        DrawWinner::Nobody => 0,
-        DrawWinner::Side(who) => won_by(who, turn),
-    }
+    draw_winner.map_or(0, |who| won_by(who, turn))
 }
 
 // A weight as a term of a sum, which fits whatever the weights are.
@@ -92,30 +86,22 @@ fn score_board(boards: LocalBoards, board: usize, weights: Weights) -> i32
 {
     let x = boards.xbits(board);
     let o = boards.obits(board);
-    score_line(0, x, o, weights)
-        + score_line(1, x, o, weights)
-        + score_line(2, x, o, weights)
-        + score_line(3, x, o, weights)
-        + score_line(4, x, o, weights)
-        + score_line(5, x, o, weights)
-        + score_line(6, x, o, weights)
-        + score_line(7, x, o, weights)
+    let mut score = 0;
+    for i in 0..8 {
+        score += score_line(i, x, o, weights);
+    }
+    score
 }
 
 // What a board gives in each overall line that counts: its own score while in play, and what it is won for.
 fn value_of(g: Game, board: usize, weights: Weights) -> i32
     ensures { result ≡ board_value weights (position_of g) board }
 {
-    let states = g.global_states;
-    let boards = g.local_boards;
-    let state = states.at(board);
-    match state {
-        GameState::InPlay => score_board(boards, board, weights),
+    match g.global_states.at(board) {
+        GameState::InPlay => score_board(g.local_boards, board, weights),
         GameState::Drawn => 0,
-        GameState::Won(who) => match who {
-            Player::X => weight(weights.board),
-            Player::O => -weight(weights.board),
-        },
+        GameState::Won(Player::X) => weight(weights.board),
+        GameState::Won(Player::O) => -weight(weights.board),
     }
 }
 
@@ -132,15 +118,10 @@ fn score_overall(i: usize, x: u32, o: u32, values: [i32; 9]) -> i64
     ensures { (result ≡ overall_value (bit x) (bit o) values (line_at i)) × (nat_abs result ≤ 6442450944) }
 {
     let mask = WIN_MASKS[i];
-    let places = WIN_PATTERNS[i];
-    let a = places[0];
-    let b = places[1];
-    let c = places[2];
-    if x & mask != 0 {
-        if o & mask != 0 {
-            return 0;
-        }
+    if x & mask != 0 && o & mask != 0 {
+        return 0;
     }
+    let [a, b, c] = WIN_PATTERNS[i];
     wide(values[a]) + wide(values[b]) + wide(values[c])
 }
 
@@ -151,28 +132,18 @@ pub struct Values {
     pub weights: Weights,
 }
 
-#[derive(Clone, Copy)]
-pub enum EvaluationAnswer {
-    Accepted,
-    BadWeight,
-}
+// The refusal of weights of which one is over 1,000.
+#[derive(Clone, Copy, PartialEq, Eq)]
+pub struct BadWeight;
 
-impl EvaluationAnswer {
-    pub fn number(self) -> u64
-        ensures { result ≡ evaluation_number self }
-    {
-        match self {
-            EvaluationAnswer::Accepted => 0,
-            EvaluationAnswer::BadWeight => 20,
-        }
+impl Refusal for BadWeight {
+    ghost number_of = { bad_weight_number };
+
+    ghost never_0 = { Prim.search rules };
+
+    fn number(self) -> u64 {
+        20
     }
-}
-
-// What the evaluation alone gives: refused, the value is 0.
-#[derive(Clone, Copy)]
-pub struct Evaluation {
-    pub answer: EvaluationAnswer,
-    pub value: i64,
 }
 
 impl Values {
@@ -180,6 +151,7 @@ impl Values {
         ensures { result ≡ record { boards = values_of weights (position_of g); weights = weights } }
     {
         Values {
+            // one by one: the closure of an `array::from_fn` would need this clause again as its own, and be no shorter
             boards: [
                 value_of(g, 0, weights),
                 value_of(g, 1, weights),
@@ -202,10 +174,9 @@ impl Values {
           weights = self.weights;
         } }
     {
-        let weights = self.weights;
         let mut v = self;
         if board < 9 {
-            v.boards[board] = value_of(g, board, weights);
+            v.boards[board] = value_of(g, board, self.weights);
         }
         v
     }
@@ -214,10 +185,10 @@ impl Values {
     fn score(self, g: Game) -> i64
         ensures { (result ≡ score_by (position_of g) self.boards) × (nat_abs result ≤ 51539607552) }
     {
-        let states = g.global_states;
-        let x = states.xbits();
-        let o = states.obits();
+        let x = g.global_states.xbits();
+        let o = g.global_states.obits();
         let values = self.boards;
+        // written out: with a loop the search takes 23 % more instructions
         score_overall(0, x, o, values)
             + score_overall(1, x, o, values)
             + score_overall(2, x, o, values)
@@ -229,12 +200,11 @@ impl Values {
     }
 
     // The evaluation of a position whose boards are said to have these values.
-    pub fn evaluate(self, g: Game, draw_winner: DrawWinner) -> i64
+    pub fn evaluate(self, g: Game, draw_winner: Option<Player>) -> i64
         ensures { result ≡ evaluate_by (scoring_with draw_winner self.weights) (position_of g) self.boards }
     {
         let turn = g.next_player;
-        let state = g.game_state;
-        match state {
+        match g.game_state {
             GameState::Drawn => drawn(draw_winner, turn),
             GameState::Won(who) => won_by(who, turn),
             GameState::InPlay => {
@@ -248,19 +218,13 @@ impl Values {
     }
 }
 
-// Refusal 20.
-pub fn evaluate(g: Game, draw_winner: DrawWinner, weights: Weights) -> Evaluation
+pub fn evaluate(g: Game, draw_winner: Option<Player>, weights: Weights) -> Result<i64, BadWeight>
     ensures { Evaluates (scoring_with draw_winner weights) g result }
 {
     let value = Values::new(g, weights).evaluate(g, draw_winner);
     if weights.are_accepted() {
-        return Evaluation {
-            answer: EvaluationAnswer::Accepted,
-            value,
-        };
-    }
-    Evaluation {
-        answer: EvaluationAnswer::BadWeight,
-        value: 0,
+        Ok(value)
+    } else {
+        Err(BadWeight)
     }
 }

@@ -1,18 +1,15 @@
--- What next board and side add to the hash, as the code has it; and that play keeps the hash worked out afresh.
-use mathlib.Core.Path.{◌≡◌, refl, sym, ap, ap₂, ◌∙◌, subst}
+-- Play keeps the hash worked out afresh.
+use Rattle.std.specs.Prelude.{Option}
+use mathlib.Core.Path.{◌≡◌, refl, sym, ap, ◌∙◌, subst}
 use mathlib.Core.Logic.{inl, inr}
 use Prim.Native.Nat.{ℕ}
-use lib.Bits.{bit_xor, xor_zero_l}
-use lib.ListN.{length, get_or}
+use lib.ListN.{length}
 use Rattle.base.specs.Branch.{when◌then◌else◌}
 use Rattle.base.proofs.Bool.{is}
 use Rattle.rules.specs.declared.Player.{Player}
 use Rattle.rules.specs.declared.GameState.{GameState}
-use Rattle.rules.specs.declared.NextBoard.{NextBoard}
-use Rattle.rules.specs.declared.NextBoard.TheVariants.{Any, Only}
 use Rattle.rules.specs.Play.{board_of, cell_of, accepts}
-use Rattle.rules.specs.Hash.{cell_key, next_board_key, player_key, xors, cells_hash, board_hash, hash, hash_after, with_turn, zobrist}
-use Rattle.rules.specs.Keys.{next_board_keys}
+use Rattle.rules.specs.Hash.{cell_key, xors, cells_hash, board_hash, hash, hash_after, with_turn, zobrist}
 use Rattle.rules.proofs.Hash.{hash_kept_is_fresh}
 use Rattle.rules.proofs.Play.{accepts→}
 use Rattle.boards.specs.declared.local.LocalBoards.{LocalBoards}
@@ -22,16 +19,6 @@ use Rattle.game.specs.Meaning.{position_of}
 use Rattle.game.specs.After.{after_move, game_after}
 use Rattle.game.specs.Built.{new_game, packed, recalculated}
 use Rattle.game.proofs.Meaning.{after_move_means, game_accepted, game_refused, new_game_means}
-
-module _ (n : NextBoard) (w : Player) (k : ℕ) (e : k ≡ player_key w) where
-  pub turn_any : n ≡ Any → k ≡ bit_xor (next_board_key n) (player_key w)
-  unfolding next_board_key
-  turn_any f = rw f (e ∙ sym (xor_zero_l (player_key w)))
-
-  pub turn_only : (b j : ℕ) → n ≡ Only b → j ≡ get_or next_board_keys b 0 →
-      bit_xor j k ≡ bit_xor (next_board_key n) (player_key w)
-  unfolding next_board_key
-  turn_only b j f d = rw f (ap₂ bit_xor d e)
 
 -- ---- the hash that a game has is the one worked out afresh from its position
 abbrev pub Fresh : Game → Type 0
@@ -53,7 +40,7 @@ pub new_game_hash : Fresh new_game
 unfolding hash xors board_hash cells_hash cell_key when◌then◌else◌
 new_game_hash = sym (ap hash new_game_means)
 
-pub packed_hash : (w : Player) (n : NextBoard) (l : LocalBoards) (s : GlobalStates) (t : GameState) → Fresh (packed w n l s t)
+pub packed_hash : (w : Player) (n : Option ℕ) (l : LocalBoards) (s : GlobalStates) (t : GameState) → Fresh (packed w n l s t)
 unfolding packed hash
 packed_hash w n l s t = refl
 

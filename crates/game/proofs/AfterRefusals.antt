@@ -1,19 +1,17 @@
 -- The number of a refusal is that of the first check that fails.
 use mathlib.Core.Path.{◌≡◌, refl, sym, ap, ◌∙◌}
-use mathlib.Core.Bool.{Bool, true, false, not, cond, ◌&&◌, and-false}
+use mathlib.Core.Bool.{Bool, true, false, not, cond, ◌&&◌}
 use mathlib.Core.List.{[], ◌∷◌}
 use mathlib.Core.Logic.{inl, inr}
-use Prim.Native.Nat.{ℕ, ◌≤◌}
-use native.Mathlib.Omega.{arith}
-use lib.Dec.{T, ltb}
-use borrow.Author.Tests.{lt-ltb, le-ltb, not-true, not-false}
+use Prim.Native.Nat.{ℕ, ◌<◌}
+use lib.Dec.{T, ltb, ltb→lt}
+use borrow.Author.Tests.{lt-ltb}
 use Rattle.base.specs.Branch.{when◌then◌else◌}
 use Rattle.base.specs.Lists.{all}
 use Rattle.base.specs.Checks.{first_failed}
-use Rattle.base.proofs.Bool.{is}
+use Rattle.base.proofs.Bool.{is, and→}
+use Rattle.base.proofs.ListsAgree.{false_by}
 use Rattle.base.proofs.Checks.{all_pass_0, 0_all_pass, some_failed}
-use Rattle.rules.specs.declared.CellState.{CellState}
-use Rattle.rules.specs.Board.{blank}
 use Rattle.rules.specs.Position.{Position, unfinished, open_board, free_cell}
 use Rattle.rules.specs.Play.{board_of, cell_of, may, checks, accepts, play}
 use Rattle.rules.proofs.Play.{play_accepted, play_refused}
@@ -35,46 +33,34 @@ module _ (p : Position) (m b c : ℕ) (eb : b ≡ board_of m) (ec : c ≡ cell_o
       sym (λ i. first_failed ((hr i, 9) ∷ (hs i, 10) ∷ (ho i, 11) ∷ (ha i, 12) ∷ (he i, 13) ∷ []))
       ∙ (λ i. first_failed (checks p (eb i) (ec i))) ∙ first_is_refusal p m
 
-  pub over_board : 9 ≤ b → 9 ≡ refusal (play p m)
+  pub out : (b < 9 → c < 9 → ⊥) → 9 ≡ refusal (play p m)
   unfolding first_failed when◌then◌else◌
-  over_board h = checked false _ _ _ _ (rw (le-ltb b 9 h)) refl refl refl refl
+  out h =
+      let no : T (ltb b 9 && ltb c 9) → ⊥ = λ t. let i = and→ (ltb b 9) _ t in h (ltb→lt b 9 i.0) (ltb→lt c 9 i.1) in
+      checked false _ _ _ _ (false_by (ltb b 9 && ltb c 9) no) refl refl refl refl
 
-  pub over_cell : 9 ≤ c → 9 ≡ refusal (play p m)
-  unfolding first_failed when◌then◌else◌
-  over_cell h = checked false _ _ _ _ (rw (le-ltb c 9 h, and-false (ltb b 9))) refl refl refl refl
-
-  module _ (hb : b ≤ 8) (hc : c ≤ 8) (done : Bool) (ed : done ≡ not (unfinished p)) where
+  module _ (hb : b < 9) (hc : c < 9) where
     ranged : (ltb b 9 && ltb c 9) ≡ true
-    ranged = rw (lt-ltb b 9 (omega arith), lt-ltb c 9 (omega arith))
+    ranged = rw (lt-ltb b 9 hb, lt-ltb c 9 hc)
 
-    pub finished : done ≡ true → 10 ≡ refusal (play p m)
+    pub finished : unfinished p ≡ false → 10 ≡ refusal (play p m)
     unfolding first_failed when◌then◌else◌
-    finished d = checked true false _ _ _ ranged (not-true (unfinished p) (sym ed ∙ d)) refl refl refl
+    finished u = checked true false _ _ _ ranged u refl refl refl
 
-    module _ (d : done ≡ false) (still : Bool) (eo : still ≡ open_board p b) where
-      is_unfinished : unfinished p ≡ true
-      is_unfinished = not-false (unfinished p) (sym ed ∙ d)
-
-      pub shut : not still ≡ true → 11 ≡ refusal (play p m)
+    module _ (u : unfinished p ≡ true) where
+      pub shut : open_board p b ≡ false → 11 ≡ refusal (play p m)
       unfolding first_failed when◌then◌else◌
-      shut o = checked true true false _ _ ranged is_unfinished (sym eo ∙ not-true still o) refl refl
+      shut o = checked true true false _ _ ranged u o refl refl
 
-      module _ (o : not still ≡ false) (ok : Bool) (ea : ok ≡ may p.next_board b) where
-        opened : open_board p b ≡ true
-        opened = sym eo ∙ not-false still o
-
-        pub elsewhere : not ok ≡ true → 12 ≡ refusal (play p m)
+      module _ (o : open_board p b ≡ true) where
+        pub elsewhere : may p.next_board b ≡ false → 12 ≡ refusal (play p m)
         unfolding first_failed when◌then◌else◌
-        elsewhere a = checked true true true false _ ranged is_unfinished opened (sym ea ∙ not-true ok a) refl
+        elsewhere a = checked true true true false _ ranged u o a refl
 
-        module _ (a : not ok ≡ false) (s : CellState) (es : s ≡ p.cells b c) where
-          allowed : may p.next_board b ≡ true
-          allowed = sym ea ∙ not-false ok a
-
-          pub looked : (e : Bool) → blank s ≡ e → cond e 0 13 ≡ refusal (play p m)
-          unfolding first_failed when◌then◌else◌
-          looked true e = checked true true true true true ranged is_unfinished opened allowed (ap blank (sym es) ∙ e)
-          looked false e = checked true true true true false ranged is_unfinished opened allowed (ap blank (sym es) ∙ e)
+        pub looked : may p.next_board b ≡ true → (e : Bool) → free_cell p b c ≡ e → cond e 0 13 ≡ refusal (play p m)
+        unfolding first_failed when◌then◌else◌
+        looked a true e = checked true true true true true ranged u o a e
+        looked a false e = checked true true true true false ranged u o a e
 
 -- no check has the number 0, so 0 is said of an accepted move alone
 pub nought_accepts : (p : Position) (m : ℕ) → refusal (play p m) ≡ 0 → T (accepts p m)

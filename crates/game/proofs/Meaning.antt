@@ -1,5 +1,6 @@
 -- The struct after a move means the position after it: the new bits change the cells and states of the board that is played, and nothing
 -- else.
+use Rattle.std.specs.Prelude.{Option, None, Some}
 use mathlib.Core.Path.{◌≡◌, refl, sym, ap, ◌∙◌}
 use mathlib.Core.Bool.{Bool, true, false, not}
 use mathlib.Core.Logic.{inl, inr}
@@ -20,8 +21,6 @@ use Rattle.rules.specs.declared.CellState.{CellState}
 use Rattle.rules.specs.declared.CellState.TheVariants.{Empty}
 use Rattle.rules.specs.declared.GameState.{GameState}
 use Rattle.rules.specs.declared.GameState.TheVariants.{InPlay, Drawn, Won}
-use Rattle.rules.specs.declared.NextBoard.{NextBoard}
-use Rattle.rules.specs.declared.NextBoard.TheVariants.{Any, Only}
 use Rattle.rules.specs.Board.{other, mine, blank, in_play, won_by, result_of}
 use Rattle.rules.specs.Position.{Position, start, open_board, free_cell}
 use Rattle.rules.specs.Play.{board_of, cell_of, accepts, after, tried}
@@ -39,15 +38,15 @@ use Rattle.boards.proofs.Packed.{cell_in, cell_past_board, cell_past_cell, state
 use Rattle.game.specs.declared.Game.{Game}
 use Rattle.game.specs.Meaning.{position_of}
 use Rattle.game.specs.After.{after_move, game_after}
-use Rattle.game.specs.Built.{no_boards, no_states, new_game, recalculated}
+use Rattle.game.specs.Built.{no_boards, no_states, new_game}
 
 -- the cell's board is due if it is in play
 module _ (s : GlobalStates) (c : ℕ) (ok : Bool) (e : ok ≡ in_play (state_at s c)) where
-  pub next_only : ok ≡ true → Only c ≡ (when in_play (state_at s c) then (λ _. Only c) else λ _. Any)
+  pub next_only : ok ≡ true → Some c ≡ (when in_play (state_at s c) then (λ _. Some c) else λ _. None)
   unfolding when◌then◌else◌
   next_only f = rw (sym e ∙ f)
 
-  pub next_any : ok ≡ false → Any ≡ (when in_play (state_at s c) then (λ _. Only c) else λ _. Any)
+  pub next_any : ok ≡ false → None ≡ (when in_play (state_at s c) then (λ _. Some c) else λ _. None)
   unfolding when◌then◌else◌
   next_any f = rw (sym e ∙ f)
 
@@ -114,9 +113,9 @@ module _ (g : Game) (b c : ℕ) (n : length g.local_boards.rows ≡ 3) (hb : b <
   }
 
   -- what the code works out, field by field, is the struct after the move
-  module _ (v : Player) (next : NextBoard) (ls : LocalBoards) (s t : GameState) (ss : GlobalStates) (k h : ℕ)
+  module _ (v : Player) (next : Option ℕ) (ls : LocalBoards) (s t : GameState) (ss : GlobalStates) (k h : ℕ)
       (e_player : v ≡ other w)
-      (e_next : next ≡ (when in_play (state_at ss c) then (λ _. Only c) else λ _. Any))
+      (e_next : next ≡ (when in_play (state_at ss c) then (λ _. Some c) else λ _. None))
       (e_boards : ls ≡ boards)
       (e_state : s ≡ result_of w (λ i. mine w (cell_at ls b i)) (λ i. blank (cell_at ls b i)))
       (e_states : ss ≡ with_state g.global_states b s)
@@ -133,7 +132,7 @@ module _ (g : Game) (b c : ℕ) (n : length g.local_boards.rows ≡ 3) (hb : b <
     next_is : next ≡ (after p b c).next_board
     unfolding after
     next_is =
-        e_next ∙ ap (λ (f : ℕ → GameState). when in_play (f c) then (λ _. Only c) else λ _. Any)
+        e_next ∙ ap (λ (f : ℕ → GameState). when in_play (f c) then (λ _. Some c) else λ _. None)
         (ap state_at states_are ∙ states_made)
 
     game_is : t ≡ (after p b c).state
@@ -185,21 +184,6 @@ module _ (g : Game) (m : ℕ) where
         ∙ sym (tried_accepted (position_of g) m t))
     | inr t ↦ ap position_of (game_refused t) ∙ sym (tried_refused (position_of g) m t)
   ]
-
--- ---- the game's state, looked at again for the side v
-pub recalculates : (g : Game) (v : Player) (t : GameState) → v ≡ other g.next_player
-    → t ≡ result_of v (λ b. won_by v (state_at g.global_states b)) (λ b. in_play (state_at g.global_states b))
-    → ◌≡◌ {A = Game} (record {
-      next_player = g.next_player;
-      next_board = g.next_board;
-      local_boards = g.local_boards;
-      global_states = g.global_states;
-      game_state = t;
-      hash = g.hash;
-    })
-    (recalculated g)
-unfolding recalculated
-recalculates g v t e f = rw (f, e)
 
 -- ---- the empty game
 module _ (b c : ℕ) where

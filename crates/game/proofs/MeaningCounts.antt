@@ -6,10 +6,9 @@ use mathlib.Core.Logic.{inl, inr}
 use Prim.Native.Nat.{ℕ, zero, suc, ◌+◌, ◌*◌, ◌/◌, ◌%◌, ◌^◌, ◌≤◌, ◌<◌}
 use native.Mathlib.Omega.{arith}
 use lib.Count.{ones}
-use lib.Dec.{T, eqb, lit<}
+use lib.Dec.{T, lit<}
 use lib.ListN.{length, get_or}
 use lib.Ieee.Bits.{is_true}
-use borrow.Author.Tests.{eq-eqb, ne_eqb, not-true, not-false}
 use Rattle.base.specs.Branch.{when◌then◌else◌}
 use Rattle.base.specs.Bits.{bit, digits}
 use Rattle.base.specs.Lists.{all, filter, count, In, from, concat_map, total}
@@ -19,7 +18,7 @@ use Rattle.base.proofs.BitsOperations.{bit_shr}
 use Rattle.base.proofs.Lists.{all_each, each_all, in_from, from_in}
 use Rattle.base.proofs.Bits.{digits_lt, bit_digits}
 use Rattle.base.proofs.BitsOnes.{count_ones}
-use Rattle.rules.specs.Board.{same, side_number, same_cell, same_state, nine}
+use Rattle.rules.specs.Board.{same, same_cell, same_state, nine}
 use Rattle.rules.specs.Position.{same_next_board, Position, open_board, free_cell}
 use Rattle.rules.specs.Play.{move_of, board_of, cell_of}
 use Rattle.rules.specs.Moves.{places}
@@ -36,7 +35,6 @@ use Rattle.game.specs.declared.Game.{Game}
 use Rattle.game.specs.Meaning.{position_of}
 use Rattle.game.proofs.MeaningMoves.{free_cursor}
 use Rattle.game.proofs.MeaningRows.{place_cell}
-use Rattle.game.proofs.MeaningSides.{same_number}
 
 -- ---- how many of a list pass a test
 pub length_kept : (f : ℕ → Bool) (xs : List ℕ) → length (filter f xs) ≡ count f xs
@@ -204,39 +202,25 @@ module _ (p : Position) (l k : LocalBoards) (n : ℕ) (e : n ≡ digits (open_bo
               →⇒ (open_board p b) _ (λ o. all_each (agree b) c nine (⇒→ (open_board p b) _ (all_each _ b nine t (in_nine b hb)) o)
               (in_nine c hc))
 
--- ---- the comparison, part by part
-module _ (p q : Position) (m n : ℕ) (em : m ≡ side_number p.turn) (en : n ≡ side_number q.turn) where
-  sides : eqb m n ≡ same p.turn q.turn
-  sides = rw (em, en) (same_number p.turn q.turn)
+-- ---- the comparison: side, next board and state together, then the cells
+joined : (a b c d : Bool) → (a && (b && (c && d))) ≡ (((a && b) && c) && d)
+joined true true c d = refl
+joined true false c d = refl
+joined false b c d = refl
 
-  pub other_turn : (m ≡ n → ⊥) → false ≡ equivalent p q
+module _ (p q : Position) (r : Bool)
+    (e : r ≡ ((same p.turn q.turn && same_next_board p.next_board q.next_board) && same_state p.state q.state)) where
+  pub other : r ≡ false → r ≡ equivalent p q
   unfolding equivalent
-  other_turn h = rw (sym sides ∙ ne_eqb m n h)
+  other f = sym (joined (same p.turn q.turn) (same_next_board p.next_board q.next_board) (same_state p.state q.state) _ ∙ rw (sym e, f))
 
-  module _ (h : m ≡ n) (d : Bool) (ed : d ≡ same_next_board p.next_board q.next_board) where
-    turns : same p.turn q.turn ≡ true
-    turns = sym sides ∙ eq-eqb m n h
-
-    pub other_due : not d ≡ true → false ≡ equivalent p q
-    unfolding equivalent
-    other_due i = rw (turns, sym ed ∙ not-true d i)
-
-    module _ (i : not d ≡ false) (s : Bool) (es : s ≡ same_state p.state q.state) where
-      dues : same_next_board p.next_board q.next_board ≡ true
-      dues = sym ed ∙ not-false d i
-
-      pub other_state : not s ≡ true → false ≡ equivalent p q
-      unfolding equivalent
-      other_state j = rw (turns, dues, sym es ∙ not-true s j)
-
-      pub compared : not s ≡ false → (c : Bool) → c ≡ all (λ b. not (open_board p b) ||
-          all (λ c. same_cell (p.cells b c) (q.cells b c)) nine) nine → c ≡ equivalent p q
-      unfolding equivalent
-      compared j c e =
-          e ∙ sym (rw (
-            turns,
-            dues,
-            sym es ∙ not-false s j,
-            is_true (all (λ b. same_state (p.states b) (p.states b)) nine)
-                (each_all _ nine (λ b _. same_state_self (p.states b))),
-          ))
+  pub compared : r ≡ true → (c : Bool) → c ≡ all (λ b. not (open_board p b) ||
+      all (λ c. same_cell (p.cells b c) (q.cells b c)) nine) nine → c ≡ equivalent p q
+  unfolding equivalent
+  compared f c d =
+      d ∙ sym (joined (same p.turn q.turn) (same_next_board p.next_board q.next_board) (same_state p.state q.state) _ ∙ rw (
+        sym e,
+        f,
+        is_true (all (λ b. same_state (p.states b) (p.states b)) nine)
+            (each_all _ nine (λ b _. same_state_self (p.states b))),
+      ))

@@ -1,4 +1,5 @@
 -- Lists of moves: the boards that may be played, and the cursor over the empty cells of some boards.
+use Rattle.std.specs.Prelude.{None, Some}
 use mathlib.Core.Path.{◌≡◌, sym, ap, ap₂, ◌∙◌}
 use mathlib.Core.Bool.{Bool, true, false, ◌&&◌, and-true, and-false}
 use Prim.Native.Nat.{ℕ, ◌+◌, ◌*◌, ◌/◌, ◌%◌, ◌^◌, ◌≤◌, ◌<◌}
@@ -15,7 +16,6 @@ use Rattle.base.proofs.ListsAgree.{same_by}
 use Rattle.base.proofs.Bool.{and→, →and}
 use Rattle.base.proofs.BitsOperations.{bit-bit_and, bit_shr, bit_nought, bit_pow}
 use Rattle.base.proofs.Bits.{digits_lt, bit_digits, is_digits, digits_same, shl_one}
-use Rattle.rules.specs.declared.NextBoard.TheVariants.{Any, Only}
 use Rattle.rules.specs.Board.{blank}
 use Rattle.rules.specs.Position.{Position, unfinished, open_board, free_cell}
 use Rattle.rules.specs.Play.{move_of, may, accepts}
@@ -49,11 +49,11 @@ module _ (p : Position) where
   pub none_over : unfinished p ≡ false → 0 ≡ digits playable 9
   none_over e = none (λ b h. ap (λ (s : Bool). s && (open_board p b && may p.next_board b)) e)
 
-  pub none_due : (d : ℕ) → p.next_board ≡ Only d → 9 ≤ d → 0 ≡ digits playable 9
+  pub none_due : (d : ℕ) → p.next_board ≡ Some d → 9 ≤ d → 0 ≡ digits playable 9
   none_due d e h = none (λ b i. rw (e, ne_eqb d b (λ q. omega arith), and-false (open_board p b)) (and-false (unfinished p)))
 
   module _ (n : ℕ) (o : unfinished p ≡ true) (e : n ≡ digits (open_board p) 9) where
-    pub all_open : p.next_board ≡ Any → n ≡ digits playable 9
+    pub all_open : p.next_board ≡ None → n ≡ digits playable 9
     all_open f = e ∙ digits_same (open_board p) playable 9 (λ b i. rw (o, f) (sym (and-true (open_board p b))))
 
     one_digit : (d k : ℕ) → d < 9 → bit (1 * 2 ^ d % 4294967296) k ≡ eqb d k
@@ -63,11 +63,11 @@ module _ (p : Position) where
         go (yes q) = eq-eqb k d q ∙ sym (eq-eqb d k (sym q))
         go (no q) = ne_eqb k d q ∙ sym (ne_eqb d k (λ z. q (sym z)))
 
-    pub one_open : (d : ℕ) → p.next_board ≡ Only d → d ≤ 8 → bit_and n (1 * 2 ^ d % 4294967296) ≡ digits playable 9
+    pub one_open : (d : ℕ) → p.next_board ≡ Some d → d < 9 → bit_and n (1 * 2 ^ d % 4294967296) ≡ digits playable 9
     one_open d f h = is_digits playable 9 _
         (lt_of_le_of_lt (and_le_l n (1 * 2 ^ d % 4294967296)) (rw e (digits_lt (open_board p) 9)))
         (λ k i. bit-bit_and n (1 * 2 ^ d % 4294967296) k ∙ ap₂ ◌&&◌ (ap (λ (m : ℕ). bit m k) e ∙ bit_digits (open_board p) 9 k i)
-        (one_digit d k (omega arith)) ∙ sym (rw (o, f)))
+        (one_digit d k h) ∙ sym (rw (o, f)))
 
 -- ---- the empty cells of some boards
 module _ (l : LocalBoards) (test : ℕ → Bool) (n : ℕ) (e : n ≡ digits test 9) (f : ℕ → Bool)

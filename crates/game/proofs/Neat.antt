@@ -1,4 +1,5 @@
 -- Play keeps a game neat, and a neat game is fixed by its position and its hash.
+use Rattle.std.specs.Prelude.{Option}
 use mathlib.Core.Path.{◌≡◌, refl, sym, ap, ap₂, ◌∙◌, subst}
 use mathlib.Core.Bool.{Bool, true, false, ◌&&◌, ◌||◌, and-false}
 use mathlib.Core.List.{List, [], ◌∷◌}
@@ -22,7 +23,6 @@ use Rattle.rules.specs.declared.CellState.{CellState}
 use Rattle.rules.specs.declared.CellState.TheVariants.{Empty, Played}
 use Rattle.rules.specs.declared.GameState.{GameState}
 use Rattle.rules.specs.declared.GameState.TheVariants.{InPlay, Drawn, Won}
-use Rattle.rules.specs.declared.NextBoard.{NextBoard}
 use Rattle.rules.specs.Board.{mine, blank, in_play, won_by, drawn}
 use Rattle.rules.specs.Position.{Position}
 use Rattle.rules.specs.Play.{board_of, cell_of, accepts, after}
@@ -163,7 +163,7 @@ after_move_neat g b c l n =
     let r = with_cell_neat g.local_boards b c g.next_player l.board l.cell l.empty n.three n.each in
     let s = with_state_neat g.global_states b l.board n.xs n.os ((after p b c).states b) in
     record {
-      next = if_ind (λ (d : NextBoard). T (neat_next d)) (in_play ((after p b c).states c)) _ _ (λ _. lt→ltb c 9 l.cell) (λ _. tt);
+      next = if_ind (λ (d : Option ℕ). T (neat_next d)) (in_play ((after p b c).states c)) _ _ (λ _. lt→ltb c 9 l.cell) (λ _. tt);
       three = r.0;
       each = r.1;
       xs = s.0;

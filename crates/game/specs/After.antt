@@ -1,13 +1,14 @@
 -- The game after a move, as a struct: one bit more in one row; the board's and the game's state, next board, side and hash replaced.
-use Rattle.std.specs.Prelude.{◌≡◌, List, [], ◌∷◌, ℕ}
+use Rattle.std.specs.Prelude.{◌≡◌, List, [], ◌∷◌, ℕ, Result, Ok, Err}
 use Rattle.base.specs.Branch.{when◌then◌else◌}
 use Rattle.rules.specs.Play.{board_of, cell_of, accepts, after, Tried, played, refused, play, tried}
 use Rattle.rules.specs.Hash.{hash_after}
 use Rattle.boards.specs.declared.moves.Move.{Move}
 use Rattle.boards.specs.With.{with_cell, with_state}
-use Rattle.boards.specs.Answers.{answer_number}
+use Rattle.rules.specs.Refusal.{answer_number}
+use Rattle.boards.specs.declared.moves.MoveError.{MoveError}
+use Rattle.boards.specs.Answers.{move_error_number}
 use Rattle.game.specs.declared.Game.{Game}
-use Rattle.game.specs.declared.MoveResult.{MoveResult}
 use Rattle.game.specs.Meaning.{position_of}
 
 -- the game after an accepted move in cell c of board b
@@ -41,8 +42,13 @@ unfoldable pub answers_each : Game → List ℕ → List ℕ
 answers_each g [] = []
 answers_each g (m ∷ ms) = refusal (play (position_of g) m) ∷ answers_each (game_after g m) ms
 
+-- the game that a tried move leaves: the one after it, or the very game where it is refused
+abbrev pub game_left : Game → Result Game MoveError → Game
+game_left g (Ok after) = after
+game_left g (Err why) = g
+
 -- what `make_move` gives: the refusal's number, the struct, and the rules' position
-pub record Plays (g : Game) (m : Move) (r : MoveResult) : Type 0 where
-  pub number : answer_number r.answer ≡ refusal (play (position_of g) m.bits)
-  pub exact : r.game ≡ game_after g m.bits
-  pub position : position_of r.game ≡ tried (position_of g) m.bits
+pub record Plays (g : Game) (m : Move) (r : Result Game MoveError) : Type 0 where
+  pub number : answer_number move_error_number r ≡ refusal (play (position_of g) m.bits)
+  pub exact : game_left g r ≡ game_after g m.bits
+  pub position : position_of (game_left g r) ≡ tried (position_of g) m.bits

@@ -1,11 +1,9 @@
 -- The empty game, a game from its parts, and one whose state is looked at again.
-use Rattle.std.specs.Prelude.{ℕ, replicate}
+use Rattle.std.specs.Prelude.{ℕ, replicate, Option, None}
 use Rattle.rules.specs.declared.Player.{Player}
 use Rattle.rules.specs.declared.Player.TheVariants.{X}
 use Rattle.rules.specs.declared.GameState.{GameState}
 use Rattle.rules.specs.declared.GameState.TheVariants.{InPlay}
-use Rattle.rules.specs.declared.NextBoard.{NextBoard}
-use Rattle.rules.specs.declared.NextBoard.TheVariants.{Any}
 use Rattle.rules.specs.Board.{other, result_of, in_play, won_by}
 use Rattle.rules.specs.Hash.{hash}
 use Rattle.boards.specs.declared.local.LocalBoards.{LocalBoards}
@@ -25,7 +23,7 @@ abbrev pub new_game : Game
 new_game =
     record {
       next_player = X;
-      next_board = Any;
+      next_board = None;
       local_boards = no_boards;
       global_states = no_states;
       game_state = InPlay;
@@ -44,12 +42,12 @@ with_hash g h =
     }
 
 -- a game from its parts, with hash 0
-abbrev pub parts : Player → NextBoard → LocalBoards → GlobalStates → GameState → Game
+abbrev pub parts : Player → Option ℕ → LocalBoards → GlobalStates → GameState → Game
 parts w n l s g =
     record { next_player = w; next_board = n; local_boards = l; global_states = s; game_state = g; hash = 0 }
 
 -- with its hash worked out
-unfoldable pub packed : Player → NextBoard → LocalBoards → GlobalStates → GameState → Game
+unfoldable pub packed : Player → Option ℕ → LocalBoards → GlobalStates → GameState → Game
 packed w n l s g = with_hash (parts w n l s g) (hash (position_of (parts w n l s g)))
 
 -- the game's state as the side not to move has left it

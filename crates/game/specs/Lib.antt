@@ -1,5 +1,4 @@
 pub mod Meaning
 pub mod After
 pub mod Built
-pub mod Look
 pub mod Neat

@@ -1,13 +1,11 @@
 -- Neat games: no bit above the 27 of a row and the 9 of the states, no cell with both bits, and a next board of 0 to 8 or none. Play keeps
 -- a game neat, and a neat game is fixed by its position and its hash.
-use Rattle.std.specs.Prelude.{Bool, true, ◌&&◌, ◌||◌, [], ◌∷◌, ℕ, ◌+◌, ◌*◌, ◌/◌, ◌%◌, ◌^◌, eqb, ltb, length}
+use Rattle.std.specs.Prelude.{Bool, true, ◌&&◌, ◌||◌, [], ◌∷◌, ℕ, ◌+◌, ◌*◌, ◌/◌, ◌%◌, ◌^◌, eqb, ltb, length, Option, None, Some}
 use Rattle.std.specs.Int.Bits.{bit_and}
 use Rattle.base.specs.Lists.{all}
 use Rattle.base.specs.Bits.{digits}
 use Rattle.rules.specs.declared.Player.{Player}
 use Rattle.rules.specs.declared.Player.TheVariants.{X, O}
-use Rattle.rules.specs.declared.NextBoard.{NextBoard}
-use Rattle.rules.specs.declared.NextBoard.TheVariants.{Any, Only}
 use Rattle.rules.specs.Board.{mine, won_by, drawn}
 use Rattle.rules.specs.Position.{Position}
 use Rattle.boards.specs.declared.local.Row.{Row}
@@ -16,9 +14,9 @@ use Rattle.game.specs.declared.Game.{Game}
 abbrev pub neat_row : Row → Bool
 neat_row r = ltb r.x (2 ^ 27) && (ltb r.o (2 ^ 27) && eqb (bit_and r.x r.o) 0)
 
-abbrev pub neat_next : NextBoard → Bool
-neat_next Any = true
-neat_next (Only b) = ltb b 9
+abbrev pub neat_next : Option ℕ → Bool
+neat_next None = true
+neat_next (Some b) = ltb b 9
 
 unfoldable pub neat : Game → Bool
 neat g =

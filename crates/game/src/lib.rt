@@ -1,85 +1,40 @@
 // The rules of Ultimate Tic Tac Toe on packed boards: play, the list of moves and the hash.
 // Ported from src/lib/game.rs of nelhage/ultimattt at commit 87ef0d9c7c (Apache-2.0, see NOTICE), changed: games go in and come back by
-// value, refusals are numbered, a finished game lists no moves, and every value of the structs means a position.
+// value, a finished game lists no moves, and every value of the structs means a position.
 #![tactic(auto)]
 
-ghost use Rattle.std.specs.Prelude.{◌≡◌, not, ◌&&◌, ◌<◌, T, length};
+ghost use Rattle.std.specs.Prelude.{◌≡◌, not, ◌&&◌, ◌<◌, T, length, ltb};
 ghost use Rattle.base.specs.Bits.{digits};
-ghost use Rattle.rules.specs.Board.{same_state};
 ghost use Rattle.rules.specs.Position.{unfinished, open_board, free_cell};
 ghost use Rattle.rules.specs.Play.{may, play};
 ghost use Rattle.rules.specs.Moves.{moves};
 ghost use Rattle.rules.specs.Compare.{bound_depth, open_boards, equivalent};
 ghost use Rattle.rules.specs.Hash.{with_turn};
-ghost use Rattle.boards.specs.Answers.{answer_number};
+ghost use Rattle.rules.specs.Refusal.{answer_number};
+ghost use Rattle.boards.specs.Answers.{move_error_number, in_range, within};
 ghost use Rattle.boards.specs.Cursor.{cursor_over};
 ghost use Rattle.game.specs.Meaning.{position_of};
 ghost use Rattle.game.specs.After.{after_move, games_after, refusal, Plays};
 ghost use Rattle.game.specs.Built.{new_game, packed, recalculated};
-ghost use Rattle.game.specs.Look.{LooksCell, LooksState};
 
-use boards::{Answer, GlobalStates, LocalBoards, Move, MoveError, MoveIterator};
-use rules::{CellState, GameState, NextBoard, Player};
+use boards::{GlobalStates, LocalBoards, Move, MoveError, MoveIterator};
+use rules::{CellState, GameState, Player};
 
 #[derive(Clone, Copy)]
 pub struct Game {
     pub next_player: Player,
-    pub next_board: NextBoard,
+    pub next_board: Option<u8>,
     pub local_boards: LocalBoards,
     pub global_states: GlobalStates,
     pub game_state: GameState,
     pub hash: u64,
 }
 
-// What playing a move gives: refused, the game is the old one.
-#[derive(Clone, Copy)]
-pub struct MoveResult {
-    pub game: Game,
-    pub answer: Answer,
-}
-
-// What looking at a cell gives: refused, an empty cell.
-#[derive(Clone, Copy)]
-pub struct CellAnswer {
-    pub answer: Answer,
-    pub cell: CellState,
-}
-
-// What looking at a board gives: refused, an open board.
-#[derive(Clone, Copy)]
-pub struct StateAnswer {
-    pub answer: Answer,
-    pub state: GameState,
-}
-
-// Whether two states are the same.
-fn same_state(a: GameState, b: GameState) -> bool
-    ensures { result ≡ same_state a b }
-{
-    match a {
-        GameState::InPlay => match b {
-            GameState::InPlay => true,
-            GameState::Drawn => false,
-            GameState::Won(_) => false,
-        },
-        GameState::Drawn => match b {
-            GameState::InPlay => false,
-            GameState::Drawn => true,
-            GameState::Won(_) => false,
-        },
-        GameState::Won(who) => match b {
-            GameState::InPlay => false,
-            GameState::Drawn => false,
-            GameState::Won(by) => who.as_bit() == by.as_bit(),
-        },
-    }
-}
-
 impl Game {
     // The empty board: X to move, free choice.
     pub const NEW: Game = Game {
         next_player: Player::X,
-        next_board: NextBoard::Any,
+        next_board: None,
         local_boards: LocalBoards::EMPTY,
         global_states: GlobalStates::EMPTY,
         game_state: GameState::InPlay,
@@ -95,7 +50,7 @@ impl Game {
     // A game from its parts, with its hash worked out.
     pub fn pack(
         next_player: Player,
-        next_board: NextBoard,
+        next_board: Option<u8>,
         local_boards: LocalBoards,
         global_states: GlobalStates,
         game_state: GameState,
@@ -116,68 +71,47 @@ impl Game {
         }
     }
 
-    // What a move is answered, in the order of refusals 9 to 13.
-    fn check_move(self, m: Move) -> Answer
-        ensures { answer_number result ≡ refusal (play (position_of self) m.bits) }
+    // What is asked of a move, in the order of refusals 9 to 13.
+    fn check_move(self, m: Move) -> Result<(), MoveError>
+        ensures { answer_number move_error_number result ≡ refusal (play (position_of self) m.bits) }
     {
         let global = m.global();
         let local = m.local();
-        if global > 8 {
-            return Answer::Refused(MoveError::OutOfBounds);
+        if global > 8 || local > 8 {
+            return Err(MoveError::OutOfBounds);
         }
-        if local > 8 {
-            return Answer::Refused(MoveError::OutOfBounds);
+        if self.game_state.terminal() {
+            return Err(MoveError::GameOver);
         }
-        let state = self.game_state;
-        if state.terminal() {
-            return Answer::Refused(MoveError::GameOver);
+        if !self.global_states.in_play(global) {
+            return Err(MoveError::WonBoard);
         }
-        let states = self.global_states;
-        let open = states.in_play(global);
-        let next = self.next_board;
-        let due = next.allows(global);
-        if !open {
-            return Answer::Refused(MoveError::WonBoard);
+        if !rules::allows(self.next_board, global) {
+            return Err(MoveError::WrongBoard);
         }
-        if !due {
-            return Answer::Refused(MoveError::WrongBoard);
-        }
-        let boards = self.local_boards;
-        let cell = boards.at(global, local);
-        match cell {
-            CellState::Empty => Answer::Accepted,
-            CellState::Played(_) => Answer::Refused(MoveError::NotEmpty),
+        match self.local_boards.at(global, local) {
+            CellState::Empty => Ok(()),
+            CellState::Played(_) => Err(MoveError::NotEmpty),
         }
     }
 
-    // Plays a move, or refuses it and returns the old game.
-    pub fn make_move(self, m: Move) -> MoveResult
+    pub fn make_move(self, m: Move) -> Result<Game, MoveError>
         ensures { Plays self m result }
     {
-        let answer = self.check_move(m);
-        match answer {
-            Answer::Accepted => {
-                let game = self.play(m.global(), m.local());
-                MoveResult {
-                    game,
-                    answer: Answer::Accepted,
-                }
-            }
-            Answer::Refused(why) => MoveResult {
-                game: self,
-                answer: Answer::Refused(why),
-            },
-        }
+        self.check_move(m)?;
+        Ok(self.play(m.global(), m.local()))
     }
 
-    // The game after a list of moves, tried one after the other.
+    // The game after a list of moves, tried one after the other: a refused one changes nothing.
     pub fn play_all(self, moves: &[u8]) -> Game
         ensures { result ≡ games_after self moves.now }
     {
         let mut game = self;
-        for i in 0..moves.len() {
-            let made = game.make_move(Move { bits: moves[i] });
-            game = made.game;
+        for m in moves {
+            game = match game.make_move(Move { bits: *m }) {
+                Ok(after) => after,
+                Err(_) => game,
+            };
         }
         game
     }
@@ -189,23 +123,20 @@ impl Game {
         ensures { result ≡ after_move self global local }
     {
         let who = self.next_player;
-        let boards = self.local_boards;
-        let states = self.global_states;
-        let local_boards = boards.set(global, local, who);
+        let local_boards = self.local_boards.set(global, local, who);
         let state = local_boards.check_winner(global, who);
-        let global_states = states.set(global, state);
+        let global_states = self.global_states.set(global, state);
         let played = self.hash ^ keys::for_square(9 * global + local, who);
         let hash = local_boards.hash_after(played, global, state);
         let game_state = global_states.check_winner(who);
         let next_board = if global_states.in_play(local) {
             let due = local as u8;
-            NextBoard::Only(due)
+            Some(due)
         } else {
-            NextBoard::Any
+            None
         };
-        let next_player = who.other();
         Game {
-            next_player,
+            next_player: who.other(),
             next_board,
             local_boards,
             global_states,
@@ -215,21 +146,13 @@ impl Game {
     }
 
     // Looks only at the side not to move.
+    #[tactic(auto, unfolding(crate::specs::Built::recalculated))]
     pub fn recalc_winner(self) -> Game
         ensures { result ≡ recalculated self }
     {
-        let next_player = self.next_player;
-        let next_board = self.next_board;
-        let local_boards = self.local_boards;
-        let global_states = self.global_states;
-        let game_state = global_states.check_winner(next_player.other());
         Game {
-            next_player,
-            next_board,
-            local_boards,
-            global_states,
-            game_state,
-            hash: self.hash,
+            game_state: self.global_states.check_winner(self.next_player.other()),
+            ..self
         }
     }
 
@@ -241,30 +164,24 @@ impl Game {
         if self.game_over() {
             return 0;
         }
-        let states = self.global_states;
-        let open = states.openbits();
-        let next = self.next_board;
-        match next {
-            NextBoard::Any => open,
-            NextBoard::Only(b) => {
-                if b > 8 {
-                    0
-                } else {
-                    open & (1u32 << (b as u32))
-                }
-            }
+        let open = self.global_states.openbits();
+        match self.next_board {
+            None => open,
+            Some(due) if due < 9 => open & (1u32 << due),
+            Some(_) => 0,
         }
     }
 
     // The cursor over the moves that play accepts, boards rising, cells rising.
+    #[tactic(auto, using(crate::proofs::MeaningMoves::moves_cursor))]
     pub fn all_moves(self) -> MoveIterator
         ensures { result ≡ cursor_over (moves (position_of self)) }
     {
-        let boards = self.local_boards;
-        boards.free_in(self.playable())
+        self.local_boards.free_in(self.playable())
     }
 
     // How many moves play accepts.
+    #[tactic(auto, using(crate::proofs::MeaningMoves::all_moves_listed))]
     pub fn legal_moves(self) -> usize
         ensures { result ≡ length (moves (position_of self)) }
     {
@@ -280,8 +197,7 @@ impl Game {
     pub fn game_over(self) -> bool
         ensures { result ≡ not (unfinished (position_of self)) }
     {
-        let state = self.game_state;
-        state.terminal()
+        self.game_state.terminal()
     }
 
     pub fn player(self) -> Player
@@ -290,100 +206,65 @@ impl Game {
         self.next_player
     }
 
-    pub fn board_to_play(self) -> NextBoard
+    pub fn board_to_play(self) -> Option<u8>
         ensures { result ≡ self.next_board }
     {
         self.next_board
     }
 
-    pub fn at(self, board: usize, cell: usize) -> CellAnswer
-        ensures { LooksCell (position_of self) board cell result }
+    #[tactic(auto, using(boards::proofs::Answers::in_both, boards::proofs::Answers::past_either))]
+    pub fn at(self, board: usize, cell: usize) -> Result<CellState, MoveError>
+        ensures { result ≡ within (in_range board cell) ((position_of self).cells board cell) }
     {
-        if board > 8 {
-            return CellAnswer {
-                answer: Answer::Refused(MoveError::OutOfBounds),
-                cell: CellState::Empty,
-            };
+        if board > 8 || cell > 8 {
+            return Err(MoveError::OutOfBounds);
         }
-        if cell > 8 {
-            return CellAnswer {
-                answer: Answer::Refused(MoveError::OutOfBounds),
-                cell: CellState::Empty,
-            };
-        }
-        let boards = self.local_boards;
-        CellAnswer {
-            answer: Answer::Accepted,
-            cell: boards.at(board, cell),
-        }
+        Ok(self.local_boards.at(board, cell))
     }
 
-    pub fn board_state(self, board: usize) -> StateAnswer
-        ensures { LooksState (position_of self) board result }
+    #[tactic(auto, using(boards::proofs::Answers::in_one, boards::proofs::Answers::past_one))]
+    pub fn board_state(self, board: usize) -> Result<GameState, MoveError>
+        ensures { result ≡ within (ltb board 9) ((position_of self).states board) }
     {
         if board > 8 {
-            return StateAnswer {
-                answer: Answer::Refused(MoveError::OutOfBounds),
-                state: GameState::InPlay,
-            };
+            return Err(MoveError::OutOfBounds);
         }
-        let states = self.global_states;
-        StateAnswer {
-            answer: Answer::Accepted,
-            state: states.at(board),
-        }
+        Ok(self.global_states.at(board))
     }
 
+    #[tactic(auto, unfolding(rules::specs::Hash::with_turn, rules::specs::Hash::next_board_key))]
     pub fn zobrist(self) -> u64
         ensures { result ≡ with_turn (position_of self) self.hash }
     {
-        let who = self.next_player;
-        let next = self.next_board;
-        let turn = match next {
-            NextBoard::Any => keys::for_player(who),
-            NextBoard::Only(b) => keys::for_next(b as usize) ^ keys::for_player(who),
-        };
-        self.hash ^ turn
+        let due = self.next_board.map_or(0, |b| keys::for_next(b as usize));
+        self.hash ^ (due ^ keys::for_player(self.next_player))
     }
 
     // The empty cells in open boards.
+    #[tactic(auto, using(crate::proofs::MeaningCounts::depth_counted))]
     pub fn bound_depth(self) -> usize
         ensures { result ≡ bound_depth (position_of self) }
     {
-        let states = self.global_states;
-        let boards = self.local_boards;
-        boards.free_in(states.openbits()).count()
+        self.local_boards
+            .free_in(self.global_states.openbits())
+            .count()
     }
 
+    #[tactic(auto, using(crate::proofs::MeaningCounts::open_count, crate::proofs::MeaningCounts::few_open))]
     pub fn open_boards(self) -> u8
         ensures { result ≡ open_boards (position_of self) }
     {
-        let states = self.global_states;
-        u32::count_ones(states.openbits()) as u8
+        self.global_states.openbits().count_ones() as u8
     }
 
     // As the Rust has it: the states of the two games' boards are not compared.
     pub fn equivalent(self, rhs: Game) -> bool
         ensures { result ≡ equivalent (position_of self) (position_of rhs) }
     {
-        let who = self.next_player;
-        let by = rhs.next_player;
-        if who.as_bit() != by.as_bit() {
-            return false;
-        }
-        let next = self.next_board;
-        let next_rhs = rhs.next_board;
-        if !next.same(next_rhs) {
-            return false;
-        }
-        let state = self.game_state;
-        let state_rhs = rhs.game_state;
-        if !same_state(state, state_rhs) {
-            return false;
-        }
-        let states = self.global_states;
-        let boards = self.local_boards;
-        let boards_rhs = rhs.local_boards;
-        boards.same_in(states.openbits(), boards_rhs)
+        (self.next_player, self.next_board, self.game_state)
+            == (rhs.next_player, rhs.next_board, rhs.game_state)
+            && self
+                .local_boards
+                .same_in(self.global_states.openbits(), rhs.local_boards)
     }
 }

@@ -1,9 +1,8 @@
 -- A `match` on 0 to n - 1 that no arm took: the number is n or more, so it is past the end of a list of n.
-use mathlib.Core.Path.{◌≡◌, sym}
-use mathlib.Core.List.{List, [], ◌∷◌}
+use mathlib.Core.Path.{◌≡◌}
+use mathlib.Core.List.{[], ◌∷◌}
 use Prim.Native.Nat.{ℕ, zero, suc, ◌≤◌}
 use native.Mathlib.Omega.{arith}
-use lib.ListN.{length, get_or, get_or-eq_default}
 use types.Run.{OneOf}
 
 -- what the arm for the rest is told
@@ -14,6 +13,3 @@ Rest (suc n) i = Rest n i × (OneOf (n ∷ []) i → ⊥)
 pub rest_is_past : (n i : ℕ) → Rest n i → n ≤ i
 rest_is_past zero i r = omega arith
 rest_is_past (suc n) i r = let h = rest_is_past n i r.0 in let k : i ≡ n → ⊥ = r.1 in omega (arith, h, k)
-
-pub rest_reads_none : (keys : List ℕ) (i : ℕ) → Rest (length keys) i → 0 ≡ get_or keys i 0
-rest_reads_none keys i r = sym (get_or-eq_default keys 0 (rest_is_past (length keys) i r))

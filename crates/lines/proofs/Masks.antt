@@ -1,15 +1,14 @@
 -- The lines: the two tables agree, the masks find a line wherever three digits make one, and what nine digits say of a board's state.
 use mathlib.Core.Path.{◌≡◌, refl, sym, ap, ◌∙◌}
-use mathlib.Core.Bool.{Bool, true, false, not, ◌||◌, ◌&&◌, not-not}
+use mathlib.Core.Bool.{Bool, true, false, not, ◌&&◌, not-not}
 use mathlib.Core.List.{[], map}
-use Prim.Native.Nat.{ℕ, ◌+◌, ◌%◌, ◌≤◌, ◌<◌}
-use native.Mathlib.Numerals.{add-one}
+use Prim.Native.Nat.{ℕ, ◌%◌, ◌<◌}
 use native.Mathlib.Nat.{mod-lt}
 use native.Mathlib.Omega.{arith}
 use lib.Bits.{bit_and, and_mask, and_mod, and_le_r}
 use lib.Dec.{eqb, eqb→eq, ltb, ltb→lt, lit<}
-use lib.ListN.{length, get_or, drop, get_or-eq_default}
-use lib.Seq.{drop-cons}
+use lib.ListN.{get_or}
+use Rattle.std.specs.List.{list_any}
 use borrow.Author.Tests.{eq-eqb, ne_eqb, not-true, not-false}
 use Rattle.rules.specs.declared.Player.{Player}
 use Rattle.rules.specs.declared.GameState.TheVariants.{InPlay, Drawn, Won}
@@ -17,34 +16,16 @@ use Rattle.base.specs.Branch.{when◌then◌else◌}
 use Rattle.base.specs.Bits.{bit, digits}
 use Rattle.base.specs.Lists.{any, all, In}
 use Rattle.base.proofs.Bool.{and→}
-use Rattle.base.proofs.ListsAgree.{any_same}
+use Rattle.base.proofs.ListsAgree.{any_same, any_of_list}
 use Rattle.base.proofs.ListsEvery.{up_to_at, same_below}
-use Rattle.base.proofs.Lists.{all_each, from_in, default_unused}
+use Rattle.base.proofs.Lists.{all_each, from_in}
 use Rattle.base.proofs.Bits.{bit_masked, bit_digits, digits_lt}
 use Rattle.rules.specs.Board.{nine, Line, lines, has_line, result_of}
-use Rattle.lines.specs.Masks.{line_at, masks, mask_of, indices, pattern_at}
+use Rattle.lines.specs.Masks.{line_at, masks, mask_of, indices}
 
 -- each mask has the three places of its line
 pub tables_agree : masks ≡ map mask_of lines
 tables_agree = refl
-
--- the table of places, entry by entry
-has_three : ℕ → Bool
-has_three i = eqb (length (get_or (map indices lines) i [])) 3
-
-three_places : (i : ℕ) → i < 8 → length (get_or (map indices lines) i []) ≡ 3
-unfolding has_three
-three_places i h = eqb→eq (length (get_or (map indices lines) i [])) 3 (up_to_at has_three 8 tt i h)
-
-module _ (i j : ℕ) where
-  pub past_lines : 8 ≤ i → 9 ≡ pattern_at i j
-  past_lines h = rw (get_or-eq_default (map indices lines) [] h)
-
-  pub past_places : i < 8 → 3 ≤ j → 9 ≡ pattern_at i j
-  past_places h k = let e = three_places i h in sym (get_or-eq_default (get_or (map indices lines) i []) 9 (omega arith))
-
-  pub reads_place : i < 8 → j < 3 → get_or (get_or (map indices lines) i []) j 0 ≡ pattern_at i j
-  reads_place h k = let e = three_places i h in default_unused (get_or (map indices lines) i []) j 0 9 (omega arith)
 
 -- ---- the two tables at line i
 abbrev pub mask_at : ℕ → ℕ
@@ -124,23 +105,12 @@ low_covers n m h = ap (λ (k : ℕ). eqb k m) same
 low_bit : (n k : ℕ) → k < 9 → bit (n % 512) k ≡ bit n k
 low_bit n k h = rw (← and_mask n 9) (bit_masked 9 n k h)
 
-pub mask_line : (n : ℕ) → any (covers n) masks ≡ has_line (bit n)
+pub mask_line : (n : ℕ) → list_any (covers n) masks ≡ has_line (bit n)
 mask_line n =
-    any_same (covers n) (covers (n % 512)) masks (λ m i. low_covers n m (masks_small m i))
+    any_of_list (covers n) masks
+    ∙ any_same (covers n) (covers (n % 512)) masks (λ m i. low_covers n m (masks_small m i))
     ∙ small_line (n % 512) (mod-lt n (lit< tt))
     ∙ line_same (bit (n % 512)) (bit n) (low_bit n)
-
--- the loop's step: the masks from i on are mask i and those after it
-module _ (n i : ℕ) (b : Bool) (h : i < 8) (e : any (covers n) (drop i masks) ≡ b) where
-  step : (covers n (get_or masks i 0) || any (covers n) (drop (i + 1) masks)) ≡ b
-  unfolding any
-  step = rw add-one (sym (ap (any (covers n)) (drop-cons masks i 0 h)) ∙ e)
-
-  pub mask_found : bit_and n (get_or masks i 0) ≡ get_or masks i 0 → true ≡ b
-  mask_found f = rw (eq-eqb (bit_and n (get_or masks i 0)) (get_or masks i 0) f) at step
-
-  pub mask_missed : (bit_and n (get_or masks i 0) ≡ get_or masks i 0 → ⊥) → any (covers n) (drop (i + 1) masks) ≡ b
-  mask_missed f = rw (ne_eqb (bit_and n (get_or masks i 0)) (get_or masks i 0) f) at step
 
 -- ---- what nine digits say of the state of a board, or of the game
 pub line_known : (own : ℕ → Bool) (n : ℕ) (r b : Bool) → n ≡ digits own 9 → r ≡ has_line (bit n) → r ≡ b →

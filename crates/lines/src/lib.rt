@@ -26,13 +26,11 @@ pub const WIN_PATTERNS: [[usize; 3]; 8] = [
 pub fn win_pattern(i: usize, j: usize) -> usize
     ensures { result ≡ pattern_at i j }
 {
-    if i > 7 {
-        return 9;
-    }
-    if j > 2 {
-        return 9;
-    }
-    WIN_PATTERNS[i][j]
+    WIN_PATTERNS
+        .get(i)
+        .and_then(|places| places.get(j))
+        .copied()
+        .unwrap_or(9)
 }
 
 pub const WIN_MASKS: [u32; 8] = [0x7, 0x38, 0x1c0, 0x49, 0x92, 0x124, 0x111, 0x54];
@@ -43,21 +41,12 @@ pub const BOARD_MASK: u32 = 0x1ff;
 pub fn win_mask(i: usize) -> u32
     ensures { result ≡ get_or masks i 0 }
 {
-    if i > 7 {
-        return 0;
-    }
-    WIN_MASKS[i]
+    WIN_MASKS.get(i).copied().unwrap_or(0)
 }
 
 // Whether one of the eight lines lies in the bits.
 pub fn has_line(bits: u32) -> bool
     ensures { result ≡ has_line (bit bits) }
 {
-    for i in 0..8 {
-        let m = WIN_MASKS[i];
-        if bits & m == m {
-            return true;
-        }
-    }
-    false
+    WIN_MASKS.iter().any(|&m| bits & m == m)
 }

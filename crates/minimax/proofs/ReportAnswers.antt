@@ -23,7 +23,7 @@ use Rattle.minimax.specs.declared.search.SearchState.{SearchState}
 use Rattle.minimax.specs.declared.search.NodeResult.{NodeResult}
 use Rattle.game.specs.declared.Game.{Game}
 use Rattle.minimax.specs.Structs.{structs}
-use Rattle.minimax.specs.State.{memory_of, pv_of, tally_of, tables_of}
+use Rattle.minimax.specs.State.{memory_of, pv_of, tally_of}
 use Rattle.minimax.specs.Completed.{completed_of, EmptyOn}
 use Rattle.minimax.specs.Report.{stats_of, ending_number, ending_stopped, report_of, byte_of, bytes_of, responses_of}
 use Rattle.minimax.proofs.ReportPlaces.{drop_next, take_drop, length_of_take, take_set, drop_set, rest_next}
@@ -126,7 +126,7 @@ module _ (d : CompletedDepths) (s : SearchState) (stopped : Bool) (empty : Empty
   -- of any search, since only its answer is looked at
   pub report_made : (z : ℤ) → z ≡ d.score → (sc : Scoring) (game : Game) (words : List ℕ)
       → report_of (record {
-        state = record { responses = tables_of s };
+        state = record { responses = s.responses };
         ending = ending;
         depth = d.depth;
         score = z;
@@ -143,7 +143,7 @@ module _ (d : CompletedDepths) (s : SearchState) (stopped : Bool) (empty : Empty
     pv = line_is i;
     stats = stats_is i;
     count = s.count;
-    responses = responses_of (tables_of s);
+    responses = responses_of (s.responses);
     table = words;
   }
     where

@@ -1,8 +1,8 @@
 -- Entering a position: each way on from there is an arm of the definition, and each count is paid for by the position entered.
+use Rattle.std.specs.Prelude.{Option, None, Some, option_map}
 use mathlib.Core.Path.{◌≡◌, refl, sym, ap, ap₂, ◌∙◌, subst}
 use mathlib.Core.Bool.{Bool, true, false, not, ◌||◌, true≢false}
 use mathlib.Core.List.{List, []}
-use mathlib.Core.Option.{Option, none}
 use Prim.Native.Nat.{ℕ, suc, ◌+◌, ◌-◌, ◌≤◌, ◌<◌}
 use native.Mathlib.Omega.{arith}
 use lib.Dec.{eqb}
@@ -23,9 +23,7 @@ use Rattle.theory.proofs.OrderedSearchArms.{candidates_some}
 use Rattle.boards.specs.declared.moves.Move.{Move}
 use Rattle.game.specs.Meaning.{position_of}
 use Rattle.table.specs.declared.Entry.{Entry}
-use Rattle.table.specs.declared.LookupResult.{LookupResult}
-use Rattle.table.specs.declared.LookupResult.TheVariants.{Entry as Holds, Absent}
-use Rattle.table.specs.Entries.{entry_means, lookup_means}
+use Rattle.table.specs.Entries.{entry_means}
 use Rattle.minimax.specs.declared.search.SearchState.{SearchState}
 use Rattle.minimax.specs.declared.search.Pv.{Pv}
 use Rattle.minimax.specs.declared.search.Node.{Node}
@@ -142,15 +140,15 @@ pub record Looked (c : Begun) : Type 0 where
   pub x : Bool
   pub told_leaf : x ≡ (eqb c.a.depth 0 || not (unfinished (position_of c.a.game)))
   pub no_leaf : x ≡ false
-  pub held : LookupResult
+  pub held : Option Entry
   pub key : ℕ
   pub key_is : key ≡ (node_game c.a).key c.a.game
-  pub looked : lookup_means held ≡ look_up c.words key
+  pub looked : option_map entry_means held ≡ look_up c.words key
 
 -- the table has an entry
 pub record Knows {c : Begun} (k : Looked c) : Type 0 where
   pub entry : Entry
-  pub is_held : k.held ≡ Holds entry
+  pub is_held : k.held ≡ Some entry
   pub s₂ : SearchState
   pub was_hit : (ws : List ℕ) → memory_of s₂ ws ≡ hit (memory_of c.s₁ ws)
   pub b : Bool
@@ -195,7 +193,7 @@ module _ {c : Begun} (k : Looked c) where
   pub deep_enough : 0 < a.depth
   deep_enough = let n = eqb-false a.depth 0 not_leaf.0 in omega arith
 
-  look_up_is : (o : Option Meant) → lookup_means k.held ≡ o → look_up c.words ((node_game a).key a.game) ≡ o
+  look_up_is : (o : Option Meant) → option_map entry_means k.held ≡ o → look_up c.words ((node_game a).key a.game) ≡ o
   look_up_is o q = ap (look_up c.words) (sym k.key_is) ∙ sym k.looked ∙ q
 
   -- over all moves, from the memory m
@@ -218,7 +216,7 @@ module _ {c : Begun} (k : Looked c) where
       (λ r pv m'. found r pv (with_stored m' ((node_game a).key a.game) a.depth a.alpha a.beta r pv))
 
   -- it knows nothing
-  pub none_goes : k.held ≡ Absent → (first : Move) → first.bits ≡ no_move → Goes c first c.s₁
+  pub none_goes : k.held ≡ None → (first : Move) → first.bits ≡ no_move → Goes c first c.s₁
   unfolding node_outcome
   none_goes h first n = let entered = enter (memory_of c.s c.words) in record {
     ready = paid_ready a c.s c.s₁ 0 (omega arith) c.counted c.more deep_enough (paid c);
@@ -226,7 +224,7 @@ module _ {c : Begun} (k : Looked c) where
         over_same first c.s₁ _ (c.entered c.words) ∙ ap (λ (ms : List ℕ). from_memory (tried ms entered) entered)
         (emptied first.bits n)
         ∙ sym (search_none _ _ _ _ _ _ _ _ _ (more_is a c.s c.more) deep_enough not_leaf.1
-        (look_up_is none (ap lookup_means h)));
+        (look_up_is None (ap (option_map entry_means) h)));
   }
 
 module _ {c : Begun} {k : Looked c} (e : Knows k) where
@@ -252,7 +250,7 @@ module _ {c : Begun} {k : Looked c} (e : Knows k) where
             ∙ ap₂ (λ (pv : List ℕ) (m : Memory). found e.entry.value pv m)
             (set_first_place c.l.moves e.entry.pv c.a.depth) (w c.words ∙ ap answered (met_is c.words))
             ∙ sym (search_known _ _ _ _ _ _ _ _ _ (more_is c.a c.s c.more) (deep_enough k) (not_leaf k).1 (entry_means e.entry)
-            (look_up_is k _ (ap lookup_means e.is_held)) (sym e.told_suffices ∙ t));
+            (look_up_is k _ (ap (option_map entry_means) e.is_held)) (sym e.told_suffices ∙ t));
         places = λ _. set_first_drop c.l.moves e.entry.pv c.a.depth (deep_enough k);
       })
 
@@ -268,7 +266,7 @@ module _ {c : Begun} {k : Looked c} (e : Knows k) where
         ∙ sym (candidates_some (node_game c.a) (met c.words) c.a.game c.a.prev.bits (pv_of c.l c.a.depth)
         e.entry.pv.bits (none_refused c.a)))
         ∙ sym (search_some _ _ _ _ _ _ _ _ _ (more_is c.a c.s c.more) (deep_enough k) (not_leaf k).1 (entry_means e.entry)
-        (look_up_is k _ (ap lookup_means e.is_held)) (sym e.told_suffices ∙ t));
+        (look_up_is k _ (ap (option_map entry_means) e.is_held)) (sym e.told_suffices ∙ t));
   }
 
 -- ---- searched over its moves, and the table told

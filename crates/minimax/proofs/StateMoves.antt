@@ -1,19 +1,19 @@
 -- One turn of the loop over a position's moves: what is left, searched from where it stands, is what there was to search at first.
-use mathlib.Core.Path.{◌≡◌, refl, sym, ap, ap₂, ◌∙◌, subst}
+use Rattle.std.specs.Prelude.{None, Some}
+use mathlib.Core.Path.{◌≡◌, refl, sym, ap, ◌∙◌, subst}
 use mathlib.Core.Bool.{Bool, true, false, not, ◌||◌, true≢false}
-use mathlib.Core.List.{List, [], ◌∷◌}
+use mathlib.Core.List.{List, ◌∷◌}
 use Prim.Native.Nat.{ℕ, ◌+◌, ◌-◌, ◌*◌, ◌≤◌, ◌<◌}
 use native.Mathlib.Omega.{arith}
-use lib.Dec.{T, eqb, T_not}
+use lib.Dec.{T, eqb}
 use lib.IntN.{ℤ, pos, neg_ℤ}
 use lib.ListN.{length, drop}
 use lib.Signed.{le_z, lt_z, ◌≤ℤ◌}
-use borrow.Author.Tests.{eqb-true, eq-eqb}
 use Rattle.base.proofs.Bool.{is}
 use Rattle.base.proofs.Integers.{hi, lo, zarith}
 use mathlib.Core.Logic.{inl, inr}
 use Rattle.rules.specs.Position.{unfinished}
-use Rattle.rules.specs.Play.{board_of, accepts, no_move}
+use Rattle.rules.specs.Play.{board_of}
 use Rattle.rules.specs.Evaluation.{accepted_weights, Scoring, evaluate}
 use Rattle.rules.proofs.Evaluation.{value_inside, finished_within}
 use Rattle.rules.specs.Position.{Position}
@@ -37,31 +37,12 @@ use Rattle.minimax.specs.declared.search.Node.{Node}
 use Rattle.minimax.specs.declared.search.Best.{Best}
 use Rattle.minimax.specs.declared.search.NodeResult.{NodeResult}
 use Rattle.order.specs.Order.{order_left, NextOf}
-use Rattle.order.proofs.OrderSteps.{NextIs, next_left, left_accepted, none_refused}
+use Rattle.order.proofs.OrderSteps.{next_ends, next_goes}
 use Rattle.minimax.specs.State.{node_scoring, memory_of, pv_of, empty_pv, node_game, outcome_of, node_outcome, over_left, over_all}
-use Rattle.minimax.specs.State.{values_below, Within, NodeFits, Counted, Ready, NodeGives}
+use Rattle.minimax.specs.State.{values_below, Within, Deep, NodeFits, Counted, Ready, NodeGives}
 use Rattle.minimax.proofs.StateScores.{neg_within}
 use Rattle.minimax.proofs.StateOutcomes.{outcome_stopped, outcome_found}
 use Rattle.minimax.proofs.StateEntering.{Begun as Entering, may_enter, may_leaf, stop_gives, leaf_gives}
-
--- ---- the next move
-module _ {g : Game} {w : MoveOrder} {child : NextMove} (n : NextOf g w child) where
-  pub order_ends : eqb child.m.bits no_move ≡ true → order_left g w ≡ []
-  order_ends e = go (order_left g w) refl (next_left g w child n)
-    where
-      go : (ms : List ℕ) → order_left g w ≡ ms → NextIs g ms child → order_left g w ≡ []
-      go [] q h = q
-      go (m ∷ ms) q h = absurd (T_not (accepts (position_of g) no_move) (none_refused (position_of g))
-          (subst (λ (z : ℕ). T (accepts (position_of g) z)) (sym h.0 ∙ eqb-true _ no_move e) (left_accepted _ _ _ m ms q)))
-
-  pub order_goes : eqb child.m.bits no_move ≡ false → (order_left g w ≡ child.m.bits ∷ order_left g child.order) ×
-      (child.game ≡ game_after g child.m.bits)
-  order_goes e = go (order_left g w) refl (next_left g w child n)
-    where
-      go : (ms : List ℕ) → order_left g w ≡ ms → NextIs g ms child → (order_left g w ≡ child.m.bits ∷
-          order_left g child.order) × (child.game ≡ game_after g child.m.bits)
-      go [] q h = absurd (true≢false (sym (eq-eqb _ no_move h.0) ∙ e))
-      go (m ∷ ms) q h = (q ∙ ap₂ ◌∷◌ (sym h.0) (sym h.2), h.1 ∙ ap (game_after g) (sym h.0))
 
 -- ---- every value is within the root's window
 pub value_within : (sc : Scoring) → T (accepted_weights sc.weights) → (p : Position) →
@@ -127,9 +108,9 @@ pub record Held : Type 0 where
 -- a move is met there, and asked about
 pub record Met (h : Held) : Type 0 where
   pub child : NextMove
+  pub after : MoveOrder
   pub under : Node
-  pub next : NextOf h.begun.a.game h.at.order child
-  pub is_some : eqb child.m.bits no_move ≡ false
+  pub next : NextOf h.begun.a.game h.at.order (Some child) after
   pub under_is : under ≡ record {
     game = child.game;
     depth = h.begun.a.depth - 1;
@@ -193,12 +174,12 @@ module _ (h : Held) where
   over ms = over_left a ms at.best at.local at.s at.words
 
   -- no move is left
-  pub turn_done : {child : NextMove} → NextOf a.game at.order child → eqb child.m.bits no_move ≡ true
+  pub turn_done : {after : MoveOrder} → NextOf a.game at.order None after
       → {f : NodeResult} → f ≡ record { state = at.s; pv = at.best.pv; score = at.best.score; stopped = false } →
       Answers h.begun f at.words
   unfolding over_left
-  turn_done n e q = subst (λ (x : NodeResult). Answers h.begun x at.words) (sym q) (whole_is h.begun (record {
-    same = outcome_found a _ at.words refl ∙ sym (over_none _ _ _ _ _ _ _ _ _) ∙ sym (ap over (order_ends n e)) ∙ h.turn.same;
+  turn_done n q = subst (λ (x : NodeResult). Answers h.begun x at.words) (sym q) (whole_is h.begun (record {
+    same = outcome_found a _ at.words refl ∙ sym (over_none _ _ _ _ _ _ _ _ _) ∙ sym (ap over (next_ends _ _ _ n).0) ∙ h.turn.same;
     places = λ _. h.turn.places;
   }))
 
@@ -207,7 +188,7 @@ module _ {h : Held} (m : Met h) where
   under_asked = subst NodeFits (sym m.under_is) (record {
     valued =
         carried (a h).values.weights (a h).game m.child.game m.child.m.bits (board_of m.child.m.bits)
-        (a h).values.boards h.begun.three h.begun.asked.valued (order_goes m.next m.is_some).1 refl;
+        (a h).values.boards h.begun.three h.begun.asked.valued (next_goes _ _ _ m.child m.next).1 refl;
     weighted = h.begun.asked.weighted;
     deep = omega (arith, h.begun.asked.deep);
     alpha_within = neg_within (a h).beta h.begun.asked.beta_within;
@@ -277,28 +258,28 @@ module _ {h : Held} (m : Met h) where
   stop_below q f e = stop_gives m.under (at h).s (at h).local (at h).words f (omega (arith, allowance_is, q)) e
 
   abbrev rest : List ℕ
-  rest = order_left (a h).game m.child.order
+  rest = order_left (a h).game m.after
 
   left_is : over h (m.child.m.bits ∷ rest) ≡ left_from (a h) h.begun.from
-  left_is = sym (ap (over h) (order_goes m.next m.is_some).0) ∙ h.turn.same
+  left_is = sym (ap (over h) (next_goes _ _ _ m.child m.next).0) ∙ h.turn.same
 
   -- the search of the game after the move
-  abbrev after : Game → Outcome
-  after g = search (node_game (a h)) (at_most (a h).allowance) ((a h).depth - 1) g (neg_ℤ (a h).beta) (neg_ℤ (at h).best.score)
+  abbrev below_after : Game → Outcome
+  below_after g = search (node_game (a h)) (at_most (a h).allowance) ((a h).depth - 1) g (neg_ℤ (a h).beta) (neg_ℤ (at h).best.score)
       (pv_of (at h).local ((a h).depth - 1)) m.child.m.bits (memory_of (at h).s (at h).words)
 
 module _ {h : Held} {m : Met h} {b : Bool} (x : Brought m b) where
-  below_is : after m (game_after (a h).game m.child.m.bits) ≡ outcome_of m.under x.r x.words
+  below_is : below_after m (game_after (a h).game m.child.m.bits) ≡ outcome_of m.under x.r x.words
   unfolding node_outcome
   below_is =
-      ap (after m) (sym (order_goes m.next m.is_some).1)
+      ap (below_after m) (sym (next_goes _ _ _ m.child m.next).1)
       ∙ sym (ap (λ (u : Node). node_outcome u (at h).s (at h).local (at h).words) m.under_is) ∙ sym x.gives.same
 
   pub words_long : length x.words ≡ length h.begun.from.words
   words_long = x.long ∙ h.turn.long
 
   pub order_shorter : length (rest m) < length (order_left (a h).game (at h).order)
-  order_shorter = rw (order_goes m.next m.is_some).0 (omega arith)
+  order_shorter = rw (next_goes _ _ _ m.child m.next).0 (omega arith)
 
 -- the allowance is spent below
 pub turn_stopped : {h : Held} {m : Met h} (x : Brought m true) → Answers h.begun x.r x.words
@@ -314,7 +295,7 @@ module _ {h : Held} {m : Met h} (x : Brought m false) where
   abbrev s' : Memory
   s' = memory_of x.r.state x.words
 
-  found_is : after m (game_after (a h).game m.child.m.bits) ≡ found x.r.score (pv_of x.r.pv ((a h).depth - 1)) s'
+  found_is : below_after m (game_after (a h).game m.child.m.bits) ≡ found x.r.score (pv_of x.r.pv ((a h).depth - 1)) s'
   found_is =
       below_is x ∙ outcome_found m.under x.r x.words x.is_stopped
       ∙ ap (λ (d : ℕ). found x.r.score (pv_of x.r.pv d) s') (depth_is m)
@@ -330,8 +311,8 @@ module _ {h : Held} {m : Met h} (x : Brought m false) where
       record { low = w.0; high = w.1 }
 
   -- what raising the lower edge asks
-  pub may_raise : Within x.r.score × (0 < (a h).depth) × ((a h).depth ≤ 81)
-  may_raise = (score_within, h.begun.ready.deep, h.begun.asked.deep)
+  pub may_raise : Within x.r.score × Deep (a h).depth
+  may_raise = (score_within, (h.begun.ready.deep, h.begun.asked.deep))
 
   grown_on : Grown 0 (memory_of h.begun.from.s h.begun.from.words) s'
   unfolding Ends
@@ -347,7 +328,7 @@ module _ {h : Held} {m : Met h} (x : Brought m false) where
 
   -- the move is no better
   pub turn_not : lt_z (at h).best.score (neg_ℤ x.r.score) ≡ false
-      → Turn (a h) h.begun.from (stand x.words m.child.order x.r.state (at h).best x.r.pv)
+      → Turn (a h) h.begun.from (stand x.words m.after x.r.state (at h).best x.r.pv)
   unfolding over_left
   turn_not t = record {
     same = sym (over_not _ _ _ _ _ _ _ _ _ _ _ _ _ _ found_is t) ∙ left_is m;
@@ -364,7 +345,7 @@ module _ {h : Held} {m : Met h} {x : Brought m false} (y : Raised x) where
 
   -- the move is better
   pub turn_better : le_z (a h).beta y.best.score ≡ false
-      → Turn (a h) h.begun.from (stand x.words m.child.order x.r.state y.best x.r.pv)
+      → Turn (a h) h.begun.from (stand x.words m.after x.r.state y.best x.r.pv)
   unfolding over_left
   turn_better t = record {
     same =

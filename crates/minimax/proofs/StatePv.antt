@@ -1,9 +1,9 @@
 -- A variation's places: the first one read and set, and a move put before the variation below.
 use mathlib.Core.Path.{◌≡◌, refl, ap}
 use mathlib.Core.List.{List, [], ◌∷◌, ◌++◌}
-use Prim.Native.Nat.{ℕ, zero, suc, ◌+◌, ◌-◌, ◌≤◌, ◌<◌}
+use Prim.Native.Nat.{ℕ, zero, suc, ◌-◌, ◌≤◌, ◌<◌}
 use native.Mathlib.Omega.{arith}
-use native.Mathlib.Numerals.{unary_clauses}
+use borrow.Rule.Slice.PartMut.{put_mid}
 use lib.ListN.{length, get_or, set, take, drop, replicate}
 use Rattle.rules.specs.Play.{no_move}
 use Rattle.theory.specs.OrderedSearch.{set_first}
@@ -34,22 +34,11 @@ abbrev pub placed : List Move → List Move → ℕ → List Move
 placed [] below i = []
 placed (x ∷ pv) below i = x ∷ (take i below ++ drop i pv)
 
-place_next : (i : ℕ) (pv below : List Move) (d : Move) → i < length pv → i < length below →
-    set (take i below ++ drop i pv) i (get_or below i d) ≡ take (suc i) below ++ drop (suc i) pv
-place_next i [] below d h k = absurd (omega arith)
-place_next i (x ∷ pv) [] d h k = absurd (omega arith)
-place_next zero (x ∷ pv) (y ∷ below) d h k = refl
-place_next (suc i) (x ∷ pv) (y ∷ below) d h k = ap (◌∷◌ y) (place_next i pv below d (omega arith) (omega arith))
-
-pub placed_none : (pv below : List Move) → pv ≡ placed pv below 0
-placed_none [] below = refl
-placed_none (x ∷ pv) below = refl
-
--- one place more
-pub placed_more : (old below now : List Move) (m : Move) (i : ℕ) (d : Move) → now ≡ placed (set old 0 m) below i →
-    suc i < length old → i < length below → set now (i + 1) (get_or below i d) ≡ placed (set old 0 m) below (i + 1)
-placed_more [] below now m i d e h k = absurd (omega arith)
-placed_more (x ∷ old) below now m i d e h k = rw e (simp unary_clauses (ap (◌∷◌ m) (place_next i old below d (omega arith) k)))
+-- as a part of it is copied
+pub put_placed : (old below : List Move) (m : Move) (n : ℕ) → 0 < length old →
+    put_mid 1 n (set old 0 m) (take n below) ≡ placed (set old 0 m) below n
+put_placed [] below m n h = absurd (omega arith)
+put_placed (x ∷ old) below m n h = refl
 
 -- the first n places are those of the variation below, the others as they were
 take_placed : (n : ℕ) (low rest : List Move) → n ≤ length low → take n (bytes_of (take n low ++ rest)) ≡ take n (bytes_of low)

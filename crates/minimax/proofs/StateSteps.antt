@@ -22,8 +22,7 @@ use Rattle.minimax.specs.State.{memory_of}
 -- the state with other counts
 abbrev with_counts : SearchState → ℕ → ℕ → ℕ → ℕ → ℕ → ℕ → SearchState
 with_counts s count visited terminal cuts hits suffice = record {
-  responses_x = s.responses_x;
-  responses_o = s.responses_o;
+  responses = s.responses;
   count = count;
   visited = visited;
   terminal = terminal;
@@ -78,8 +77,7 @@ module _ (s : SearchState) (words : List ℕ) (prev m : Move) where
   -- one more cut, and other tables
   abbrev after_cut : ResponseTables → SearchState
   after_cut tables = record {
-    responses_x = tables.x;
-    responses_o = tables.o;
+    responses = tables;
     count = s.count;
     visited = s.visited;
     terminal = s.terminal;
@@ -120,19 +118,19 @@ module _ (s : SearchState) (words : List ℕ) (prev m : Move) where
   }
 
   pub cut_x : (w : Player) → w ≡ X
-      → memory_of (after_cut (record { x = s.responses_x; o = set s.responses_o prev.bits m })) words
+      → memory_of (after_cut (record { x = s.responses.x; o = set s.responses.o prev.bits m })) words
       ≡ cut w (memory_of s words) prev.bits m.bits
   unfolding cut
-  cut_x w e = cut_with (record { x = s.responses_x; o = set s.responses_o prev.bits m }) _
-      (λ i. record { to_x = bytes_of s.responses_x; to_o = set_bytes s.responses_o prev.bits m i })
+  cut_x w e = cut_with (record { x = s.responses.x; o = set s.responses.o prev.bits m }) _
+      (λ i. record { to_x = bytes_of s.responses.x; to_o = set_bytes s.responses.o prev.bits m i })
       ∙ ap (λ (v : Player). cut v (memory_of s words) prev.bits m.bits) (sym e)
 
   pub cut_o : (w : Player) → w ≡ O
-      → memory_of (after_cut (record { x = set s.responses_x prev.bits m; o = s.responses_o })) words
+      → memory_of (after_cut (record { x = set s.responses.x prev.bits m; o = s.responses.o })) words
       ≡ cut w (memory_of s words) prev.bits m.bits
   unfolding cut
-  cut_o w e = cut_with (record { x = set s.responses_x prev.bits m; o = s.responses_o }) _
-      (λ i. record { to_x = set_bytes s.responses_x prev.bits m i; to_o = bytes_of s.responses_o })
+  cut_o w e = cut_with (record { x = set s.responses.x prev.bits m; o = s.responses.o }) _
+      (λ i. record { to_x = set_bytes s.responses.x prev.bits m i; to_o = bytes_of s.responses.o })
       ∙ ap (λ (v : Player). cut v (memory_of s words) prev.bits m.bits) (sym e)
 
 -- ---- the response, or lacking one the variation's move

@@ -1,4 +1,4 @@
--- The structs inside `analyze`: what the entry's test and the completed depths mean.
+-- The structs inside `analyze`: what a refusal reports, and what the completed depths mean.
 use Rattle.std.specs.Prelude.{◌≡◌, List, map, ℕ, ◌-◌, ◌≤◌, pos, take, drop, replicate}
 use Rattle.rules.specs.Play.{no_move}
 use Rattle.theory.specs.Limits.{console}
@@ -6,8 +6,6 @@ use Rattle.theory.specs.Memory.{Responses}
 use Rattle.theory.specs.Deepening.{Completed}
 use Rattle.theory.specs.Reported.{Reported, no_stats}
 use Rattle.minimax.specs.declared.SearchError.{SearchError}
-use Rattle.minimax.specs.declared.EntryAnswer.{EntryAnswer}
-use Rattle.minimax.specs.declared.EntryAnswer.TheVariants.{Allowed, Refused}
 use Rattle.minimax.specs.declared.CompletedDepths.{CompletedDepths}
 use Rattle.minimax.specs.Report.{search_error_number, is_spent, stats_of}
 use Rattle.minimax.specs.State.{pv_of}
@@ -25,10 +23,6 @@ refused_with e rs words = record {
   responses = rs;
   table = words;
 }
-
-abbrev pub entry_number : EntryAnswer → ℕ
-entry_number Allowed = 0
-entry_number (Refused e) = search_error_number e
 
 -- ---- the completed depths
 abbrev pub completed_of : CompletedDepths → Completed

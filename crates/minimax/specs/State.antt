@@ -13,7 +13,6 @@ use Rattle.game.specs.Meaning.{position_of}
 use Rattle.evaluation.specs.declared.Values.{Values}
 use Rattle.evaluation.specs.Values.{board_value, values_of}
 use Rattle.order.specs.declared.NextMove.{NextMove}
-use Rattle.minimax.specs.declared.ResponseTables.{ResponseTables}
 use Rattle.minimax.specs.declared.search.SearchState.{SearchState}
 use Rattle.minimax.specs.declared.search.Pv.{Pv}
 use Rattle.minimax.specs.declared.search.Node.{Node}
@@ -26,15 +25,11 @@ use Rattle.minimax.specs.Report.{bytes_of, responses_of}
 abbrev pub tally_of : SearchState → Tally
 tally_of s = counts s.visited s.terminal s.cuts s.tt_hit s.tt_suffice
 
--- the search's state has the two tables side by side: an array within a struct within it could not be written in place
-abbrev pub tables_of : SearchState → ResponseTables
-tables_of s = record { x = s.responses_x; o = s.responses_o }
-
 abbrev pub memory_of : SearchState → List ℕ → Memory
 memory_of s words = record {
   count = s.count;
   tally = tally_of s;
-  responses = responses_of (tables_of s);
+  responses = responses_of s.responses;
   table = words;
 }
 
@@ -92,6 +87,10 @@ then_stored a o = unless_stopped o
 pub record Within (z : ℤ) : Type 0 where
   pub low : lowest ≤ℤ z
   pub high : z ≤ℤ highest
+
+-- a depth at which moves are searched
+abbrev pub Deep : ℕ → Type 0
+Deep d = (0 < d) × (d ≤ console.deepest)
 
 -- the values are those of the game's boards
 abbrev pub Valued : Node → Type 0

@@ -5,9 +5,11 @@
 
 mod search;
 
+ghost use Rattle.std.proofs.Common.{rules};
 ghost use Rattle.std.specs.Prelude.{◌≡◌, ◌&&◌, List, ℕ, ◌+◌, ◌≤◌, ◌<◌, T, eqb, drop};
 ghost use Rattle.base.specs.Branch.{when◌then◌else◌};
 ghost use Rattle.rules.specs.Play.{no_move};
+ghost use Rattle.rules.specs.Refusal.{answer_number};
 ghost use Rattle.rules.specs.Evaluation.{accepted_weights, Scoring};
 ghost use Rattle.theory.specs.Limits.{console};
 ghost use Rattle.theory.specs.PlainMinimax.{lowest, highest};
@@ -15,7 +17,7 @@ ghost use Rattle.theory.specs.Memory.{fresh_memory};
 ghost use Rattle.theory.specs.Deepening.{nothing_yet, one_deeper, decided};
 ghost use Rattle.theory.specs.Reported.{entry_refusal, report};
 ghost use Rattle.minimax.specs.State.{memory_of, pv_of, tally_of};
-ghost use Rattle.minimax.specs.Completed.{entry_number, completed_of, EmptyOn, refused_with};
+ghost use Rattle.minimax.specs.Completed.{completed_of, EmptyOn, refused_with};
 ghost use Rattle.minimax.specs.Report.{search_error_number, ending_number, ending_stopped, stats_of, settings_of, responses_of};
 ghost use Rattle.minimax.specs.Report.{scoring_of, empty_responses, report_of, answer_of};
 ghost use Rattle.minimax.specs.Report.{reported_of};
@@ -24,7 +26,7 @@ ghost use Rattle.minimax.specs.Structs.{structs};
 use boards::{Move, PLACES};
 use evaluation::{EVAL_LOST, EVAL_WON, Values};
 use game::Game;
-use rules::{DrawWinner, Weights};
+use rules::{Player, Refusal, Weights};
 use search::{Node, NodeResult, Pv, SearchState};
 use table::DEEPEST;
 
@@ -48,7 +50,7 @@ pub struct Stats {
 pub struct Config {
     pub max_depth: u64,
     pub allowance: u64,
-    pub draw_winner: DrawWinner,
+    pub draw_winner: Option<Player>,
     pub weights: Weights,
 }
 
@@ -65,7 +67,7 @@ pub struct Minimax {
     pub responses: ResponseTables,
 }
 
-#[derive(Clone, Copy)]
+#[derive(Clone, Copy, PartialEq, Eq)]
 pub enum SearchError {
     Depth,
     Allowance,
@@ -74,10 +76,12 @@ pub enum SearchError {
     Spent,
 }
 
-impl SearchError {
-    pub fn number(self) -> u64
-        ensures { result ≡ search_error_number self }
-    {
+impl Refusal for SearchError {
+    ghost number_of = { search_error_number };
+
+    ghost never_0 = { Prim.search rules };
+
+    fn number(self) -> u64 {
         match self {
             SearchError::Depth => 15,
             SearchError::Allowance => 16,
@@ -88,7 +92,8 @@ impl SearchError {
     }
 }
 
-#[derive(Clone, Copy)]
+// Three ways, and no `Result`: a search that is stopped has an answer, and so is neither whole nor refused.
+#[derive(Clone, Copy, PartialEq, Eq)]
 pub enum Ending {
     Whole,
     Stopped,
@@ -101,8 +106,7 @@ impl Ending {
         ensures { result ≡ ending_number self }
     {
         match self {
-            Ending::Whole => 0,
-            Ending::Stopped => 0,
+            Ending::Whole | Ending::Stopped => 0,
             Ending::Refused(why) => why.number(),
         }
     }
@@ -118,13 +122,6 @@ pub struct Report {
     pub count: u64,
     pub pv: [Move; PLACES],
     pub stats: [Stats; PLACES],
-}
-
-// Whether a search may begin.
-#[derive(Clone, Copy)]
-enum EntryAnswer {
-    Allowed,
-    Refused(SearchError),
 }
 
 // What the completed depths have come to: the last one, its score and variation, and the stats of each.
@@ -150,47 +147,36 @@ impl Stats {
     fn of(depth: u8, r: NodeResult) -> Stats
         ensures { stats_of result ≡ record { depth = depth; score = r.score; tally = tally_of r.state } }
     {
-        let state = r.state;
         Stats {
             depth: depth as u64,
             score: r.score,
-            visited: state.visited,
-            terminal: state.terminal,
-            cuts: state.cuts,
-            tt_hit: state.tt_hit,
-            tt_suffice: state.tt_suffice,
+            visited: r.state.visited,
+            terminal: r.state.terminal,
+            cuts: r.state.cuts,
+            tt_hit: r.state.tt_hit,
+            tt_suffice: r.state.tt_suffice,
         }
     }
 }
 
 impl Config {
-    // Refusals 15 to 17, and 20.
-    fn check(self, words: usize) -> EntryAnswer
-        ensures { entry_number result ≡ entry_refusal (settings_of self) words }
+    // Whether a search may begin: refusals 15 to 17, and 20.
+    fn check(self, words: usize) -> Result<(), SearchError>
+        ensures { answer_number search_error_number result ≡ entry_refusal (settings_of self) words }
     {
-        if self.max_depth == 0 {
-            return EntryAnswer::Refused(SearchError::Depth);
+        if self.max_depth == 0 || self.max_depth > DEEPEST {
+            return Err(SearchError::Depth);
         }
-        if self.max_depth > DEEPEST {
-            return EntryAnswer::Refused(SearchError::Depth);
+        if self.allowance == 0 || self.allowance > MOST_POSITIONS {
+            return Err(SearchError::Allowance);
         }
-        if self.allowance == 0 {
-            return EntryAnswer::Refused(SearchError::Allowance);
+        if words % 3 != 0 || words > MOST_WORDS {
+            return Err(SearchError::Words);
         }
-        if self.allowance > MOST_POSITIONS {
-            return EntryAnswer::Refused(SearchError::Allowance);
+        if !self.weights.are_accepted() {
+            return Err(SearchError::Weights);
         }
-        if words % 3 != 0 {
-            return EntryAnswer::Refused(SearchError::Words);
-        }
-        if words > MOST_WORDS {
-            return EntryAnswer::Refused(SearchError::Words);
-        }
-        let weights = self.weights;
-        if !weights.are_accepted() {
-            return EntryAnswer::Refused(SearchError::Weights);
-        }
-        EntryAnswer::Allowed
+        Ok(())
     }
 
     // The node of the root, one depth after the last completed one.
@@ -207,14 +193,13 @@ impl Config {
           values = values;
         } }
     {
-        let draw_winner = self.draw_winner;
         Node {
             game,
             depth: completed.depth + 1,
             alpha: EVAL_LOST - 1,
             beta: EVAL_WON + 1,
             prev: Move::NONE,
-            draw_winner,
+            draw_winner: self.draw_winner,
             allowance: self.allowance,
             values,
         }
@@ -245,9 +230,8 @@ impl CompletedDepths {
         let at = self.depth as usize;
         let depth = self.depth + 1;
         stats[at] = Stats::of(depth, r);
-        let pv = r.pv;
         CompletedDepths {
-            pv,
+            pv: r.pv,
             stats,
             depth,
             score: r.score,
@@ -258,10 +242,7 @@ impl CompletedDepths {
     fn is_decided(self) -> bool
         ensures { result ≡ decided self.score }
     {
-        if self.score <= EVAL_LOST {
-            return true;
-        }
-        self.score >= EVAL_WON
+        self.score <= EVAL_LOST || self.score >= EVAL_WON
     }
 
     fn ending(self, stopped: bool) -> Ending
@@ -282,17 +263,13 @@ impl CompletedDepths {
         ensures { (sc : Scoring) (game : Game) (words : List ℕ) → report_of result words
             ≡ report (structs sc) game (record { is_stopped = stopped; completed = completed_of self; memory = memory_of state words }) }
     {
-        let x = state.responses_x;
-        let o = state.responses_o;
-        let moves = self.pv;
-        let pv = moves.moves;
+        let pv = self.pv.moves;
         let stats = self.stats;
-        let ending = self.ending(stopped);
         Report {
             state: Minimax {
-                responses: ResponseTables { x, o },
+                responses: state.responses,
             },
-            ending,
+            ending: self.ending(stopped),
             depth: self.depth as u64,
             score: self.score,
             count: state.count,
@@ -332,12 +309,8 @@ impl Minimax {
     fn begin(self) -> SearchState
         ensures { (words : List ℕ) → memory_of result words ≡ fresh_memory (responses_of self.responses) words }
     {
-        let responses = self.responses;
-        let x = responses.x;
-        let o = responses.o;
         SearchState {
-            responses_x: x,
-            responses_o: o,
+            responses: self.responses,
             count: 0,
             visited: 0,
             terminal: 0,
@@ -353,8 +326,7 @@ impl Minimax {
         ensures { report_of result words.new
             ≡ report (structs (scoring_of config)) game (answer_of self game config words.old) }
     {
-        let weights = config.weights;
-        let values = Values::new(game, weights);
+        let values = Values::new(game, config.weights);
         let mut completed = CompletedDepths::none();
         let mut s = self.begin();
         while (completed.depth as u64) < config.max_depth {
@@ -381,8 +353,8 @@ impl Minimax {
         ensures { report_of result words.new ≡ reported_of self game config words.old }
     {
         match config.check(words.len()) {
-            EntryAnswer::Refused(why) => self.refused(why),
-            EntryAnswer::Allowed => self.deepen(game, config, words),
+            Err(why) => self.refused(why),
+            Ok(()) => self.deepen(game, config, words),
         }
     }
 }

@@ -17,20 +17,20 @@ ghost use Rattle.table.specs.Entries.{bound_number, entry_means};
 ghost use Rattle.game.specs.Meaning.{position_of};
 ghost use Rattle.order.specs.Order.{order_left};
 ghost use Rattle.minimax.specs.State.{memory_of, pv_of, empty_pv, node_scoring, node_game, outcome_of, node_outcome, over_all};
-ghost use Rattle.minimax.specs.State.{then_stored, values_below, Valued, Within, NodeFits, Counted, Ready, NodeGives};
+ghost use Rattle.minimax.specs.State.{then_stored, values_below, Valued, Within, Deep, NodeFits, Counted, Ready, NodeGives};
 
+use crate::ResponseTables;
 use boards::{Move, PLACES};
 use evaluation::Values;
 use game::Game;
 use order::{MoveOrder, NextMove};
-use rules::{DrawWinner, Player};
-use table::{Bound, Entry, LookupResult};
+use rules::Player;
+use table::{Bound, Entry};
 
 // The search's state: the two response tables, the positions entered over all depths, and the counts of `Stats`.
 #[derive(Clone, Copy)]
 pub(crate) struct SearchState {
-    pub responses_x: [Move; 256],
-    pub responses_o: [Move; 256],
+    pub responses: ResponseTables,
     pub count: u64,
     pub visited: u64,
     pub terminal: u64,
@@ -52,13 +52,13 @@ pub(crate) struct Node {
     pub alpha: i64,
     pub beta: i64,
     pub prev: Move,
-    pub draw_winner: DrawWinner,
+    pub draw_winner: Option<Player>,
     pub allowance: u64,
     pub values: Values,
 }
 
 // What a search found. Of a stopped one only state and `stopped` are promised: no caller reads its variation or its score, and the
-// state is what `deepen` reports of it.
+// state is what `deepen` reports of it. `stopped` is a flag, since a `Result` would hold the state in each of its two arms.
 #[derive(Clone, Copy)]
 pub(crate) struct NodeResult {
     pub state: SearchState,
@@ -100,16 +100,14 @@ impl Pv {
 
     // A move and the variation below it, in so many places; the others stay.
     fn with_pv(self, m: Move, below: Pv, depth: u8) -> Pv
-        requires { (0 < depth) × (depth ≤ console.deepest) }
+        requires { Deep depth }
         ensures { (pv_of result depth ≡ m.bits ∷ pv_of below (depth - 1)) ×
             (drop depth result.moves ≡ drop depth self.moves) }
     {
         let mut pv = self;
         pv.moves[0] = m;
-        let n = (depth as usize) - 1;
-        for i in 0..n {
-            pv.moves[i + 1] = below.moves[i];
-        }
+        let n = depth as usize;
+        pv.moves[1..n].copy_from_slice(&below.moves[..n - 1]);
         pv
     }
 }
@@ -119,13 +117,14 @@ impl SearchState {
     pub(crate) fn begin(self) -> SearchState
         ensures { (words : List ℕ) → memory_of result words ≡ begin (memory_of self words) }
     {
-        let mut s = self;
-        s.visited = 0;
-        s.terminal = 0;
-        s.cuts = 0;
-        s.tt_hit = 0;
-        s.tt_suffice = 0;
-        s
+        SearchState {
+            visited: 0,
+            terminal: 0,
+            cuts: 0,
+            tt_hit: 0,
+            tt_suffice: 0,
+            ..self
+        }
     }
 
     // A position is entered.
@@ -133,10 +132,11 @@ impl SearchState {
         requires { (self.count < console.positions) × (self.visited < console.positions) }
         ensures { (words : List ℕ) → memory_of result words ≡ enter (memory_of self words) }
     {
-        let mut s = self;
-        s.count += 1;
-        s.visited += 1;
-        s
+        SearchState {
+            count: self.count + 1,
+            visited: self.visited + 1,
+            ..self
+        }
     }
 
     // It is not searched further.
@@ -144,9 +144,10 @@ impl SearchState {
         requires { self.terminal < console.positions }
         ensures { (words : List ℕ) → memory_of result words ≡ leaf (memory_of self words) }
     {
-        let mut s = self;
-        s.terminal += 1;
-        s
+        SearchState {
+            terminal: self.terminal + 1,
+            ..self
+        }
     }
 
     // The table has an entry for it.
@@ -154,9 +155,10 @@ impl SearchState {
         requires { self.tt_hit < console.positions }
         ensures { (words : List ℕ) → memory_of result words ≡ hit (memory_of self words) }
     {
-        let mut s = self;
-        s.tt_hit += 1;
-        s
+        SearchState {
+            tt_hit: self.tt_hit + 1,
+            ..self
+        }
     }
 
     // Which suffices.
@@ -164,9 +166,10 @@ impl SearchState {
         requires { self.tt_suffice < console.positions }
         ensures { (words : List ℕ) → memory_of result words ≡ answered (memory_of self words) }
     {
-        let mut s = self;
-        s.tt_suffice += 1;
-        s
+        SearchState {
+            tt_suffice: self.tt_suffice + 1,
+            ..self
+        }
     }
 
     // The response to the previous move, which the side not to move made.
@@ -176,8 +179,8 @@ impl SearchState {
     {
         let at = prev.bits as usize;
         match turn {
-            Player::X => self.responses_o[at],
-            Player::O => self.responses_x[at],
+            Player::X => self.responses.o[at],
+            Player::O => self.responses.x[at],
         }
     }
 
@@ -191,10 +194,10 @@ impl SearchState {
         s.cuts += 1;
         match turn {
             Player::X => {
-                s.responses_o[at] = m;
+                s.responses.o[at] = m;
             }
             Player::O => {
-                s.responses_x[at] = m;
+                s.responses.x[at] = m;
             }
         }
         s
@@ -222,11 +225,9 @@ impl NodeResult {
           stopped = false;
         } }
     {
-        let first = e.pv;
-        let pv = pv.with_first(first);
         NodeResult {
             state,
-            pv,
+            pv: pv.with_first(e.pv),
             score: e.value,
             stopped: false,
         }
@@ -235,10 +236,9 @@ impl NodeResult {
     fn of(state: SearchState, best: Best) -> NodeResult
         ensures { result ≡ record { state = state; pv = best.pv; score = best.score; stopped = false } }
     {
-        let pv = best.pv;
         NodeResult {
             state,
-            pv,
+            pv: best.pv,
             score: best.score,
             stopped: false,
         }
@@ -263,13 +263,14 @@ impl Best {
 
     // It becomes that edge, and the variation is its move and the variation below.
     fn raise(self, m: Move, score: i64, below: Pv, depth: u8) -> Best
-        requires { Within score × (0 < depth) × (depth ≤ console.deepest) }
+        requires { Within score × Deep depth }
         ensures { (result.score ≡ neg_ℤ score) × (pv_of result.pv depth ≡ m.bits ∷ pv_of below (depth - 1))
             × (drop depth result.pv.moves ≡ drop depth self.pv.moves) }
     {
-        let old = self.pv;
-        let pv = old.with_pv(m, below, depth);
-        Best { pv, score: -score }
+        Best {
+            pv: self.pv.with_pv(m, below, depth),
+            score: -score,
+        }
     }
 }
 
@@ -278,11 +279,7 @@ impl Node {
     fn is_leaf(self) -> bool
         ensures { result ≡ (eqb self.depth 0 || not (unfinished (position_of self.game))) }
     {
-        if self.depth == 0 {
-            return true;
-        }
-        let game = self.game;
-        game.game_over()
+        self.depth == 0 || self.game.game_over()
     }
 
     // The evaluation, at a position that is not searched further.
@@ -290,10 +287,7 @@ impl Node {
         requires { Valued self }
         ensures { result ≡ evaluate (node_scoring self) (position_of self.game) }
     {
-        let game = self.game;
-        let values = self.values;
-        let draw_winner = self.draw_winner;
-        values.evaluate(game, draw_winner)
+        self.values.evaluate(self.game, self.draw_winner)
     }
 
     fn evaluated(self, state: SearchState, pv: Pv) -> NodeResult
@@ -320,8 +314,7 @@ impl Node {
         if e.depth < self.depth {
             return false;
         }
-        let bound = e.bound;
-        match bound {
+        match e.bound {
             Bound::Exact => true,
             Bound::AtLeast => e.value >= self.beta,
             Bound::AtMost => e.value <= self.alpha,
@@ -343,38 +336,32 @@ impl Node {
 
     // Stores what the search over the moves found, unless it was stopped.
     fn store(self, found: NodeResult, words: &mut [u64])
-        requires { (0 < self.depth) × (self.depth ≤ console.deepest) }
+        requires { Deep self.depth }
         ensures { outcome_of self found words.new
             ≡ then_stored self (outcome_of self found words.old) }
     {
         if found.stopped {
             return;
         }
-        let game = self.game;
-        let found_pv = found.pv;
-        let bound = self.bound_of(found);
-        let pv = found_pv.first();
         let entry = Entry {
             value: found.score,
             depth: self.depth,
-            bound,
-            pv,
+            bound: self.bound_of(found),
+            pv: found.pv.first(),
         };
-        table::store(words, game.zobrist(), entry);
+        table::store(words, self.game.zobrist(), entry);
     }
 
     // The cursor over the moves: the table's move; the response, or lacking one the variation's move; then the list.
     fn order(self, first: Move, state: SearchState, pv: Pv) -> MoveOrder
-        requires { (0 < self.depth) × (self.depth ≤ console.deepest) }
+        requires { Deep self.depth }
         ensures { (words : List ℕ) → order_left self.game result
             ≡ candidates (node_game self) (some_move first.bits) (memory_of state words) self.game self.prev.bits
             (pv_of pv self.depth) }
     {
-        let game = self.game;
-        let turn = game.next_player;
-        let prev = self.prev;
-        let second = hint(state.response_to(turn, prev), pv.first());
-        MoveOrder::new(game, first, second)
+        let response = state.response_to(self.game.next_player, self.prev);
+        let second = hint(response, pv.first());
+        MoveOrder::new(self.game, first, second)
     }
 
     fn best(self, pv: Pv) -> Best
@@ -400,20 +387,14 @@ impl Node {
           values = values_below self child;
         } }
     {
-        let game = child.game;
-        let prev = child.m;
-        let old = self.values;
-        let values = old.after(game, prev.global());
-        let draw_winner = self.draw_winner;
         Node {
-            game,
+            game: child.game,
             depth: self.depth - 1,
             alpha: -self.beta,
             beta: -best.score,
-            prev,
-            draw_winner,
-            allowance: self.allowance,
-            values,
+            prev: child.m,
+            values: self.values.after(child.game, child.m.global()),
+            ..self
         }
     }
 
@@ -429,10 +410,7 @@ impl Node {
         ensures { (words : List ℕ) → memory_of result words
             ≡ cut self.game.next_player (memory_of state words) self.prev.bits m.bits }
     {
-        let game = self.game;
-        let turn = game.next_player;
-        let prev = self.prev;
-        state.cut(turn, prev, m)
+        state.cut(self.game.next_player, self.prev, m)
     }
 }
 
@@ -449,18 +427,14 @@ pub(crate) fn minimax(a: Node, state: SearchState, pv: Pv, words: &mut [u64]) ->
     if a.is_leaf() {
         return a.evaluated(s.leaf(), pv);
     }
-    let game = a.game;
     let mut first = Move::none();
-    let held = table::lookup(words, game.zobrist());
-    match held {
-        LookupResult::Absent => {}
-        LookupResult::Entry(e) => {
-            s = s.hit();
-            if a.suffices(e) {
-                return NodeResult::known(s.suffice(), pv, e);
-            }
-            first = e.pv;
+    let held = table::lookup(words, a.game.zobrist());
+    if let Some(e) = held {
+        s = s.hit();
+        if a.suffices(e) {
+            return NodeResult::known(s.suffice(), pv, e);
         }
+        first = e.pv;
     }
     let f = moves(a, first, s, pv, words);
     a.store(f, words);
@@ -472,18 +446,11 @@ fn moves(a: Node, first: Move, state: SearchState, pv: Pv, words: &mut [u64]) ->
     requires { NodeFits a × Ready a state }
     ensures { NodeGives a pv result words.new (over_all a first state pv words.old) }
 {
-    let game = a.game;
     let mut order = a.order(first, state, pv);
     let mut s = state;
     let mut best = a.best(pv);
     let mut local = Pv::empty();
-    loop {
-        let child = order.next(game);
-        let m = child.m;
-        if m.is_none() {
-            return NodeResult::of(s, best);
-        }
-        order = child.order;
+    while let Some(child) = order.next(a.game) {
         let below = a.below(child, best);
         let mut score: i64 = 0;
         if below.is_leaf() {
@@ -502,10 +469,11 @@ fn moves(a: Node, first: Move, state: SearchState, pv: Pv, words: &mut [u64]) ->
             score = r.score;
         }
         if best.is_below(score) {
-            best = best.raise(m, score, local, a.depth);
+            best = best.raise(child.m, score, local, a.depth);
             if a.is_cut(best) {
-                return NodeResult::of(a.cut(s, m), best);
+                return NodeResult::of(a.cut(s, child.m), best);
             }
         }
     }
+    NodeResult::of(s, best)
 }

@@ -1,6 +1,7 @@
 pub mod PartsMarks
 pub mod PartsOverall
 pub mod PartsCells
+pub mod Sections
 pub mod ParsedAnswers
 pub mod PartsBytes
 pub mod ParsedRoundTrip

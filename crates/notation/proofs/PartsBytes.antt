@@ -1,21 +1,24 @@
 -- The byte at each place of a game's text, as the code has it.
-use mathlib.Core.Path.{◌≡◌, sym, ◌∙◌}
+use Rattle.std.specs.Prelude.{Option, None, Some, nat_eq}
+use mathlib.Core.Path.{◌≡◌, refl, sym, ◌∙◌, subst}
 use mathlib.Core.Bool.{Bool, true, false}
 use mathlib.Core.List.{List}
-use Prim.Native.Nat.{ℕ, ◌+◌, ◌-◌, ◌/◌, ◌%◌, ◌≤◌, ◌<◌}
-use native.Mathlib.Decide.{ℕ_discrete}
+use Prim.Native.Nat.{ℕ, zero, suc, ◌+◌, ◌-◌, ◌/◌, ◌%◌, ◌≤◌, ◌<◌}
 use native.Mathlib.Omega.{arith}
-use lib.ListN.{length, get_or, set, length-set}
-use lib.Seq.{ext_get_or, get_or-set_same, get_or-set_other}
+use native.Mathlib.Decide.{ℕ_discrete}
+use lib.ListN.{get_or}
+use denote.Param.Members.{Mut}
+use Rattle.std.specs.Fn.{Called}
+use Rattle.std.specs.Array.{IsFromFnResultFrom}
+use Rattle.std.specs.Option.{option_eq}
 use borrow.Author.Tests.{lt-ltb, le-ltb, ne_eqb}
 use Rattle.base.specs.Branch.{when◌then◌else◌}
 use Rattle.rules.specs.declared.CellState.{CellState}
 use Rattle.rules.specs.declared.GameState.{GameState}
-use Rattle.rules.specs.declared.NextBoard.TheVariants.{Only}
 use Rattle.rules.specs.Position.{Position, same_next_board}
 use Rattle.text.specs.Bytes.{semicolon, slash, at_mark, letter}
-use Rattle.text.specs.Writing.{state_byte, cell_byte, overall_byte, text_of, cells_byte, byte_at}
-use Rattle.text.proofs.Writing.{slash_every_tenth, cell_elsewhere, text_at, text_has_101_bytes}
+use Rattle.text.specs.Writing.{state_byte, cell_byte, overall_byte, cells_byte, byte_at}
+use Rattle.text.proofs.Writing.{slash_every_tenth, cell_elsewhere}
 
 module _ (p : Position) (i : ℕ) where
   -- the side
@@ -38,11 +41,11 @@ module _ (p : Position) (i : ℕ) where
     by_mark h = rw (ne_eqb i 0 n0, ne_eqb i 1 n1, ne_eqb i 11 (λ e. omega arith), lt-ltb i 11 h)
 
     -- the board that is due, and another
-    pub at_due : (r : Bool) → i < 11 → r ≡ same_next_board p.next_board (Only (i - 2)) → r ≡ true → at_mark ≡ byte_at p i
+    pub at_due : (r : Bool) → i < 11 → r ≡ same_next_board p.next_board (Some (i - 2)) → r ≡ true → at_mark ≡ byte_at p i
     unfolding overall_byte when◌then◌else◌
     at_due r h e t = sym (by_mark h ∙ rw (sym e ∙ t))
 
-    pub at_state : (r : Bool) (s : GameState) → i < 11 → r ≡ same_next_board p.next_board (Only (i - 2)) → r ≡ false
+    pub at_state : (r : Bool) (s : GameState) → i < 11 → r ≡ same_next_board p.next_board (Some (i - 2)) → r ≡ false
         → s ≡ p.states (i - 2) → state_byte s ≡ byte_at p i
     unfolding overall_byte when◌then◌else◌
     at_state r s h e t f = rw f (sym (by_mark h ∙ rw (sym e ∙ t)))
@@ -60,26 +63,19 @@ module _ (p : Position) (i : ℕ) where
           cell_byte s ≡ byte_at p i
       at_cell s n e = rw e (sym (by_cell ∙ cell_elsewhere p (i - 12) n))
 
--- ---- an array, written from the front
--- the first i bytes are those of the text
-pub record Rendered (p : Position) (out : List ℕ) (i : ℕ) : Type 0 where
-  pub size : length out ≡ 101
-  pub done : (k : ℕ) → k < i → get_or out k 0 ≡ byte_at p k
+-- the comparison of the code is that of the definitions
+pub same_due : (d : Option ℕ) (b : ℕ) → option_eq nat_eq d (Some b) ≡ same_next_board d (Some b)
+same_due None b = refl
+same_due (Some c) b = refl
 
-pub none_rendered : (p : Position) (out : List ℕ) → length out ≡ 101 → Rendered p out 0
-none_rendered p out n = record { size = n; done = λ k h. absurd (omega arith) }
-
-pub one_rendered : (p : Position) (out : List ℕ) (i c : ℕ) → i < 101 → Rendered p out i → c ≡ byte_at p i →
-    Rendered p (set out i c) (i + 1)
-one_rendered p out i c h r e = record {
-  size = length-set out i c ∙ r.size;
-  done = λ k l. elim (ℕ_discrete k i) [
-    | yes q ↦ rw q (get_or-set_same out i c 0 (omega (arith, r.size)) ∙ e)
-    | no q ↦ get_or-set_other out i k c 0 q ∙ r.done k (omega arith)
-  ];
-}
-
-pub all_rendered : (p : Position) (out : List ℕ) → Rendered p out 101 → out ≡ text_of p
-all_rendered p out r =
-    ext_get_or 0 out (text_of p) (r.size ∙ sym (text_has_101_bytes p)) (λ k h. let l : k < 101 = omega (arith, r.size) in
-    r.done k l ∙ sym (text_at p k l))
+-- ---- an array from a function of the place
+module _ {F : Type 0} (g : Mut F (ℕ × Unit {0}) ℕ) (f : F) (h : ℕ → ℕ)
+    (computes : (i y : ℕ) (q : F) → Called g f (i, tt) y q → (y ≡ h i) × (q ≡ f)) where
+  pub from_fn_gives : (ys : List ℕ) (i n : ℕ) → IsFromFnResultFrom g f ys i n → (k : ℕ) → i ≤ k → k < i + n → get_or ys k 0 ≡ h k
+  from_fn_gives ys i zero r k l m = absurd (omega arith)
+  from_fn_gives ys i (suc n) r k l m =
+      let c = computes i r.1 r.0 r.3 in
+      elim (ℕ_discrete k i) [
+        | yes e ↦ rw e (r.2.1 0 ∙ c.0)
+        | no e ↦ from_fn_gives ys (i + 1) n (subst (λ (q : F). IsFromFnResultFrom g q ys (i + 1) n) c.1 r.4) k (omega arith) (omega arith)
+      ]

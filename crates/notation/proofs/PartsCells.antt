@@ -1,10 +1,11 @@
 -- The first i bytes of the cells, read: each board's cells among them, in neat rows.
+use Rattle.std.specs.Prelude.{Option, None, Some, Result, ok_or}
 use mathlib.Core.Path.{◌≡◌, refl, sym, ap, ◌∙◌, fun_ext}
 use mathlib.Core.List.{List}
-use mathlib.Core.Option.{Option, none, some}
 use Prim.Native.Nat.{ℕ, ◌+◌, ◌*◌, ◌/◌, ◌%◌, ◌≤◌, ◌<◌}
 use native.Mathlib.Decide.{ℕ_discrete, dec_lt}
 use native.Mathlib.Omega.{arith}
+use borrow.Author.Rules.{rules}
 use lib.Dec.{T}
 use lib.ListN.{length, get_or}
 use Rattle.base.specs.Update.{update}
@@ -15,8 +16,9 @@ use Rattle.rules.specs.declared.CellState.{CellState}
 use Rattle.rules.specs.declared.CellState.TheVariants.{Empty, Played}
 use Rattle.rules.specs.Board.{blank, nine}
 use Rattle.rules.specs.Position.{Position}
+use Rattle.text.specs.Bytes.{slash}
 use Rattle.text.specs.Reading.{cell_mark, or_else, fault_at, first_fault, cell_in, said}
-use Rattle.text.proofs.ReadingScan.{first_fault_is, no_fault, faultless_is_there}
+use Rattle.text.proofs.ReadingScan.{first_fault_is, no_fault, faultless_is_there, cell_stands, cell_bad}
 use Rattle.text.proofs.Reading.{cell_in_at, said_fills}
 use Rattle.boards.specs.declared.local.LocalBoards.{LocalBoards}
 use Rattle.boards.specs.Packed.{cell_at}
@@ -26,32 +28,46 @@ use Rattle.game.specs.Built.{no_boards}
 use Rattle.game.specs.Neat.{neat_row}
 use Rattle.game.proofs.Meaning.{new_game_means}
 use Rattle.game.proofs.Neat.{with_cell_neat}
-use Rattle.notation.specs.Parts.{with_cell_mark, CellsSay}
+use Rattle.notation.specs.declared.ErrorKind.{ErrorKind}
+use Rattle.notation.specs.Parsed.{kind_number}
+use Rattle.notation.specs.declared.ErrorKind.TheVariants.{BadPlayer}
+use Rattle.notation.specs.Parts.{with_state, ReadsCell, CellsSay}
+use Rattle.notation.proofs.PartsMarks.{no_cell}
 
--- ---- a cell, marked
+-- ---- one byte
+-- a `/` says nothing
+pub slash_said : (c : ℕ) → c ≡ slash → Empty ≡ or_else (cell_mark c) Empty
+slash_said c e = rw (e, no_cell slash (λ p. omega arith) (λ p. omega arith) (λ p. omega arith))
+
+-- elsewhere a mark says what it says, or is bad
+pub mark_said : (cs : List ℕ) (i : ℕ) → (i % 10 ≡ 9 → ⊥) → i < length cs → (r : Result CellState ErrorKind) →
+    r ≡ ok_or (cell_mark (get_or cs i 0)) BadPlayer → ReadsCell cs i r
+mark_said cs i n h r e = rw e (go (cell_mark (get_or cs i 0)) refl)
+  where
+    go : (m : Option CellState) → cell_mark (get_or cs i 0) ≡ m → ReadsCell cs i (ok_or m BadPlayer)
+    go None q = cell_bad cs i n h (λ t. rw q at t)
+    go (Some s) q = (cell_stands cs i n h (rw q tt), rw q)
+
+-- ---- one cell more
 module _ (l : LocalBoards) (b c : ℕ) where
   -- beyond the ninth nothing changes
-  unmarked : (m : Option CellState) → 9 ≤ c → with_cell_mark l b c m ≡ l
-  unmarked none h = refl
-  unmarked (some Empty) h = refl
-  unmarked (some (Played w)) h = sym (with_past_cell l b c w h)
+  unmarked : (s : CellState) → 9 ≤ c → with_state l b c s ≡ l
+  unmarked Empty h = refl
+  unmarked (Played w) h = sym (with_past_cell l b c w h)
 
   module _ (n : length l.rows ≡ 3) (hb : b < 9) (hc : c < 9) (e : cell_at l b c ≡ Empty) where
     free : T (blank (cell_at l b c))
     free = rw e tt
 
-    marked_here : (m : Option CellState) → cell_at (with_cell_mark l b c m) b c ≡ or_else m Empty
-    marked_here none = e
-    marked_here (some Empty) = e
-    marked_here (some (Played w)) = ap (λ (f : ℕ → ℕ → CellState). f b c) (cell_after l b c w n hb hc free)
+    marked_here : (s : CellState) → cell_at (with_state l b c s) b c ≡ s
+    marked_here Empty = e
+    marked_here (Played w) = ap (λ (f : ℕ → ℕ → CellState). f b c) (cell_after l b c w n hb hc free)
         ∙ update_at (λ (r : ℕ → CellState). r c ≡ Played w) (cell_at l) b (update (cell_at l b) c (Played w))
         (update_at (λ (s : CellState). s ≡ Played w) (cell_at l b) c (Played w) refl)
 
-    marked_there : (m : Option CellState) (i j : ℕ) → (i ≡ b → j ≡ c → ⊥) →
-        cell_at (with_cell_mark l b c m) i j ≡ cell_at l i j
-    marked_there none i j h = refl
-    marked_there (some Empty) i j h = refl
-    marked_there (some (Played w)) i j h =
+    marked_there : (s : CellState) (i j : ℕ) → (i ≡ b → j ≡ c → ⊥) → cell_at (with_state l b c s) i j ≡ cell_at l i j
+    marked_there Empty i j h = refl
+    marked_there (Played w) i j h =
         ap (λ (f : ℕ → ℕ → CellState). f i j) (cell_after l b c w n hb hc free) ∙ elim (ℕ_discrete i b) [
           | yes q ↦ rw q (update_at (λ (r : ℕ → CellState). r j ≡ cell_at l b j) (cell_at l) b (update (cell_at l b) c (Played w))
               (update_off (λ (s : CellState). s ≡ cell_at l b j) (cell_at l b) c (Played w) j (λ p. h q (sym p)) refl))
@@ -59,11 +75,10 @@ module _ (l : LocalBoards) (b c : ℕ) where
               (λ p. q (sym p)) refl
         ]
 
-    marked_neat : (m : Option CellState) → T (all neat_row l.rows) → (length (with_cell_mark l b c m).rows ≡ 3) ×
-        T (all neat_row (with_cell_mark l b c m).rows)
-    marked_neat none a = (n, a)
-    marked_neat (some Empty) a = (n, a)
-    marked_neat (some (Played w)) a = with_cell_neat l b c w hb hc free n a
+    marked_neat : (s : CellState) → T (all neat_row l.rows) → (length (with_state l b c s).rows ≡ 3) ×
+        T (all neat_row (with_state l b c s).rows)
+    marked_neat Empty a = (n, a)
+    marked_neat (Played w) a = with_cell_neat l b c w hb hc free n a
 
 -- ---- byte i is cell i % 10 of board i / 10, or a `/`
 pub record CellsUpTo (cs : List ℕ) (l : LocalBoards) (i : ℕ) : Type 0 where
@@ -85,15 +100,16 @@ none_filled cs = record {
 
 module _ (cs : List ℕ) (l : LocalBoards) (i : ℕ) (h : i < 89) (m : CellsUpTo cs l i) where
   -- a fault is the first
-  pub fault_found : (f : ℕ) → f ≡ fault_at cs i → (f ≡ 0 → ⊥) → f ≡ first_fault cs (from 0 89)
-  fault_found f e n =
+  pub fault_found : (why : ErrorKind) → kind_number why ≡ fault_at cs i → kind_number why ≡ first_fault cs (from 0 89)
+  fault_found why e =
       let z : 0 + i ≡ i = omega arith in
-      e ∙ sym (rw z at (first_fault_is cs 0 89 i h (λ j _ k. m.faultless j (omega arith)) (rw z (λ q. n (e ∙ q)))))
+      e ∙ sym (rw z at (first_fault_is cs 0 89 i h (λ j _ k. m.faultless j (omega arith))
+      (rw z (λ q. let n : 0 < kind_number why = search rules in omega (arith, e ∙ q)))))
 
   -- one byte more
-  module _ (z : fault_at cs i ≡ 0) where
+  module _ (z : fault_at cs i ≡ 0) (s : CellState) (is_said : s ≡ or_else (cell_mark (get_or cs i 0)) Empty) where
     abbrev l' : LocalBoards
-    l' = with_cell_mark l (i / 10) (i % 10) (cell_mark (get_or cs i 0))
+    l' = with_state l (i / 10) (i % 10) s
 
     right : (j : ℕ) → j < i + 1 → fault_at cs j ≡ 0
     right j k = elim (ℕ_discrete j i) [ yes q ↦ rw q z | no q ↦ m.faultless j (omega arith) ]
@@ -116,14 +132,14 @@ module _ (cs : List ℕ) (l : LocalBoards) (i : ℕ) (h : i < 89) (m : CellsUpTo
       here : cell_at l' (i / 10) (i % 10) ≡ cell_in cs (i / 10) (i % 10)
       here =
           let e : 10 * (i / 10) + i % 10 ≡ i = omega arith in
-          marked_here l (i / 10) (i % 10) m.three (omega arith) q empty (cell_mark (get_or cs i 0))
+          marked_here l (i / 10) (i % 10) m.three (omega arith) q empty s ∙ is_said
           ∙ sym (cell_in_at cs (i / 10) (i % 10) (omega arith) q (rw e (faultless_is_there cs i z)) ∙ rw e)
 
       there : (b c : ℕ) → (b ≡ i / 10 → c ≡ i % 10 → ⊥) → cell_at l' b c ≡ cell_at l b c
-      there b c n = marked_there l (i / 10) (i % 10) m.three (omega arith) q empty (cell_mark (get_or cs i 0)) b c n
+      there b c n = marked_there l (i / 10) (i % 10) m.three (omega arith) q empty s b c n
 
       neat : (length l'.rows ≡ 3) × T (all neat_row l'.rows)
-      neat = marked_neat l (i / 10) (i % 10) m.three (omega arith) q empty (cell_mark (get_or cs i 0)) m.each
+      neat = marked_neat l (i / 10) (i % 10) m.three (omega arith) q empty s m.each
 
       cell_filled : CellsUpTo cs l' (i + 1)
       cell_filled = record {
@@ -139,7 +155,7 @@ module _ (cs : List ℕ) (l : LocalBoards) (i : ℕ) (h : i < 89) (m : CellsUpTo
 
     pub one_filled : CellsUpTo cs l' (i + 1)
     one_filled = elim (ℕ_discrete (i % 10) 9) [
-      | yes q ↦ rw (unmarked l (i / 10) (i % 10) (cell_mark (get_or cs i 0)) (omega arith)) (slash_filled q)
+      | yes q ↦ rw (unmarked l (i / 10) (i % 10) s (omega arith)) (slash_filled q)
       | no q ↦ cell_filled (omega arith)
     ]
 

@@ -1,22 +1,22 @@
 -- The first i overall marks, read: the states of their boards, and what is due.
+use Rattle.std.specs.Prelude.{Option, None, Some}
 use mathlib.Core.Path.{◌≡◌, refl, sym, ap, ◌∙◌, fun_ext}
 use mathlib.Core.List.{List, []}
-use mathlib.Core.Option.{none, some}
 use Prim.Native.Nat.{ℕ, ◌+◌, ◌^◌, ◌≤◌, ◌<◌}
 use native.Mathlib.Decide.{ℕ_discrete, dec_lt}
 use native.Mathlib.Numerals.{add-one}
 use native.Mathlib.Omega.{arith}
-use lib.Dec.{lit<}
+use lib.Dec.{lit<, eqb}
 use lib.ListN.{length, get_or, drop}
 use lib.Seq.{drop-length}
+use Rattle.base.specs.Branch.{when◌then◌else◌}
 use Rattle.base.specs.Update.{update}
 use Rattle.base.proofs.Update.{update_at, update_off}
 use Rattle.rules.specs.declared.Player.TheVariants.{X}
 use Rattle.rules.specs.declared.GameState.{GameState}
 use Rattle.rules.specs.declared.GameState.TheVariants.{InPlay}
-use Rattle.rules.specs.declared.NextBoard.{NextBoard}
-use Rattle.rules.specs.declared.NextBoard.TheVariants.{Any}
 use Rattle.rules.specs.Position.{Position}
+use Rattle.text.specs.Bytes.{at_mark}
 use Rattle.text.specs.Reading.{overall_mark, first_bad, last_at, state_in}
 use Rattle.text.proofs.ReadingScan.{Known, →first_bad, →none_bad, last_at_steps}
 use Rattle.text.proofs.Reading.{state_in_at, said_fills}
@@ -27,19 +27,18 @@ use Rattle.boards.proofs.With.{state_after}
 use Rattle.game.specs.Built.{no_states}
 use Rattle.game.proofs.Meaning.{new_game_means}
 use Rattle.game.proofs.Neat.{with_state_neat}
-use Rattle.notation.specs.Parts.{next_board_by, next_board_or, MarksSay}
-use Rattle.notation.proofs.PartsMarks.{due_kept}
+use Rattle.notation.specs.Parts.{MarksSay}
 
 -- what is due by the marks from i on, and what was due before them, is what all marks say
-pub record MarksUpTo (os : List ℕ) (s : GlobalStates) (n : NextBoard) (i : ℕ) : Type 0 where
+pub record MarksUpTo (os : List ℕ) (s : GlobalStates) (n : Option ℕ) (i : ℕ) : Type 0 where
   pub known : (k : ℕ) → k < i → Known os k
   pub read : (b : ℕ) → b < i → state_at s b ≡ state_in os b
   pub unread : (b : ℕ) → i ≤ b → state_at s b ≡ InPlay
   pub x_fits : s.x < 2 ^ 9
   pub o_fits : s.o < 2 ^ 9
-  pub due_is : last_at i (drop i os) n ≡ last_at 0 os Any
+  pub due_is : last_at i (drop i os) n ≡ last_at 0 os None
 
-pub none_marked : (os : List ℕ) → MarksUpTo os no_states Any 0
+pub none_marked : (os : List ℕ) → MarksUpTo os no_states None 0
 none_marked os = record {
   known = λ k h. absurd (omega arith);
   read = λ k h. absurd (omega arith);
@@ -49,14 +48,14 @@ none_marked os = record {
   due_is = refl;
 }
 
-module _ (os : List ℕ) (s : GlobalStates) (n : NextBoard) (i : ℕ) (nine : length os ≡ 9) (m : MarksUpTo os s n i) where
+module _ (os : List ℕ) (s : GlobalStates) (n : Option ℕ) (i : ℕ) (nine : length os ≡ 9) (m : MarksUpTo os s n i) where
   -- a bad mark is the first
-  pub bad_found : i < 9 → overall_mark (get_or os i 0) ≡ none → first_bad os ≡ some i
+  pub bad_found : i < 9 → overall_mark (get_or os i 0) ≡ None → first_bad os ≡ Some i
   bad_found h e = →first_bad os i (record { inside = omega arith; before = m.known; bad = λ t. rw e at t })
 
   -- one mark more
-  module _ (h : i < 9) (g : GameState) (e : overall_mark (get_or os i 0) ≡ some g)
-      (n' : NextBoard) (d : n' ≡ next_board_or (next_board_by (get_or os i 0) i) n) where
+  module _ (h : i < 9) (g : GameState) (e : overall_mark (get_or os i 0) ≡ Some g)
+      (n' : Option ℕ) (d : n' ≡ (when eqb (get_or os i 0) at_mark then (λ _. Some i) else λ _. n)) where
     said : state_in os i ≡ g
     said = state_in_at os i h (omega arith) ∙ rw e
 
@@ -79,11 +78,11 @@ module _ (os : List ℕ) (s : GlobalStates) (n : NextBoard) (i : ℕ) (nine : le
           (m.unread b (omega arith));
       x_fits = (with_state_neat s i h m.x_fits m.o_fits g).0;
       o_fits = (with_state_neat s i h m.x_fits m.o_fits g).1;
-      due_is = rw (add-one i, d, due_kept (get_or os i 0) i n) (sym (last_at_steps i os n (omega arith)) ∙ m.due_is);
+      due_is = rw (add-one i, d) (sym (last_at_steps i os n (omega arith)) ∙ m.due_is);
     }
 
 -- all nine
-pub all_marked : (os : List ℕ) (s : GlobalStates) (n : NextBoard) → length os ≡ 9 → MarksUpTo os s n 9 → MarksSay os s n
+pub all_marked : (os : List ℕ) (s : GlobalStates) (n : Option ℕ) → length os ≡ 9 → MarksUpTo os s n 9 → MarksSay os s n
 unfolding last_at Rattle.text.specs.Reading.said
 all_marked os s n nine m = record {
   none_bad = →none_bad os (λ k h. m.known k (omega arith));

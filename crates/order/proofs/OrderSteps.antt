@@ -1,4 +1,5 @@
 -- One step of a move order, and what a move order has left by all its steps.
+use Rattle.std.specs.Prelude.{Option, None, Some, Ok, Err}
 use mathlib.Core.Path.{◌≡◌, refl, sym, ap, ◌∙◌, subst}
 use mathlib.Core.Bool.{Bool, true, false, not}
 use mathlib.Core.List.{List, [], ◌∷◌, ◌++◌}
@@ -19,16 +20,12 @@ use Rattle.theory.specs.Memory.{some_move}
 use Rattle.theory.specs.OrderedSearch.{fresh}
 use Rattle.boards.specs.declared.moves.Move.{Move}
 use Rattle.boards.specs.declared.moves.MoveError.{MoveError}
-use Rattle.boards.specs.declared.moves.MoveError.TheVariants.{WrongBoard, WonBoard, OutOfBounds, NotEmpty, GameOver}
-use Rattle.boards.specs.declared.moves.Answer.TheVariants.{Accepted, Refused}
-use Rattle.boards.specs.Answers.{answer_number, move_error_number}
+use Rattle.boards.proofs.Answers.{error_not_0}
 use Rattle.game.specs.declared.Game.{Game}
-use Rattle.game.specs.declared.MoveResult.{MoveResult}
 use Rattle.game.specs.Meaning.{position_of}
 use Rattle.game.specs.After.{Plays, game_after}
 use Rattle.game.proofs.AfterRefusals.{nought_accepts, refused_not_accepts}
 use Rattle.game.proofs.MeaningMoves.{all_moves_listed}
-use Rattle.game.proofs.Meaning.{game_refused}
 use Rattle.order.specs.declared.Seen.{Seen}
 use Rattle.order.specs.declared.Candidates.{Candidates}
 use Rattle.order.specs.declared.MoveOrder.{MoveOrder}
@@ -42,6 +39,7 @@ use Rattle.order.specs.Order.{
   candidates_after,
   set_marks,
   order_after,
+  found_after,
   Step,
   with_mark,
   step,
@@ -71,7 +69,7 @@ module _ (ok : ℕ → Bool) (seen : ℕ → Bool) (m : ℕ) (ms : List ℕ) whe
   step_refused e a = rw (e, a)
 
   step_accepted : seen m ≡ false → ok m ≡ true → step ok seen (m ∷ ms) ≡ record
-      { found = m; marks = with_mark seen m; left = ms }
+      { found = Some m; marks = with_mark seen m; left = ms }
   unfolding step when◌then◌else◌
   step_accepted e a = rw (e, a)
 
@@ -90,17 +88,13 @@ ok g = accepts (position_of g)
 pub shorter : (ms : List ℕ) (m : ℕ) (rest : List ℕ) → ms ≡ m ∷ rest → length rest < length ms
 shorter ms m rest e = rw e (omega arith)
 
-numbered : (r : MoveError) → move_error_number r ≡ 0 → ⊥
-numbered WrongBoard e = omega arith
-numbered WonBoard e = omega arith
-numbered OutOfBounds e = omega arith
-numbered NotEmpty e = omega arith
-numbered GameOver e = omega arith
-
 -- no game accepts the empty move
 pub none_refused : (p : Position) → T (not (accepts p no_move))
 unfolding accepts all_pass all
 none_refused p = tt
+
+some_none : {x : NextMove} → ◌≡◌ {A = Option NextMove} (Some x) None → ⊥
+some_none e = let z : ◌≡◌ {A = ℕ} 0 1 = cc in omega arith
 
 -- ---- two orders with the same step, which leaves the same
 abbrev pub order_of : Candidates → Seen → MoveOrder
@@ -111,12 +105,11 @@ pub record SameStep (g : Game) (w v : MoveOrder) : Type 0 where
   pub order_is : order_after (number_met g w) w ≡ order_after (number_met g v) v
 
 -- what comes back, by what the step is
-next_by : (g : Game) (w : MoveOrder) (r : NextMove) (s : Step) → step_of g w ≡ s → r.m.bits ≡ s.found →
-    r.game ≡ game_after g s.found → r.order ≡ order_after (number_met g w) w
-    → ((k : ℕ) → marked r.order.seen k ≡ s.marks k) → candidates_left r.order.left ≡ s.left → NextOf g w r
-next_by g w r s e m a o k l = record {
-  move_is = m ∙ sym (ap (λ (x : Step). x.found) e);
-  game_is = a ∙ sym (ap (λ (x : Step). game_after g x.found) e);
+next_by : (g : Game) (w : MoveOrder) (r : Option NextMove) (after : MoveOrder) (s : Step) → step_of g w ≡ s →
+    r ≡ found_after g s.found → after ≡ order_after (number_met g w) w
+    → ((k : ℕ) → marked after.seen k ≡ s.marks k) → candidates_left after.left ≡ s.left → NextOf g w r after
+next_by g w r after s e m o k l = record {
+  found_is = m ∙ sym (ap (λ (x : Step). found_after g x.found) e);
   order_is = o;
   marks_are = λ n. k n ∙ sym (ap (λ (x : Step). x.marks n) e);
   left_are = l ∙ sym (ap (λ (x : Step). x.left) e);
@@ -153,41 +146,38 @@ module _ (g : Game) (left : Candidates) (seen : Seen) (m : Move) (rest : Candida
         goes_on seen (sym (seen_again seen m.bits (sym f ∙ h)))
         (sym (ap (step (ok g) (marked seen)) e.0 ∙ step_repeat (ok g) (marked seen) m.bits (candidates_left rest) (sym f ∙ h)))
 
-    module _ (h : b ≡ false) (new : Seen) (n : new ≡ set_mark seen m.bits) (fits : m.bits / 64 < length new.marks)
-        (made : MoveResult) (p : Plays g m made) where
+    module _ (h : b ≡ false) (new : Seen) (n : new ≡ set_mark seen m.bits) (fits : m.bits / 64 < length new.marks) where
       more : (k : ℕ) → marked new k ≡ with_mark (marked seen) m.bits k
       more k =
           let l = ap (λ (x : Seen). length x.marks) n ∙ seen_length seen m.bits in
           ap (λ (x : Seen). marked x k) n ∙ one_more seen m.bits (omega arith) k
 
-      pub refused : (r : MoveError) → made.answer ≡ Refused r → SameStep g (order_of rest new) w
-      refused r q =
+      pub refused : (r : MoveError) → Plays g m (Err r) → SameStep g (order_of rest new) w
+      refused r p =
           let a : ok g m.bits ≡ false = false_by (ok g m.bits) (T_not (ok g m.bits)
-          (refused_not_accepts (position_of g) m.bits (λ z. numbered r (sym (ap answer_number q) ∙ p.number ∙ z)))) in
+          (refused_not_accepts (position_of g) m.bits (λ z. omega (arith, p.number, error_not_0 r)))) in
           goes_on new n ((λ i. step (ok g) (λ k. more k i) (candidates_left rest))
           ∙ sym (ap (step (ok g) (marked seen)) e.0
           ∙ step_refused (ok g) (marked seen) m.bits (candidates_left rest) (sym f ∙ h) a))
 
-      pub accepted : made.answer ≡ Accepted → NextOf g w (record { m = m; game = made.game; order = order_of rest new })
+      pub accepted : (after : Game) → Plays g m (Ok after) → NextOf g w (Some (record { game = after; m = m })) (order_of rest new)
       unfolding candidates_after set_marks
-      accepted q =
-          let a : ok g m.bits
-          ≡ true = is_true (ok g m.bits) (nought_accepts (position_of g) m.bits (sym p.number ∙ ap answer_number q)) in
+      accepted after p =
+          let a : ok g m.bits ≡ true = is_true (ok g m.bits) (nought_accepts (position_of g) m.bits (sym p.number)) in
           let t = ap (step (ok g) (marked seen)) e.0
           ∙ step_accepted (ok g) (marked seen) m.bits (candidates_left rest) (sym f ∙ h) a in
           let one : 1 ≡ number_met g (order_of left seen) = omega (arith, ap length e.0, ap (λ (x : Step). length x.left) t) in
-          next_by g w _ _ (sym s.step_is ∙ t) refl p.exact
+          next_by g w _ _ _ (sym s.step_is ∙ t)
+          (ap (λ (x : Game). Some (record { game = x; m = m })) p.exact)
           (after_one_met new n 0 ∙ ap (λ (k : ℕ). order_after k (order_of left seen)) one ∙ s.order_is) more refl
 
-pub ended : (g : Game) (left : Candidates) (seen : Seen) (w : MoveOrder) → candidates_left left ≡ [] →
-    SameStep g (order_of left seen) w → (m : Move) → m.bits ≡ no_move
-    → NextOf g w (record { m = m; game = g; order = order_of left seen })
+pub ended : (g : Game) (left last : Candidates) (seen : Seen) (w : MoveOrder) → (candidates_left left ≡ []) × (last ≡ left) →
+    SameStep g (order_of left seen) w → NextOf g w None (order_of last seen)
 unfolding step candidates_after set_marks
-ended g left seen w e s m z =
-    let none : 0 ≡ number_met g (order_of left seen) = omega (arith, ap length e) in
-    next_by g w _ _ (sym s.step_is ∙ ap (step (ok g) (marked seen)) e) z
-    (sym (game_refused g no_move (none_refused (position_of g))))
-    (ap (λ (k : ℕ). order_after k (order_of left seen)) none ∙ s.order_is) (λ k. refl) e
+ended g left last seen w e s =
+    let none : 0 ≡ number_met g (order_of left seen) = omega (arith, ap length e.0) in
+    rw e.1 (next_by g w _ _ _ (sym s.step_is ∙ ap (step (ok g) (marked seen)) e.0) refl
+    (ap (λ (k : ℕ). order_after k (order_of left seen)) none ∙ s.order_is) (λ k. refl) e.0)
 
 -- ---- what a move order has left
 module _ (ok : ℕ → Bool) where
@@ -207,8 +197,8 @@ module _ (ok : ℕ → Bool) where
 
   -- a step gives the first of those left, and leaves the others
   abbrev FirstOf : List ℕ → Step → Type 0
-  FirstOf [] s = (s.found ≡ no_move) × (s.left ≡ [])
-  FirstOf (m ∷ ms) s = (s.found ≡ m) × (unmarked ok s.marks s.left ≡ ms)
+  FirstOf [] s = (s.found ≡ None) × (s.left ≡ [])
+  FirstOf (m ∷ ms) s = (s.found ≡ Some m) × (unmarked ok s.marks s.left ≡ ms)
 
   step_first : (seen : ℕ → Bool) (ms : List ℕ) → FirstOf (unmarked ok seen ms) (step ok seen ms)
   unfolding unmarked step
@@ -223,24 +213,41 @@ pub order_new : (g : Game) (w : MoveOrder) (ms : List ℕ) → (candidates_left 
 unfolding elem
 order_new g w ms e = (λ i. unmarked (ok g) (λ k. e.1 k i) (e.0 i)) ∙ unmarked_listed (ok g) [] ms
 
--- the next of those left and the game after it, with the rest; where there is none the empty move and the game itself, with nothing left
-abbrev pub NextIs : Game → List ℕ → NextMove → Type 0
-NextIs g [] r = (r.m.bits ≡ no_move) × (r.game ≡ g) × (order_left g r.order ≡ [])
-NextIs g (m ∷ ms) r = (r.m.bits ≡ m) × (r.game ≡ game_after g m) × (order_left g r.order ≡ ms)
+-- the next of those left and the game after it, with the rest; or nothing, with nothing left
+abbrev pub NextIs : Game → List ℕ → Option NextMove → MoveOrder → Type 0
+NextIs g [] r after = (r ≡ None) × (order_left g after ≡ [])
+NextIs g (m ∷ ms) r after = (r ≡ found_after g (Some m)) × (order_left g after ≡ ms)
 
-module _ (g : Game) (w : MoveOrder) (r : NextMove) (n : NextOf g w r) where
-  by_first : (ms : List ℕ) → FirstOf (ok g) ms (step_of g w) → NextIs g ms r
+module _ (g : Game) (w : MoveOrder) (r : Option NextMove) (after : MoveOrder) (n : NextOf g w r after) where
+  by_first : (ms : List ℕ) → FirstOf (ok g) ms (step_of g w) → NextIs g ms r after
   unfolding unmarked
-  by_first [] f = (
-    n.move_is ∙ f.0,
-    n.game_is ∙ ap (game_after g) f.0 ∙ game_refused g no_move (none_refused (position_of g)),
-    ap (unmarked (ok g) (marked r.order.seen)) (n.left_are ∙ f.1),
-  )
+  by_first [] f = (n.found_is ∙ ap (found_after g) f.0, ap (unmarked (ok g) (marked after.seen)) (n.left_are ∙ f.1))
   by_first (m ∷ ms) f = (
-    n.move_is ∙ f.0,
-    n.game_is ∙ ap (game_after g) f.0,
+    n.found_is ∙ ap (found_after g) f.0,
     (λ i. unmarked (ok g) (λ k. n.marks_are k i) (n.left_are i)) ∙ f.1,
   )
 
-  pub next_left : NextIs g (order_left g w) r
+  pub next_left : NextIs g (order_left g w) r after
   next_left = by_first (order_left g w) (step_first (ok g) (marked w.seen) (candidates_left w.left))
+
+-- as the caller has it, by what came back
+module _ (g : Game) (w after : MoveOrder) where
+  pub next_ends : NextOf g w None after → (order_left g w ≡ []) × (order_left g after ≡ [])
+  next_ends n = go (order_left g w) (next_left g w None after n)
+    where
+      go : (ms : List ℕ) → NextIs g ms None after → (ms ≡ []) × (order_left g after ≡ [])
+      go [] i = (refl, i.1)
+      go (m ∷ ms) i = absurd (some_none (sym i.0))
+
+  pub next_goes : (child : NextMove) → NextOf g w (Some child) after →
+      (order_left g w ≡ child.m.bits ∷ order_left g after) × (child.game ≡ game_after g child.m.bits)
+  next_goes child n = go (order_left g w) (next_left g w (Some child) after n)
+    where
+      go : (ms : List ℕ) → NextIs g ms (Some child) after →
+          (ms ≡ child.m.bits ∷ order_left g after) × (child.game ≡ game_after g child.m.bits)
+      go [] i = absurd (some_none i.0)
+      go (m ∷ ms) i =
+          let c : child ≡ record { game = game_after g m; m = record { bits = m } } = cc in (
+            λ j. ((sym (ap (λ (x : NextMove). x.m.bits) c)) j) ∷ (sym i.1 j),
+            ap (λ (x : NextMove). x.game) c ∙ ap (game_after g) (sym (ap (λ (x : NextMove). x.m.bits) c)),
+          )

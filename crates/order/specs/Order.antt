@@ -1,6 +1,6 @@
 -- The order in which a position's moves are searched: what it means, and one step of it.
 use Rattle.std.specs.Prelude.{◌≡◌, Bool, not, ◌||◌, List, [], ◌∷◌, ◌++◌, ℕ, zero, suc, ◌-◌, ◌/◌, ◌%◌, ◌^◌, eqb, get_or}
-use Rattle.std.specs.Prelude.{set, take, drop, length, replicate}
+use Rattle.std.specs.Prelude.{Option, None, Some, set, take, drop, length, replicate}
 use Rattle.std.specs.Int.Bits.{bit_or}
 use Rattle.base.specs.Branch.{when◌then◌else◌}
 use Rattle.base.specs.Bits.{bit}
@@ -14,8 +14,6 @@ use Rattle.game.specs.Meaning.{position_of}
 use Rattle.game.specs.After.{game_after}
 use Rattle.order.specs.declared.Seen.{Seen}
 use Rattle.order.specs.declared.Candidates.{Candidates}
-use Rattle.order.specs.declared.NextCandidate.{NextCandidate}
-use Rattle.order.specs.declared.NextCandidate.TheVariants.{Next, End}
 use Rattle.order.specs.declared.MoveOrder.{MoveOrder}
 use Rattle.order.specs.declared.NextMove.{NextMove}
 
@@ -45,10 +43,10 @@ without_next o =
     λ _. when not (eqb o.second.bits no_move) then (λ _. record { first = o.first; second = empty_move; list = o.list }) else
     λ _. record { first = o.first; second = o.second; list = cursor_over (drop 1 (moves_left o.list)) }
 
--- the next of the moves left, and the candidates without it
-abbrev pub next_candidate : Candidates → List ℕ → NextCandidate
-next_candidate o [] = End
-next_candidate o (m ∷ ms) = Next (record { bits = m }) (without_next o)
+-- the next of the moves left and the candidates without it, or nothing where nothing is left
+abbrev pub Meets : Candidates → Option Move → Candidates → Type 0
+Meets o None after = (candidates_left o ≡ []) × (after ≡ o)
+Meets o (Some m) after = (candidates_left o ≡ m.bits ∷ candidates_left after) × (after ≡ without_next o)
 
 -- the marks with that of a move set
 unfoldable pub set_mark : Seen → ℕ → Seen
@@ -67,9 +65,9 @@ abbrev pub order_after : ℕ → MoveOrder → MoveOrder
 order_after n w =
     record { left = candidates_after n w.left; seen = set_marks w.seen (take n (candidates_left w.left)) }
 
--- ---- a step: the move found, or the empty one; the marks by then; the moves left
+-- ---- a step: the move found, if any; the marks by then; the moves left
 pub record Step : Type 0 where
-  pub found : ℕ
+  pub found : Option ℕ
   pub marks : ℕ → Bool
   pub left : List ℕ
 
@@ -79,10 +77,10 @@ with_mark seen m k = eqb k m || seen k
 
 -- the first move that is not marked and passes; each that is met is marked
 unfoldable pub step : (ok : ℕ → Bool) → (seen : ℕ → Bool) → List ℕ → Step
-step ok seen [] = record { found = no_move; marks = seen; left = [] }
+step ok seen [] = record { found = None; marks = seen; left = [] }
 step ok seen (m ∷ ms) =
     when seen m then (λ _. step ok seen ms) else
-    λ _. when ok m then (λ _. record { found = m; marks = with_mark seen m; left = ms }) else λ _. step ok (with_mark seen m) ms
+    λ _. when ok m then (λ _. record { found = Some m; marks = with_mark seen m; left = ms }) else λ _. step ok (with_mark seen m) ms
 
 -- over the moves that a game accepts
 abbrev pub step_of : Game → MoveOrder → Step
@@ -92,14 +90,17 @@ step_of g w = step (accepts (position_of g)) (marked w.seen) (candidates_left w.
 abbrev pub number_met : Game → MoveOrder → ℕ
 number_met g w = length (candidates_left w.left) - length (step_of g w).left
 
--- the move found and the game after it, with the rest: the struct by equality, and what it means. Where none is found the empty move and
--- the game itself, as no game accepts that move
-pub record NextOf (g : Game) (w : MoveOrder) (r : NextMove) : Type 0 where
-  pub move_is : r.m.bits ≡ (step_of g w).found
-  pub game_is : r.game ≡ game_after g (step_of g w).found
-  pub order_is : r.order ≡ order_after (number_met g w) w
-  pub marks_are : (k : ℕ) → marked r.order.seen k ≡ (step_of g w).marks k
-  pub left_are : candidates_left r.order.left ≡ (step_of g w).left
+-- a move found, and the game after it
+abbrev pub found_after : Game → Option ℕ → Option NextMove
+found_after g None = None
+found_after g (Some m) = Some (record { game = game_after g m; m = record { bits = m } })
+
+-- what a step gives, and the order that it leaves: the struct by equality, and what it means
+pub record NextOf (g : Game) (w : MoveOrder) (r : Option NextMove) (after : MoveOrder) : Type 0 where
+  pub found_is : r ≡ found_after g (step_of g w).found
+  pub order_is : after ≡ order_after (number_met g w) w
+  pub marks_are : (k : ℕ) → marked after.seen k ≡ (step_of g w).marks k
+  pub left_are : candidates_left after.left ≡ (step_of g w).left
 
 -- ---- all the steps: those that are accepted, each once; those that are marked are passed over
 unfoldable pub unmarked : (ok : ℕ → Bool) → (seen : ℕ → Bool) → List ℕ → List ℕ

@@ -1,12 +1,12 @@
 // The order in which a position's moves are searched.
 // Ported from src/lib/minimax.rs of nelhage/ultimattt at commit 87ef0d9c7c (Apache-2.0, see NOTICE), changed: `move_iterator` and
-// `DedupIterator` are a cursor by value and a set of 256 marks.
+// `DedupIterator` are one iterator with a set of 256 marks, which plays the moves.
 #![tactic(auto)]
 
 ghost use Rattle.std.specs.Prelude.{◌≡◌, ◌<◌, get_or, set};
-ghost use Rattle.order.specs.Order.{marked, candidates_left, no_marks, new_order, next_candidate, set_mark, NextOf};
+ghost use Rattle.order.specs.Order.{marked, no_marks, new_order, set_mark, Meets, NextOf};
 
-use boards::{Answer, Listed, Move, MoveIterator};
+use boards::{Move, MoveIterator};
 use game::Game;
 
 // A set of 256 marks.
@@ -39,22 +39,15 @@ impl Seen {
         requires { i < 4 }
         ensures { result ≡ record { marks = set self.marks i word } }
     {
-        let mut seen = self;
+        let mut marks = self.marks;
+        // By a constant index, as in `word`.
         match i {
-            0 => {
-                seen.marks[0] = word;
-            }
-            1 => {
-                seen.marks[1] = word;
-            }
-            2 => {
-                seen.marks[2] = word;
-            }
-            _ => {
-                seen.marks[3] = word;
-            }
+            0 => marks[0] = word,
+            1 => marks[1] = word,
+            2 => marks[2] = word,
+            _ => marks[3] = word,
         }
-        seen
+        Seen { marks }
     }
 
     fn has(self, m: Move) -> bool
@@ -72,7 +65,8 @@ impl Seen {
     }
 }
 
-// The moves still to be met: the table's move; the response, or lacking one the variation's move; then the list. An empty move is none.
+// The moves still to be met: the table's move; the response, or lacking one the variation's move; then the list. An empty move is none,
+// as in the Rust and in the table's bytes.
 #[derive(Clone, Copy)]
 pub struct Candidates {
     pub first: Move,
@@ -80,51 +74,35 @@ pub struct Candidates {
     pub list: MoveIterator,
 }
 
-#[derive(Clone, Copy)]
-pub enum NextCandidate {
-    Next(Move, Candidates),
-    End,
-}
-
 impl Candidates {
-    fn next(self) -> NextCandidate
-        ensures { result ≡ next_candidate self (candidates_left self) }
+    fn next(&mut self) -> Option<Move>
+        ensures { Meets self.old result self.new }
     {
-        let none = Move::none();
         let first = self.first;
-        let second = self.second;
-        let mut left = self;
         if first.is_some() {
-            left.first = none;
-            return NextCandidate::Next(first, left);
+            self.first = Move::none();
+            return Some(first);
         }
+        let second = self.second;
         if second.is_some() {
-            left.second = none;
-            return NextCandidate::Next(second, left);
+            self.second = Move::none();
+            return Some(second);
         }
-        let list = self.list;
-        match list.next() {
-            Listed::Next(m, rest) => {
-                left.list = rest;
-                NextCandidate::Next(m, left)
-            }
-            Listed::End => NextCandidate::End,
-        }
+        self.list.next()
     }
 }
 
-// The cursor over a position's moves: those left, and those met.
+// The order of a position's moves: those left, and those met.
 #[derive(Clone, Copy)]
 pub struct MoveOrder {
     pub left: Candidates,
     pub seen: Seen,
 }
 
-// The next move that is no repeat and is accepted, the game after it, and the rest. The empty move says that there is none.
+// A move, and the game after it.
 #[derive(Clone, Copy)]
 pub struct NextMove {
     pub game: Game,
-    pub order: MoveOrder,
     pub m: Move,
 }
 
@@ -132,47 +110,30 @@ impl MoveOrder {
     pub fn new(game: Game, first: Move, second: Move) -> MoveOrder
         ensures { result ≡ new_order game first second }
     {
-        let list = game.all_moves();
         let left = Candidates {
             first,
             second,
-            list,
+            list: game.all_moves(),
         };
-        let seen = Seen::new();
-        MoveOrder { left, seen }
+        MoveOrder {
+            left,
+            seen: Seen::new(),
+        }
     }
 
-    pub fn next(self, game: Game) -> NextMove
-        ensures { NextOf game self result }
+    // The next move that is no repeat and is accepted.
+    pub fn next(&mut self, game: Game) -> Option<NextMove>
+        ensures { NextOf game self.old result self.new }
     {
-        let mut left = self.left;
-        let mut seen = self.seen;
-        loop {
-            let NextCandidate::Next(m, rest) = left.next() else {
-                break;
-            };
-            left = rest;
-            if seen.has(m) {
+        while let Some(m) = self.left.next() {
+            if self.seen.has(m) {
                 continue;
             }
-            seen = seen.with(m);
-            let made = game.make_move(m);
-            let answer = made.answer;
-            if let Answer::Accepted = answer {
-                let after = made.game;
-                let order = MoveOrder { left, seen };
-                return NextMove {
-                    m,
-                    game: after,
-                    order,
-                };
+            self.seen = self.seen.with(m);
+            if let Ok(after) = game.make_move(m) {
+                return Some(NextMove { game: after, m });
             }
         }
-        let order = MoveOrder { left, seen };
-        NextMove {
-            m: Move::none(),
-            game,
-            order,
-        }
+        None
     }
 }

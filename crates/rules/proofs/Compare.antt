@@ -1,5 +1,6 @@
 -- Laws of what is counted of a position and of the Rust's comparison. A move fills an empty cell of an open board and opens none, so the
 -- bound falls.
+use Rattle.std.specs.Prelude.{Option, None, Some}
 use mathlib.Core.Path.{◌≡◌, refl, sym, ap, subst}
 use mathlib.Core.Bool.{Bool, true, false, cond}
 use mathlib.Core.List.{List, [], ◌∷◌}
@@ -16,8 +17,6 @@ use Rattle.rules.specs.declared.CellState.{CellState}
 use Rattle.rules.specs.declared.CellState.TheVariants.{Empty, Played}
 use Rattle.rules.specs.declared.GameState.{GameState}
 use Rattle.rules.specs.declared.GameState.TheVariants.{InPlay, Drawn, Won}
-use Rattle.rules.specs.declared.NextBoard.{NextBoard}
-use Rattle.rules.specs.declared.NextBoard.TheVariants.{Any, Only}
 use Rattle.rules.specs.Board.{same, blank, same_cell, same_state, in_play, nine}
 use Rattle.rules.specs.Position.{same_next_board, Position, start, open_board, free_cell}
 use Rattle.rules.specs.Play.{board_of, cell_of, accepts, after, tried}
@@ -108,9 +107,9 @@ unfolding open_boards count
 start_open_boards = refl
 
 -- ---- the comparison
-same_due_self : (d : NextBoard) → T (same_next_board d d)
-same_due_self Any = tt
-same_due_self (Only b) = eqb_refl b
+same_due_self : (d : Option ℕ) → T (same_next_board d d)
+same_due_self None = tt
+same_due_self (Some b) = eqb_refl b
 
 same_cell_self : (s : CellState) → T (same_cell s s)
 same_cell_self Empty = tt
@@ -121,11 +120,11 @@ same_state_self InPlay = tt
 same_state_self Drawn = tt
 same_state_self (Won w) = same_self w
 
-same_due→eq : (d e : NextBoard) → T (same_next_board d e) → d ≡ e
-same_due→eq Any Any t = refl
-same_due→eq Any (Only c) t = absurd t
-same_due→eq (Only b) Any t = absurd t
-same_due→eq (Only b) (Only c) t = ap Only (eqb→eq b c t)
+same_due→eq : (d e : Option ℕ) → T (same_next_board d e) → d ≡ e
+same_due→eq None None t = refl
+same_due→eq None (Some c) t = absurd t
+same_due→eq (Some b) None t = absurd t
+same_due→eq (Some b) (Some c) t = ap Some (eqb→eq b c t)
 
 same_cell→eq : (s r : CellState) → T (same_cell s r) → s ≡ r
 same_cell→eq Empty Empty t = refl

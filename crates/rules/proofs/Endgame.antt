@@ -1,9 +1,9 @@
 -- Laws of the endgame analysis. A side that is proved to win has a critical board, so it can still win, and no merge is empty.
+use Rattle.std.specs.Prelude.{Option, None, Some}
 use mathlib.Core.Path.{◌≡◌, refl, sym, ap, ◌∙◌, subst}
 use mathlib.Core.Bool.{Bool, true, false, not, ◌||◌, ◌&&◌}
 use mathlib.Core.List.{List, [], ◌∷◌}
 use mathlib.Core.Logic.{◌↔◌, ◌⊎◌, inl, inr}
-use mathlib.Core.Option.{Option, none, some}
 use Prim.Native.Nat.{ℕ, ◌<◌}
 use native.Mathlib.Omega.{arith}
 use lib.Dec.{T, eqb, eqb→eq, eqb_refl, T_not, not_T}
@@ -23,8 +23,6 @@ use Rattle.rules.specs.declared.CellState.{CellState}
 use Rattle.rules.specs.declared.CellState.TheVariants.{Played}
 use Rattle.rules.specs.declared.GameState.{GameState}
 use Rattle.rules.specs.declared.GameState.TheVariants.{Won}
-use Rattle.rules.specs.declared.NextBoard.{NextBoard}
-use Rattle.rules.specs.declared.NextBoard.TheVariants.{Any, Only}
 use Rattle.rules.specs.Board.{other, same, sides, blank, mine, in_play, won_by, nine, has_line}
 use Rattle.rules.specs.Position.{Position, unfinished, open_board, won_boards, free_cell}
 use Rattle.rules.specs.Play.{board_of, cell_of, may, checks, accepts, after, Tried, played, refused, play}
@@ -111,19 +109,19 @@ lure→ p w b i t =
       all_suited = r5.1;
     }
 
-pub attack→ : (p : Position) (w : Player) (b : ℕ) → T (attack p w (Only b)) → T (critical p w b) ⊎ T (any (lure p w b) nine)
+pub attack→ : (p : Position) (w : Player) (b : ℕ) → T (attack p w (Some b)) → T (critical p w b) ⊎ T (any (lure p w b) nine)
 unfolding attack
 attack→ p w b t = or→ (critical p w b) _ t
 
-pub forced→ : (p : Position) (v : Player) (d : NextBoard) → T (forced p v d)
-    → (b : ℕ) × (d ≡ Only b) × T (not (critical p v b)) × T (all_suit p v b)
+pub forced→ : (p : Position) (v : Player) (d : Option ℕ) → T (forced p v d)
+    → (b : ℕ) × (d ≡ Some b) × T (not (critical p v b)) × T (all_suit p v b)
 unfolding forced
-forced→ p v Any t = absurd t
-forced→ p v (Only b) t = let r = and→ (not (critical p v b)) _ t in (b, refl, r.0, r.1)
+forced→ p v None t = absurd t
+forced→ p v (Some b) t = let r = and→ (not (critical p v b)) _ t in (b, refl, r.0, r.1)
 
 -- the board of an allowed move is the one that is due
-pub due_is_played : (d : NextBoard) (b x : ℕ) → d ≡ Only b → T (may d x) → b ≡ x
-due_is_played d b x e t = eqb→eq b x (subst (λ (z : NextBoard). T (may z x)) e t)
+pub due_is_played : (d : Option ℕ) (b x : ℕ) → d ≡ Some b → T (may d x) → b ≡ x
+due_is_played d b x e t = eqb→eq b x (subst (λ (z : Option ℕ). T (may z x)) e t)
 
 -- ---- after a move
 pub after_turn : (p : Position) (b c : ℕ) → (after p b c).turn ≡ other p.turn
@@ -225,7 +223,7 @@ module _ (p : Position) (b c : ℕ) (l : Legal p b c) where
       (T (open_board p c) → T (critical p w c) × (b ≡ c → ⊥)) →
       (j : ℕ) × (j < 9) × T (critical (after p b c) w j) × T (may (after p b c).next_board j)
   unfolding after
-  lands w k h t n s = if_ind (λ (d : NextBoard). (j : ℕ) × (j < 9) × T (critical (after p b c) w j) × T (may d j))
+  lands w k h t n s = if_ind (λ (d : Option ℕ). (j : ℕ) × (j < 9) × T (critical (after p b c) w j) × T (may d j))
       (open_board (after p b c) c) _ _
       (λ o. let r = s (open_before c o) in (c, l.cell, crit_still w c r.1 r.0, eqb_refl c))
       (λ _. (k, h, crit_still w k n t, tt))
@@ -263,7 +261,7 @@ abbrev pub Decided : Position → Player → Type 0
 Decided p w = (T (prove_attacker p) × (w ≡ p.turn)) ⊎ (T (not (prove_attacker p)) × T (forced_loss p) × (w ≡ other p.turn))
 
 pub record StatusSays (p : Position) (s : Status) : Type 0 where
-  pub is_merged : merged p ≡ some s
+  pub is_merged : merged p ≡ Some s
   -- it leaves a side alone exactly if that side is proved to win
   pub alone_is_decided : (w : Player) → T (alone s w) → Decided p w
   pub decided_is_alone : (w : Player) → Decided p w → T (alone s w)
@@ -290,8 +288,8 @@ says t wins loses x o s w =
     ((not (allows s w) ⇒ (not (of_side x o w) || decides t wins loses (other w))) && (not (of_side x o w) ⇒ not (allows s w))))
 
 holds : (Status → Bool) → Option Status → Bool
-holds f none = false
-holds f (some s) = f s
+holds f None = false
+holds f (Some s) = f s
 
 -- if no side is proved to win that cannot, the merges give a set, and it says so
 merges_right : Player → Bool → Bool → Bool → Bool → Bool
@@ -307,7 +305,7 @@ always_merges_right O = always 4 (merges_right O) tt
 
 -- where neither side is proved to win
 undecided : (t : Player) (wins loses x o : Bool) → T (not wins) → T (not loses) →
-    combine t wins loses x o ≡ some (record { x = x; o = o; draw = true })
+    combine t wins loses x o ≡ Some (record { x = x; o = o; draw = true })
 unfolding combine narrow proven merge from_byte when◌then◌else◌
 undecided t false false true true n m = refl
 undecided t false false true false n m = refl
@@ -374,8 +372,8 @@ module _ (p : Position) where
       test s w = says p.turn (prove_attacker p) (forced_loss p) (winnable p X) (winnable p O) s w
 
       go : (a : Option Status) → merged p ≡ a → T (holds (λ s. all (test s) sides) a) → (s : Status) × StatusSays p s
-      go none e u = absurd (unfold holds in u)
-      go (some s) e u = (
+      go None e u = absurd (unfold holds in u)
+      go (Some s) e u = (
         s,
         record {
           is_merged = e;
@@ -402,7 +400,7 @@ module _ (p : Position) where
           outs w = and→ (not (allows s w) ⇒ (not (can w) || proved (other w))) _ (and→ (proved w ⇒ alone s w) _ (each w).1).1
 
   -- no panic
-  pub merged_is_a_set : (s : Status) × (merged p ≡ some s)
+  pub merged_is_a_set : (s : Status) × (merged p ≡ Some s)
   merged_is_a_set = let r = status_says in (r.0, r.1.is_merged)
 
 -- ---- the analysis

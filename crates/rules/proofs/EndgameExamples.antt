@@ -1,4 +1,5 @@
 -- The Rust's answers about endgames, comparisons and counts, computed from the texts of the positions.
+use Rattle.std.specs.Prelude.{Option, None, Some}
 use mathlib.Core.Path.{◌≡◌, refl}
 use mathlib.Core.Bool.{true, false, ◌||◌}
 use mathlib.Core.List.{List, [], ◌∷◌}
@@ -14,8 +15,6 @@ use Rattle.rules.specs.declared.CellState.{CellState}
 use Rattle.rules.specs.declared.CellState.TheVariants.{Empty, Played}
 use Rattle.rules.specs.declared.GameState.{GameState}
 use Rattle.rules.specs.declared.GameState.TheVariants.{InPlay, Drawn, Won}
-use Rattle.rules.specs.declared.NextBoard.{NextBoard}
-use Rattle.rules.specs.declared.NextBoard.TheVariants.{Any, Only}
 use Rattle.rules.specs.Board.{other, nine, in_play, won_by, result_of}
 use Rattle.rules.specs.Position.{Position}
 use Rattle.rules.specs.Moves.{moves}
@@ -39,9 +38,9 @@ cell_shown k = when eqb k 0x2e then (λ _. Empty) else λ _. Played (side_shown 
 unfoldable pub state_shown : ℕ → GameState
 state_shown k = when eqb k 0x2e || eqb k 0x40 then (λ _. InPlay) else λ _. when eqb k 0x23 then (λ _. Drawn) else λ _. Won (side_shown k)
 
-unfoldable pub due_shown : String → List ℕ → NextBoard
-due_shown s [] = Any
-due_shown s (b ∷ bs) = when eqb (nth s (2 + b)) 0x40 then (λ _. Only b) else λ _. due_shown s bs
+unfoldable pub due_shown : String → List ℕ → Option ℕ
+due_shown s [] = None
+due_shown s (b ∷ bs) = when eqb (nth s (2 + b)) 0x40 then (λ _. Some b) else λ _. due_shown s bs
 
 unfoldable pub shown : String → Position
 shown s =

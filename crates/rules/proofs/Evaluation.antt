@@ -1,4 +1,5 @@
 -- Laws of the evaluation: its range, by the most that each line can give, and that the other side sees the negative.
+use Rattle.std.specs.Prelude.{Option, None, Some}
 use mathlib.Core.Path.{◌≡◌, refl, sym, ap, ◌∙◌}
 use mathlib.Core.Bool.{Bool, true, false, not, cond, ◌&&◌}
 use mathlib.Core.Logic.{◌⊎◌, inl, inr}
@@ -16,8 +17,6 @@ use Rattle.rules.specs.declared.Player.{Player}
 use Rattle.rules.specs.declared.Player.TheVariants.{X, O}
 use Rattle.rules.specs.declared.GameState.{GameState}
 use Rattle.rules.specs.declared.GameState.TheVariants.{InPlay, Drawn, Won}
-use Rattle.rules.specs.declared.DrawWinner.{DrawWinner}
-use Rattle.rules.specs.declared.DrawWinner.TheVariants.{Nobody, Side}
 use Rattle.rules.specs.declared.Weights.{Weights}
 use Rattle.rules.specs.Board.{other, in_play, Line, lines}
 use Rattle.rules.specs.Position.{Position, unfinished, open_board, won_boards, has}
@@ -146,7 +145,7 @@ module _ (sc : Scoring) (p : Position) (t : T (unfinished p)) where
   unfinished_within = within_abs (score_most sc.weights) (evaluate sc p) unfinished_halves
 
 -- with the default weights within 1,056
-pub default_within : (d : DrawWinner) (p : Position) → T (unfinished p) → nat_abs (evaluate (scoring_with d default_weights) p) ≤ 1056
+pub default_within : (d : Option Player) (p : Position) → T (unfinished p) → nat_abs (evaluate (scoring_with d default_weights) p) ≤ 1056
 default_within d p t = unfinished_within (scoring_with d default_weights) p t
 
 -- ---- accepted weights
@@ -202,9 +201,9 @@ pub finished_is : (sc : Scoring) (p : Position) → T (not (unfinished p)) → F
 unfolding evaluate
 finished_is sc p t = of p.state t
   where
-    drawn : (d : DrawWinner) → Final (seen_by p.turn (draw_value d))
-    drawn Nobody = seen_nothing p.turn
-    drawn (Side w) = seen_win p.turn w
+    drawn : (d : Option Player) → Final (seen_by p.turn (draw_value d))
+    drawn None = seen_nothing p.turn
+    drawn (Some w) = seen_win p.turn w
 
     of : (g : GameState) → T (not (in_play g)) → Final (seen_by p.turn (state_value sc p g))
     of InPlay t = absurd t

@@ -1,4 +1,5 @@
 -- Worked examples, computed.
+use Rattle.std.specs.Prelude.{Option, None, Some}
 use mathlib.Core.Path.{◌≡◌, refl}
 use mathlib.Core.Bool.{Bool, true, false}
 use mathlib.Core.List.{List, [], ◌∷◌, map}
@@ -15,10 +16,7 @@ use Rattle.rules.specs.declared.CellState.{CellState}
 use Rattle.rules.specs.declared.CellState.TheVariants.{Empty, Played}
 use Rattle.rules.specs.declared.GameState.{GameState}
 use Rattle.rules.specs.declared.GameState.TheVariants.{InPlay, Drawn, Won}
-use Rattle.rules.specs.declared.DrawWinner.TheVariants.{Side}
 use Rattle.rules.specs.declared.Weights.{Weights}
-use Rattle.rules.specs.declared.NextBoard.{NextBoard}
-use Rattle.rules.specs.declared.NextBoard.TheVariants.{Any, Only}
 use Rattle.rules.specs.declared.Effect.{Effect}
 use Rattle.rules.specs.Board.{line, has_line, result_of}
 use Rattle.rules.specs.Position.{Position, start, won_boards}
@@ -61,7 +59,7 @@ unfolding analysis or_unproven endgame_stats merged combine narrow proven merge 
 analysing = tt
 
 -- ---- positions from lists: boards in play and empty cells where a list ends
-unfoldable pub position : Player → NextBoard → List GameState → List (List CellState) → Position
+unfoldable pub position : Player → Option ℕ → List GameState → List (List CellState) → Position
 position w d states cells =
     record {
       turn = w;
@@ -107,7 +105,7 @@ abbrev c9 : List (List CellState)
 c9 = (x ∷ x ∷ x ∷ []) ∷ (x ∷ x ∷ x ∷ []) ∷ (x ∷ x ∷ []) ∷ []
 
 unfoldable pub second : Position
-second = position X (Only 2) (Won X ∷ Won X ∷ []) c9
+second = position X (Some 2) (Won X ∷ Won X ∷ []) c9
 
 pub second_is_sound : (sound second ≡ true) × (proper second ≡ true) × (length (moves second) ≡ 7)
 unfolding second position sound proper listing
@@ -158,18 +156,18 @@ refusals = (refl, refl, refl, refl, refl, refl)
 -- ---- a move that draws a board, by the last cell, and sends to that board: it is neither side's, and the choice is free
 unfoldable pub last_cell : Position
 last_cell =
-    position X (Only 8) []
+    position X (Some 8) []
     ([] ∷ [] ∷ [] ∷ [] ∷ [] ∷ [] ∷ [] ∷ [] ∷ (x ∷ o ∷ x ∷ x ∷ o ∷ o ∷ o ∷ x ∷ e ∷ []) ∷ [])
 
 pub drawn_board : let q = tried last_cell 0x88 in
-    (q.states 8 ≡ Drawn) × (won_boards q X 8 ≡ false) × (won_boards q O 8 ≡ false) × (q.next_board ≡ Any) ×
+    (q.states 8 ≡ Drawn) × (won_boards q X 8 ≡ false) × (won_boards q O 8 ≡ false) × (q.next_board ≡ None) ×
     (q.state ≡ InPlay)
 unfolding last_cell position playing
 drawn_board = (refl, refl, refl, refl, refl)
 
 -- only the mover's lines are looked at: O's line stays unseen, and the board in play
 unfoldable pub unseen : Position
-unseen = position X Any [] ((o ∷ o ∷ o ∷ []) ∷ [])
+unseen = position X None [] ((o ∷ o ∷ o ∷ []) ∷ [])
 
 pub unseen_line : (tried unseen 0x08).states 0 ≡ InPlay
 unfolding unseen position playing
@@ -181,8 +179,8 @@ full_row = x ∷ o ∷ x ∷ x ∷ o ∷ o ∷ o ∷ x ∷ x ∷ []
 
 pub unsound_positions :
     (sound unseen ≡ false)
-    × (sound (position X Any [] (full_row ∷ [])) ≡ false)
-    × (sound (position X Any (Drawn ∷ []) (full_row ∷ [])) ≡ true)
+    × (sound (position X None [] (full_row ∷ [])) ≡ false)
+    × (sound (position X None (Drawn ∷ []) (full_row ∷ [])) ≡ true)
 unfolding unseen full_row position sound playing
 unsound_positions = (refl, refl, refl)
 
@@ -203,8 +201,8 @@ unfolding drawn_game drawn_game_moves playing hashing
 drawn_game_is = (refl, refl, refl)
 
 -- X is to move: nothing, or as won or lost by the draw winner
-pub drawn_game_value : (evaluate by_default drawn_game ≡ pos 0) × (evaluate (scoring_with (Side X) default_weights) drawn_game ≡ won) ×
-    (evaluate (scoring_with (Side O) default_weights) drawn_game ≡ lost)
+pub drawn_game_value : (evaluate by_default drawn_game ≡ pos 0) × (evaluate (scoring_with (Some X) default_weights) drawn_game ≡ won) ×
+    (evaluate (scoring_with (Some O) default_weights) drawn_game ≡ lost)
 unfolding drawn_game drawn_game_moves playing valuing
 drawn_game_value = (refl, refl, refl)
 
@@ -214,7 +212,7 @@ did board free = record { board = board; free_choice = free }
 
 -- w has boards 0 and 1, and may win board 2, and with it the game, by its cell 0 or by its cell 8
 unfoldable pub two_ways : Player → Position
-two_ways w = let own = Played w in position w Any (Won w ∷ Won w ∷ []) ([] ∷ [] ∷ (e ∷ own ∷ own ∷ e ∷ e ∷ own ∷ []) ∷ [])
+two_ways w = let own = Played w in position w None (Won w ∷ Won w ∷ []) ([] ∷ [] ∷ (e ∷ own ∷ own ∷ e ∷ e ∷ own ∷ []) ∷ [])
 
 -- the state of the board played in, and not of the one that the cell names; at the game's end too the choice is free exactly if that one
 -- is closed
@@ -229,7 +227,7 @@ winning_effects = ((refl, refl, refl, refl, refl), (refl, refl, refl, refl, refl
 
 -- the board that is won is the one that is named
 unfoldable pub own_named : Player → Position
-own_named w = position w Any [] ([] ∷ [] ∷ (Played w ∷ Played w ∷ []) ∷ [])
+own_named w = position w None [] ([] ∷ [] ∷ (Played w ∷ Played w ∷ []) ∷ [])
 
 pub own_board_named : (effect second 0x22 ≡ did (Won X) true) × (effect (own_named X) 0x22 ≡ did (Won X) true) ×
     (effect (own_named O) 0x22 ≡ did (Won O) true)
@@ -241,10 +239,10 @@ unfoldable pub one_left : List CellState
 one_left = x ∷ o ∷ x ∷ x ∷ o ∷ o ∷ o ∷ x ∷ e ∷ []
 
 unfoldable pub last_cell_of : Player → Position
-last_cell_of w = position w (Only 8) [] ([] ∷ [] ∷ [] ∷ [] ∷ [] ∷ [] ∷ [] ∷ [] ∷ one_left ∷ [])
+last_cell_of w = position w (Some 8) [] ([] ∷ [] ∷ [] ∷ [] ∷ [] ∷ [] ∷ [] ∷ [] ∷ one_left ∷ [])
 
 unfoldable pub beside_named : Player → Position
-beside_named w = position w Any [] ([] ∷ [] ∷ [] ∷ [] ∷ [] ∷ [] ∷ [] ∷ one_left ∷ [])
+beside_named w = position w None [] ([] ∷ [] ∷ [] ∷ [] ∷ [] ∷ [] ∷ [] ∷ one_left ∷ [])
 
 pub drawing_effects :
     (effect (last_cell_of X) 0x88 ≡ did Drawn true) × (effect (last_cell_of O) 0x88 ≡ did Drawn true) ×
@@ -286,7 +284,7 @@ keys_are = (refl, refl, refl, refl, refl, refl)
 -- ---- values
 -- three of one side in a board's line give nothing: 3 columns and 2 diagonals of 1, through a corner board's 3 lines
 unfoldable pub three_in_line : Position
-three_in_line = position X Any [] ((x ∷ x ∷ x ∷ []) ∷ [])
+three_in_line = position X None [] ((x ∷ x ∷ x ∷ []) ∷ [])
 
 pub three_in_line_value : evaluate by_default three_in_line ≡ pos 15
 unfolding three_in_line position valuing
@@ -294,7 +292,7 @@ three_in_line_value = refl
 
 -- board 1 gives 20 in each of its two lines, also in that with a drawn board
 unfoldable pub beside_drawn : Position
-beside_drawn = position X Any (Drawn ∷ Won X ∷ []) []
+beside_drawn = position X None (Drawn ∷ Won X ∷ []) []
 
 pub beside_drawn_value : evaluate by_default beside_drawn ≡ pos 40
 unfolding beside_drawn position valuing
@@ -303,7 +301,7 @@ beside_drawn_value = refl
 -- an overall line with both sides in it gives nothing, not even what its third board scores: X's 2 × 20 and O's 20 in other lines, and 4
 -- in two of board 2's three lines
 unfoldable pub both_sides : Position
-both_sides = position X Any (Won X ∷ Won O ∷ []) ([] ∷ [] ∷ (e ∷ e ∷ e ∷ e ∷ x ∷ []) ∷ [])
+both_sides = position X None (Won X ∷ Won O ∷ []) ([] ∷ [] ∷ (e ∷ e ∷ e ∷ e ∷ x ∷ []) ∷ [])
 
 pub both_sides_value : let p =
     both_sides in (board_score default_weights p 2 ≡ pos 4) ×
@@ -314,7 +312,7 @@ both_sides_value = (refl, refl, refl)
 
 -- three boards of one side in an overall line of an unfinished game give 60, and 20 in five other lines
 unfoldable pub three_boards : Position
-three_boards = position X Any (Won X ∷ Won X ∷ Won X ∷ []) []
+three_boards = position X None (Won X ∷ Won X ∷ Won X ∷ []) []
 
 pub three_boards_value : let p =
     three_boards in (overall_line default_weights (won_boards p X) (won_boards p O) (board_score default_weights p) (line 0 1 2) ≡ pos 60) ×
@@ -331,7 +329,7 @@ by_others = no_draw_winner (weights_of 5 70 900)
 
 -- w's cells 0 and 1 of board 4 give one line of two places and three of one, in four overall lines, and w's board 0 counts in three
 unfoldable pub two_and_a_board : Player → Player → Position
-two_and_a_board turn w = position turn Any (Won w ∷ []) ([] ∷ [] ∷ [] ∷ [] ∷ (Played w ∷ Played w ∷ []) ∷ [])
+two_and_a_board turn w = position turn None (Won w ∷ []) ([] ∷ [] ∷ [] ∷ [] ∷ (Played w ∷ Played w ∷ []) ∷ [])
 
 pub other_weights : let value : Weights → ℤ = λ w. evaluate (no_draw_winner w) (two_and_a_board X X) in
     (value (weights_of 5 70 900) ≡ pos 3040) × (value (weights_of 1000 0 0) ≡ pos 12000) × (value (weights_of 0 1000 0) ≡ pos 4000) ×
@@ -362,7 +360,7 @@ refused_weights = (refl, refl, refl, refl, refl)
 -- ---- the endgame
 -- X wins by board 2, but O is sent there and can take the cell that X needs: no loss is said
 unfoldable pub blockable : Position
-blockable = position O (Only 2) (Won X ∷ Won X ∷ []) ([] ∷ [] ∷ (x ∷ x ∷ e ∷ o ∷ o ∷ x ∷ x ∷ o ∷ o ∷ []) ∷ [])
+blockable = position O (Some 2) (Won X ∷ Won X ∷ []) ([] ∷ [] ∷ (x ∷ x ∷ e ∷ o ∷ o ∷ x ∷ x ∷ o ∷ o ∷ []) ∷ [])
 
 pub blockable_status : (has_critical blockable X ≡ true) × (as_byte (analysis blockable).status ≡ 7)
 unfolding blockable position analysing
@@ -371,7 +369,7 @@ blockable_status = (refl, refl)
 -- each side wins by a board of its own, and O is to move
 unfoldable pub race : Position
 race =
-    position O Any (Won X ∷ Won X ∷ InPlay ∷ Won O ∷ Won O ∷ []) ([] ∷ [] ∷ (x ∷ x ∷ []) ∷ [] ∷ [] ∷
+    position O None (Won X ∷ Won X ∷ InPlay ∷ Won O ∷ Won O ∷ []) ([] ∷ [] ∷ (x ∷ x ∷ []) ∷ [] ∷ [] ∷
     (e ∷ o ∷ o ∷ []) ∷ [])
 
 pub judged_moves :

@@ -1,4 +1,5 @@
 -- Laws of playing a move: what an accepted one meets, the order of the refusals, and where a try leaves the position.
+use Rattle.std.specs.Prelude.{None, Some}
 use mathlib.Core.Path.{◌≡◌, refl, sym, ap, ◌∙◌, subst}
 use mathlib.Core.Bool.{Bool, true, false, not, cond, ◌&&◌}
 use mathlib.Core.List.{List, [], ◌∷◌, ◌++◌}
@@ -12,7 +13,6 @@ use Rattle.base.proofs.Bool.{and→, →and, is}
 use Rattle.base.proofs.Branch.{if_ind}
 use Rattle.base.proofs.Lists.{some_any}
 use Rattle.base.proofs.Checks.{failed_number, rising, InOrder, first_in_order}
-use Rattle.rules.specs.declared.NextBoard.TheVariants.{Any, Only}
 use Rattle.rules.specs.declared.Effect.{Effect}
 use Rattle.rules.specs.Board.{drawn, state_number, nine}
 use Rattle.rules.specs.Position.{is_free, Position, unfinished, open_board, free_cell}
@@ -111,7 +111,7 @@ module _ (p : Position) (m : ℕ) where
   effect_refused t = if_ind (λ e. e ≡ no_effect) (accepts p m) _ _ (λ u. absurd (T_not (accepts p m) t u)) (λ _. refl)
 
   -- of a next board that is the named one if this is in play
-  named : (opened : Bool) (c : ℕ) → is_free (when opened then (λ _. Only c) else λ _. Any) ≡ not opened
+  named : (opened : Bool) (c : ℕ) → is_free (when opened then (λ _. Some c) else λ _. None) ≡ not opened
   unfolding when◌then◌else◌
   named true c = refl
   named false c = refl

@@ -1,4 +1,5 @@
 -- Sound and proper positions. A move adds only the mover's places, and the mover's lines are looked at, so all play stays sound and proper.
+use Rattle.std.specs.Prelude.{Option, None, Some}
 use mathlib.Core.Path.{sym, subst}
 use mathlib.Core.Bool.{Bool, not, ◌||◌, ◌&&◌}
 use mathlib.Core.List.{List, [], ◌∷◌}
@@ -15,8 +16,6 @@ use Rattle.rules.specs.declared.Player.{Player}
 use Rattle.rules.specs.declared.CellState.{CellState}
 use Rattle.rules.specs.declared.CellState.TheVariants.{Played}
 use Rattle.rules.specs.declared.GameState.{GameState}
-use Rattle.rules.specs.declared.NextBoard.{NextBoard}
-use Rattle.rules.specs.declared.NextBoard.TheVariants.{Any, Only}
 use Rattle.rules.specs.Board.{other, sides, blank, mine, in_play, won_by, nine, has_line, result_of}
 use Rattle.rules.specs.Position.{Position, start, unfinished, open_board, won_boards, free_cell, has}
 use Rattle.rules.specs.Play.{move_of, board_of, cell_of, may, accepts, after, tried, reached}
@@ -113,7 +112,7 @@ module _ (p : Position) (b c : ℕ) (l : Legal p b c) where
   -- the next board is open, whatever the position
   due_after : T (next_board_open (after p b c) (after p b c).next_board)
   unfolding after
-  due_after = if_ind (λ (d : NextBoard). T (next_board_open (after p b c) d)) (in_play (update p.states b (made p b c) c)) _ _
+  due_after = if_ind (λ (d : Option ℕ). T (next_board_open (after p b c) d)) (in_play (update p.states b (made p b c) c)) _ _
       (λ t. →and (ltb c 9) _ (lt→ltb c 9 l.cell) t) (λ _. tt)
 
   -- in an unfinished game the mover has no line of boards, and a board is open
@@ -197,9 +196,9 @@ reached_is_sound ms = good_is_sound (reached start ms) (reached_good start start
 playable_board : (p : Position) → Good p → T (unfinished p) → (b : ℕ) × (b < 9) × T (open_board p b) × T (may p.next_board b)
 playable_board p g t = go p.next_board g.due_is
   where
-    go : (d : NextBoard) → T (next_board_open p d) → (b : ℕ) × (b < 9) × T (open_board p b) × T (may d b)
-    go Any u = let r = any_some (open_board p) nine (g.some_open t) in (r.0, nine_in r.0 r.1, r.2, tt)
-    go (Only b) u = let r = and→ (ltb b 9) _ u in (b, ltb→lt b 9 r.0, r.1, eqb_refl b)
+    go : (d : Option ℕ) → T (next_board_open p d) → (b : ℕ) × (b < 9) × T (open_board p b) × T (may d b)
+    go None u = let r = any_some (open_board p) nine (g.some_open t) in (r.0, nine_in r.0 r.1, r.2, tt)
+    go (Some b) u = let r = and→ (ltb b 9) _ u in (b, ltb→lt b 9 r.0, r.1, eqb_refl b)
 
 -- an unfinished sound proper position has a move
 pub some_move : (p : Position) → Good p → T (unfinished p) → (m : ℕ) × In m (moves p)

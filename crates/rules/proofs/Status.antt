@@ -1,9 +1,9 @@
 -- Facts of the status sets and their bytes, computed over the few cases that there are.
+use Rattle.std.specs.Prelude.{Option, None, Some}
 use mathlib.Core.Path.{◌≡◌, refl, subst}
 use mathlib.Core.Bool.{Bool, true, false, not, ◌&&◌}
 use mathlib.Core.List.{[], ◌∷◌}
 use mathlib.Core.Logic.{◌⊎◌, inl, inr}
-use mathlib.Core.Option.{Option, none, some}
 use Prim.Native.Nat.{ℕ, ◌≤◌}
 use native.Mathlib.Omega.{arith}
 use lib.Dec.{T, eqb, ltb, eqb→eq, ltb→lt, nltb→le}
@@ -16,8 +16,8 @@ use Rattle.rules.specs.declared.Player.TheVariants.{X, O}
 use Rattle.rules.specs.Status.{Status, unproven, for_player, draw_or_other, as_byte, from_byte, merge}
 
 abbrev pub is_set : Option Status → Bool
-is_set none = false
-is_set (some s) = true
+is_set None = false
+is_set (Some s) = true
 
 -- of all bytes, 1, 2, 4, 5, 6 and 7 are a set's
 pub from_byte_takes : filter (λ v. is_set (from_byte v)) (from 0 256) ≡ 1 ∷ 2 ∷ 4 ∷ 5 ∷ 6 ∷ 7 ∷ []
@@ -25,23 +25,23 @@ unfolding filter from_byte when◌then◌else◌
 from_byte_takes = refl
 
 -- and no number from 8 on
-pub from_byte_none : (v : ℕ) → 8 ≤ v → from_byte v ≡ none
+pub from_byte_none : (v : ℕ) → 8 ≤ v → from_byte v ≡ None
 unfolding from_byte
 from_byte_none v h =
-    if_ind (λ r. r ≡ none) (ltb v 8 && (not (eqb v 0) && not (eqb v 3))) _ _
+    if_ind (λ r. r ≡ None) (ltb v 8 && (not (eqb v 0) && not (eqb v 3))) _ _
     (λ t. absurd (omega (arith, ltb→lt v 8 (and→ (ltb v 8) _ t).0))) (λ _. refl)
 
 -- back to the byte, where there is a set
 back : ℕ → Option Status → Bool
-back v none = true
-back v (some s) = eqb (as_byte s) v
+back v None = true
+back v (Some s) = eqb (as_byte s) v
 
 all_back : T (all (λ n. back n (from_byte n)) (from 0 8))
 unfolding all back from_byte when◌then◌else◌
 all_back = tt
 
 -- the byte of the set that a byte stands for is that byte
-pub byte_of_from_byte : (v : ℕ) (s : Status) → from_byte v ≡ some s → as_byte s ≡ v
+pub byte_of_from_byte : (v : ℕ) (s : Status) → from_byte v ≡ Some s → as_byte s ≡ v
 unfolding back
 byte_of_from_byte v s e = elim (is (ltb v 8)) [
   | inl t ↦ eqb→eq (as_byte s) v (subst (λ (r : Option Status). T (back v r)) e
@@ -51,12 +51,12 @@ byte_of_from_byte v s e = elim (is (ltb v 8)) [
 ]
 
 -- a set that a byte stands for comes back from its byte
-pub from_byte_of_byte : (s : Status) → (from_byte (as_byte s) ≡ some s) ⊎ (from_byte (as_byte s) ≡ none)
+pub from_byte_of_byte : (s : Status) → (from_byte (as_byte s) ≡ Some s) ⊎ (from_byte (as_byte s) ≡ None)
 unfolding from_byte when◌then◌else◌
 from_byte_of_byte s = of s.x s.o s.draw
   where
     of : (x o d : Bool) → let s : Status =
-        record { x = x; o = o; draw = d } in (from_byte (as_byte s) ≡ some s) ⊎ (from_byte (as_byte s) ≡ none)
+        record { x = x; o = o; draw = d } in (from_byte (as_byte s) ≡ Some s) ⊎ (from_byte (as_byte s) ≡ None)
     of true true true = inl refl
     of true true false = inr refl
     of true false true = inl refl
@@ -71,11 +71,11 @@ abbrev draw_only : Status
 draw_only = record { x = false; o = false; draw = true }
 
 pub merge_facts :
-    (merge unproven unproven ≡ some unproven)
-    × (merge (for_player X) (draw_or_other O) ≡ some (for_player X))
-    × (merge (for_player X) (draw_or_other X) ≡ none)
-    × (merge (for_player X) (for_player O) ≡ none)
-    × (merge (draw_or_other X) (draw_or_other O) ≡ some draw_only)
-    × (merge unproven (record { x = true; o = true; draw = false }) ≡ none)
+    (merge unproven unproven ≡ Some unproven)
+    × (merge (for_player X) (draw_or_other O) ≡ Some (for_player X))
+    × (merge (for_player X) (draw_or_other X) ≡ None)
+    × (merge (for_player X) (for_player O) ≡ None)
+    × (merge (draw_or_other X) (draw_or_other O) ≡ Some draw_only)
+    × (merge unproven (record { x = true; o = true; draw = false }) ≡ None)
 unfolding merge from_byte when◌then◌else◌
 merge_facts = (refl, refl, refl, refl, refl, refl)

@@ -1,5 +1,5 @@
 -- Sides, cells, the states of a board or of the game, and the eight lines.
-use Rattle.std.specs.Prelude.{Bool, true, false, cond, ◌&&◌, List, [], ◌∷◌, ℕ, ◌+◌, eqb}
+use Rattle.std.specs.Prelude.{Bool, true, false, cond, ◌&&◌, List, [], ◌∷◌, ℕ, ◌+◌, ◌-◌, eqb}
 use Rattle.rules.specs.declared.Player.{Player}
 use Rattle.rules.specs.declared.Player.TheVariants.{X, O}
 use Rattle.rules.specs.declared.CellState.{CellState}
@@ -73,6 +73,10 @@ abbrev pub state_number : GameState → ℕ
 state_number InPlay = 0
 state_number Drawn = 1
 state_number (Won w) = 2 + side_number w
+
+-- and the state of a number, won by O for those over 3
+abbrev pub state_from : ℕ → GameState
+state_from n = cond (eqb n 0) InPlay (cond (eqb n 1) Drawn (Won (side_from (n - 2))))
 
 -- ---- the numbers of the nine boards, and of the nine cells of a board, row by row
 abbrev pub nine : List ℕ

@@ -1,11 +1,8 @@
 -- The endgame analysis: critical boards, what they prove, and what can still be won.
-use Rattle.std.specs.Prelude.{Bool, true, false, not, cond, ◌||◌, ◌&&◌, List, [], ◌∷◌, ◌++◌, ℕ, ◌+◌, eqb}
-use Rattle.std.proofs.Math.Option.{Option, none, some}
+use Rattle.std.specs.Prelude.{Bool, true, false, not, cond, ◌||◌, ◌&&◌, List, [], ◌∷◌, ◌++◌, ℕ, ◌+◌, eqb, Option, None, Some}
 use Rattle.rules.specs.declared.Player.{Player}
 use Rattle.rules.specs.declared.Player.TheVariants.{X, O}
 use Rattle.rules.specs.declared.CellState.{CellState}
-use Rattle.rules.specs.declared.NextBoard.{NextBoard}
-use Rattle.rules.specs.declared.NextBoard.TheVariants.{Any, Only}
 use Rattle.base.specs.Branch.{when◌then◌else◌}
 use Rattle.base.specs.Lists.{any, all}
 use Rattle.base.specs.Checks.{all_pass, first_failed}
@@ -46,18 +43,18 @@ lure p w b i =
     free_cell p b i && (open_board p i &&
     (not (critical p w i) && (not (critical p (other w) i) && (not (eqb i b) && all_suit p w i))))
 
-unfoldable pub attack : Position → Player → NextBoard → Bool
-attack p w Any = true
-attack p w (Only b) = critical p w b || any (lure p w b) nine
+unfoldable pub attack : Position → Player → Option ℕ → Bool
+attack p w None = true
+attack p w (Some b) = critical p w b || any (lure p w b) nine
 
 unfoldable pub prove_attacker : Position → Bool
 prove_attacker p = has_critical p p.turn && attack p p.turn p.next_board
 
 -- ---- the side to move loses: every cell of the board that is due sends the other side, v, where it suits, and v's critical boards are
 -- elsewhere
-unfoldable pub forced : Position → Player → NextBoard → Bool
-forced p v Any = false
-forced p v (Only b) = not (critical p v b) && all_suit p v b
+unfoldable pub forced : Position → Player → Option ℕ → Bool
+forced p v None = false
+forced p v (Some b) = not (critical p v b) && all_suit p v b
 
 unfoldable pub forced_loss : Position → Bool
 forced_loss p = has_critical p (other p.turn) && forced p (other p.turn) p.next_board
@@ -71,11 +68,11 @@ unfoldable pub proven : Player → Bool → Bool → Status
 proven t wins loses = when wins then (λ _. for_player t) else λ _. when loses then (λ _. for_player (other t)) else λ _. unproven
 
 unfoldable pub narrow : Bool → Status → Option Status → Option Status
-narrow can t none = none
-narrow can t (some s) = when can then (λ _. some s) else λ _. merge s t
+narrow can t None = None
+narrow can t (Some s) = when can then (λ _. Some s) else λ _. merge s t
 
 unfoldable pub combine : Player → Bool → Bool → Bool → Bool → Option Status
-combine t wins loses x o = narrow o (draw_or_other O) (narrow x (draw_or_other X) (some (proven t wins loses)))
+combine t wins loses x o = narrow o (draw_or_other O) (narrow x (draw_or_other X) (Some (proven t wins loses)))
 
 unfoldable pub merged : Position → Option Status
 merged p = combine p.turn (prove_attacker p) (forced_loss p) (winnable p X) (winnable p O)
@@ -115,8 +112,8 @@ pub record Analysis : Type 0 where
   pub stats : EndgameStats
 
 unfoldable pub or_unproven : Option Status → Status
-or_unproven none = unproven
-or_unproven (some s) = s
+or_unproven None = unproven
+or_unproven (Some s) = s
 
 -- what is asked of a position: that it is not unfinished and unsound
 abbrev pub analysis_checks : Position → List (Bool × ℕ)

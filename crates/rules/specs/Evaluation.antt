@@ -1,11 +1,9 @@
 -- The evaluation of a position for the side to move.
-use Rattle.std.specs.Prelude.{Bool, cond, ◌&&◌, ℕ, zero, suc, ◌+◌, ◌*◌, ltb, leb, ℤ, pos, negsuc, neg_ℤ, ◌+ℤ◌, ◌-ℤ◌}
+use Rattle.std.specs.Prelude.{Bool, cond, ◌&&◌, ℕ, zero, suc, ◌+◌, ◌*◌, ltb, leb, ℤ, pos, negsuc, neg_ℤ, ◌+ℤ◌, ◌-ℤ◌, Option, None, Some}
 use Rattle.rules.specs.declared.Player.{Player}
 use Rattle.rules.specs.declared.Player.TheVariants.{X, O}
 use Rattle.rules.specs.declared.GameState.{GameState}
 use Rattle.rules.specs.declared.GameState.TheVariants.{InPlay, Drawn, Won}
-use Rattle.rules.specs.declared.DrawWinner.{DrawWinner}
-use Rattle.rules.specs.declared.DrawWinner.TheVariants.{Nobody, Side}
 use Rattle.rules.specs.declared.Weights.{Weights}
 use Rattle.base.specs.Branch.{when◌then◌else◌}
 use Rattle.base.specs.Integers.{sum}
@@ -30,14 +28,14 @@ accepted_weights w = leb w.one 1000 && (leb w.two 1000 && leb w.board 1000)
 
 -- the side for which a drawn game counts as won, if any, and the weights
 pub record Scoring : Type 0 where
-  pub draws : DrawWinner
+  pub draws : Option Player
   pub weights : Weights
 
-abbrev pub scoring_with : DrawWinner → Weights → Scoring
+abbrev pub scoring_with : Option Player → Weights → Scoring
 scoring_with d w = record { draws = d; weights = w }
 
 abbrev pub no_draw_winner : Weights → Scoring
-no_draw_winner w = scoring_with Nobody w
+no_draw_winner w = scoring_with None w
 
 -- ---- lines
 -- how many of a line's three places pass a test
@@ -80,9 +78,9 @@ seen_by X z = z
 seen_by O z = neg_ℤ z
 
 -- a drawn game is worth nothing, or as much as one won by the draw winner
-abbrev pub draw_value : DrawWinner → ℤ
-draw_value Nobody = pos 0
-draw_value (Side w) = seen_by w won
+abbrev pub draw_value : Option Player → ℤ
+draw_value None = pos 0
+draw_value (Some w) = seen_by w won
 
 abbrev pub state_value : Scoring → Position → GameState → ℤ
 state_value sc p InPlay = score sc.weights p

@@ -1,5 +1,5 @@
 -- Zobrist's hash of a position, worked out afresh, and its change by a move.
-use Rattle.std.specs.Prelude.{List, [], ◌∷◌, ℕ, ◌+◌, ◌*◌, get_or}
+use Rattle.std.specs.Prelude.{List, [], ◌∷◌, ℕ, ◌+◌, ◌*◌, get_or, Option, None, Some}
 use Rattle.std.specs.Int.Bits.{bit_xor}
 use Rattle.rules.specs.declared.Player.{Player}
 use Rattle.rules.specs.declared.Player.TheVariants.{X, O}
@@ -7,8 +7,6 @@ use Rattle.rules.specs.declared.CellState.{CellState}
 use Rattle.rules.specs.declared.CellState.TheVariants.{Empty, Played}
 use Rattle.rules.specs.declared.GameState.{GameState}
 use Rattle.rules.specs.declared.GameState.TheVariants.{InPlay, Drawn, Won}
-use Rattle.rules.specs.declared.NextBoard.{NextBoard}
-use Rattle.rules.specs.declared.NextBoard.TheVariants.{Any, Only}
 use Rattle.base.specs.Branch.{when◌then◌else◌}
 use Rattle.base.specs.Update.{update}
 use Rattle.rules.specs.Board.{nine, in_play}
@@ -33,9 +31,9 @@ board_key b InPlay = 0
 board_key b Drawn = get_or drawn_keys b 0
 board_key b (Won w) = get_or (won_keys w) b 0
 
-unfoldable pub next_board_key : NextBoard → ℕ
-next_board_key Any = 0
-next_board_key (Only b) = get_or next_board_keys b 0
+unfoldable pub next_board_key : Option ℕ → ℕ
+next_board_key None = 0
+next_board_key (Some b) = get_or next_board_keys b 0
 
 abbrev pub player_key : Player → ℕ
 player_key X = x_key

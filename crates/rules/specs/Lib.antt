@@ -9,3 +9,4 @@ pub mod Hash
 pub mod Evaluation
 pub mod Status
 pub mod Endgame
+pub mod Refusal

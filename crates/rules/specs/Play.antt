@@ -1,9 +1,7 @@
 -- Playing a move: what is asked of it, the refusals 9 to 13 in their order, the position after it, and what it did to its board.
-use Rattle.std.specs.Prelude.{Bool, true, false, cond, ◌&&◌, List, [], ◌∷◌, ℕ, ◌+◌, ◌*◌, ◌/◌, ◌%◌, eqb, ltb}
+use Rattle.std.specs.Prelude.{Bool, true, false, cond, ◌&&◌, List, [], ◌∷◌, ℕ, ◌+◌, ◌*◌, ◌/◌, ◌%◌, eqb, ltb, Option, None, Some}
 use Rattle.rules.specs.declared.CellState.TheVariants.{Played}
 use Rattle.rules.specs.declared.GameState.TheVariants.{InPlay}
-use Rattle.rules.specs.declared.NextBoard.{NextBoard}
-use Rattle.rules.specs.declared.NextBoard.TheVariants.{Any, Only}
 use Rattle.rules.specs.declared.Effect.{Effect}
 use Rattle.base.specs.Branch.{when◌then◌else◌}
 use Rattle.base.specs.Checks.{all_pass, first_failed}
@@ -26,9 +24,9 @@ abbrev pub no_move : ℕ
 no_move = 0xff
 
 -- ---- what is asked of a move in cell c of board b, each with the number of its refusal, in order
-abbrev pub may : NextBoard → ℕ → Bool
-may Any b = true
-may (Only d) b = eqb d b
+abbrev pub may : Option ℕ → ℕ → Bool
+may None b = true
+may (Some d) b = eqb d b
 
 abbrev pub checks : Position → ℕ → ℕ → List (Bool × ℕ)
 checks p b c =
@@ -50,7 +48,7 @@ after p b c =
     let states = update p.states b (result_of w (λ i. mine w (row i)) (λ i. blank (row i))) in
     record {
       turn = other w;
-      next_board = when in_play (states c) then (λ _. Only c) else λ _. Any;
+      next_board = when in_play (states c) then (λ _. Some c) else λ _. None;
       cells = update p.cells b row;
       states = states;
       state = result_of w (λ i. won_by w (states i)) (λ i. in_play (states i));

@@ -1,31 +1,29 @@
 -- Positions: the side to move, the next board, the cells, the states of the nine boards, and the game's.
-use Rattle.std.specs.Prelude.{Bool, true, false, ℕ, eqb}
+use Rattle.std.specs.Prelude.{Bool, true, false, ℕ, eqb, Option, None, Some}
 use Rattle.rules.specs.declared.Player.{Player}
 use Rattle.rules.specs.declared.Player.TheVariants.{X}
 use Rattle.rules.specs.declared.CellState.{CellState}
 use Rattle.rules.specs.declared.CellState.TheVariants.{Empty}
 use Rattle.rules.specs.declared.GameState.{GameState}
 use Rattle.rules.specs.declared.GameState.TheVariants.{InPlay}
-use Rattle.rules.specs.declared.NextBoard.{NextBoard}
-use Rattle.rules.specs.declared.NextBoard.TheVariants.{Any, Only}
 use Rattle.rules.specs.Board.{blank, mine, in_play, won_by}
 
-abbrev pub same_next_board : NextBoard → NextBoard → Bool
-same_next_board Any Any = true
-same_next_board Any (Only c) = false
-same_next_board (Only b) Any = false
-same_next_board (Only b) (Only c) = eqb b c
+abbrev pub same_next_board : Option ℕ → Option ℕ → Bool
+same_next_board None None = true
+same_next_board None (Some c) = false
+same_next_board (Some b) None = false
+same_next_board (Some b) (Some c) = eqb b c
 
 -- no board is due
-abbrev pub is_free : NextBoard → Bool
-is_free Any = true
-is_free (Only b) = false
+abbrev pub is_free : Option ℕ → Bool
+is_free None = true
+is_free (Some b) = false
 
 pub record Position : Type 0 where
   -- the side to move
   pub turn : Player
   -- the next board: free choice, or one board that is due
-  pub next_board : NextBoard
+  pub next_board : Option ℕ
   -- cell c of board b
   pub cells : ℕ → ℕ → CellState
   -- board b, in play, drawn or won
@@ -35,7 +33,7 @@ pub record Position : Type 0 where
 
 -- the empty board: X to move, free choice
 abbrev pub start : Position
-start = record { turn = X; next_board = Any; cells = λ _ _. Empty; states = λ _. InPlay; state = InPlay }
+start = record { turn = X; next_board = None; cells = λ _ _. Empty; states = λ _. InPlay; state = InPlay }
 
 abbrev pub unfinished : Position → Bool
 unfinished p = in_play p.state

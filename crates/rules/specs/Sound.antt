@@ -1,8 +1,6 @@
 -- Sound and proper positions.
-use Rattle.std.specs.Prelude.{Bool, true, not, ◌||◌, ◌&&◌, ltb}
+use Rattle.std.specs.Prelude.{Bool, true, not, ℕ, ◌||◌, ◌&&◌, ltb, Option, None, Some}
 use Rattle.base.specs.Lists.{any, all}
-use Rattle.rules.specs.declared.NextBoard.{NextBoard}
-use Rattle.rules.specs.declared.NextBoard.TheVariants.{Any, Only}
 use Rattle.rules.specs.Board.{sides, nine, has_line}
 use Rattle.rules.specs.Position.{Position, unfinished, open_board, won_boards, free_cell, has}
 
@@ -13,9 +11,9 @@ sound p =
     all (λ b. not (open_board p b) || (any (free_cell p b) nine && all (λ w. not (has_line (has p w b))) sides)) nine
 
 -- what play and reading give besides: the board that is due is one of the nine and in play, and an unfinished game has a board in play
-abbrev pub next_board_open : Position → NextBoard → Bool
-next_board_open p Any = true
-next_board_open p (Only b) = ltb b 9 && open_board p b
+abbrev pub next_board_open : Position → Option ℕ → Bool
+next_board_open p None = true
+next_board_open p (Some b) = ltb b 9 && open_board p b
 
 unfoldable pub proper : Position → Bool
 proper p = next_board_open p p.next_board && (not (unfinished p) || any (open_board p) nine)

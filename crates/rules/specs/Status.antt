@@ -1,6 +1,5 @@
 -- Status: the set of the results that are left, of X wins, O wins and draw.
-use Rattle.std.specs.Prelude.{Bool, true, false, not, cond, ◌&&◌, ℕ, ◌+◌, ◌/◌, ◌%◌, eqb, ltb}
-use Rattle.std.proofs.Math.Option.{Option, none, some}
+use Rattle.std.specs.Prelude.{Bool, true, false, not, cond, ◌&&◌, ℕ, ◌+◌, ◌/◌, ◌%◌, eqb, ltb, Option, None, Some}
 use Rattle.rules.specs.declared.Player.{Player}
 use Rattle.rules.specs.declared.Player.TheVariants.{X, O}
 use Rattle.base.specs.Branch.{when◌then◌else◌}
@@ -36,8 +35,8 @@ as_byte s = cond s.x 1 0 + cond s.o 2 0 + cond s.draw 4 0
 -- 1, 2, 4, 5, 6 and 7 are a set's bytes: not 0, none left, and not 3, either side but no draw
 unfoldable pub from_byte : ℕ → Option Status
 from_byte v = when ltb v 8 && (not (eqb v 0) && not (eqb v 3))
-    then (λ _. some (record { x = eqb (v % 2) 1; o = eqb (v / 2 % 2) 1; draw = eqb (v / 4) 1 }))
-    else λ _. none
+    then (λ _. Some (record { x = eqb (v % 2) 1; o = eqb (v / 2 % 2) 1; draw = eqb (v / 4) 1 }))
+    else λ _. None
 
 -- the common part, or none
 unfoldable pub merge : Status → Status → Option Status

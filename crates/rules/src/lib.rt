@@ -1,17 +1,18 @@
-// The sides, the cells, the states of a board or of the game, the next board, what a move did, what a drawn game counts as, and the
-// weights.
+// The sides, the cells, the states of a board or of the game, the next board, what a move did, the weights, and numbered refusals.
 // Ported from src/lib/game.rs, the weights from src/lib/minimax.rs, of nelhage/ultimattt at commit 87ef0d9c7c (Apache-2.0, see NOTICE),
-// changed: methods take `self` by value, the draw winner is an enum of its own, the evaluation's weights are a struct, and the effect of
-// a move is added.
+// changed: methods take `self` by value, the evaluation's weights are a struct, refusals have numbers, and the effect of a move is added.
 #![tactic(auto)]
 
+mod refusal;
+
 ghost use Rattle.std.specs.Prelude.{◌≡◌, not};
-ghost use Rattle.rules.specs.Board.{other, side_number, in_play, state_number};
-ghost use Rattle.rules.specs.Position.{same_next_board, is_free};
+ghost use Rattle.rules.specs.Board.{other, side_number, side_from, in_play, state_number, state_from};
 ghost use Rattle.rules.specs.Play.{may, effect_number};
 ghost use Rattle.rules.specs.Evaluation.{accepted_weights};
 
-#[derive(Clone, Copy)]
+pub use refusal::{Refusal, number};
+
+#[derive(Clone, Copy, PartialEq, Eq)]
 pub enum Player {
     X,
     O,
@@ -35,15 +36,23 @@ impl Player {
             Player::O => 1,
         }
     }
+
+    // X for 0, O for any other number.
+    pub fn from_number(n: u64) -> Player
+        ensures { result ≡ side_from n }
+    {
+        if n == 0 { Player::X } else { Player::O }
+    }
 }
 
-#[derive(Clone, Copy)]
+// An enum as in the Rust: `Empty` is what a cell holds, so `Option<Player>` is no plainer.
+#[derive(Clone, Copy, PartialEq, Eq)]
 pub enum CellState {
     Empty,
     Played(Player),
 }
 
-#[derive(Clone, Copy)]
+#[derive(Clone, Copy, PartialEq, Eq)]
 pub enum GameState {
     InPlay,
     Drawn,
@@ -54,70 +63,40 @@ impl GameState {
     pub fn terminal(self) -> bool
         ensures { result ≡ not (in_play self) }
     {
-        match self {
-            GameState::InPlay => false,
-            GameState::Drawn => true,
-            GameState::Won(_) => true,
-        }
+        self != GameState::InPlay
     }
 
-    // The number that a list of numbers has for it.
-    pub fn number(self) -> u64
-        ensures { result ≡ state_number self }
+    // The state of a number in a list; won by O for those over 3.
+    pub fn from_number(n: u64) -> GameState
+        ensures { result ≡ state_from n }
     {
-        match self {
+        match n {
+            0 => GameState::InPlay,
+            1 => GameState::Drawn,
+            _ => GameState::Won(Player::from_number(n - 2)),
+        }
+    }
+}
+
+// The number that a list of numbers has for it.
+impl From<GameState> for u64 {
+    ghost from_gives = { λ state number. number ≡ state_number state };
+
+    fn from(state: GameState) -> u64 {
+        match state {
             GameState::InPlay => 0,
             GameState::Drawn => 1,
-            GameState::Won(who) => match who {
-                Player::X => 2,
-                Player::O => 3,
-            },
+            GameState::Won(Player::X) => 2,
+            GameState::Won(Player::O) => 3,
         }
     }
 }
 
-// The next board: free choice, or the one board that is due.
-#[derive(Clone, Copy)]
-pub enum NextBoard {
-    Any,
-    Only(u8),
-}
-
-impl NextBoard {
-    // Whether a move in a board is allowed.
-    pub fn allows(self, board: usize) -> bool
-        ensures { result ≡ may self board }
-    {
-        match self {
-            NextBoard::Any => true,
-            NextBoard::Only(b) => b as usize == board,
-        }
-    }
-
-    // Whether no board is due.
-    pub fn free_choice(self) -> bool
-        ensures { result ≡ is_free self }
-    {
-        match self {
-            NextBoard::Any => true,
-            NextBoard::Only(_) => false,
-        }
-    }
-
-    pub fn same(self, rhs: NextBoard) -> bool
-        ensures { result ≡ same_next_board self rhs }
-    {
-        match self {
-            NextBoard::Any => match rhs {
-                NextBoard::Any => true,
-                NextBoard::Only(_) => false,
-            },
-            NextBoard::Only(b) => match rhs {
-                NextBoard::Any => false,
-                NextBoard::Only(c) => b == c,
-            },
-        }
-    }
+// Whether the next board, any (`None`) or the one that is due, allows a move in a board.
+pub fn allows(next_board: Option<u8>, board: usize) -> bool
+    ensures { result ≡ may next_board board }
+{
+    next_board.is_none_or(|due| due as usize == board)
 }
 
 // What a move did: the state of the board played in, and whether no board is due, both after it.
@@ -133,22 +112,16 @@ impl Effect {
         board: GameState::InPlay,
         free_choice: false,
     };
-
-    // The number of the board's state, and 4 more for a free choice.
-    pub fn number(self) -> u64
-        ensures { result ≡ effect_number self }
-    {
-        let board = self.board;
-        let state = board.number();
-        if self.free_choice { state + 4 } else { state }
-    }
 }
 
-// The side for which a drawn game counts as won, if any.
-#[derive(Clone, Copy)]
-pub enum DrawWinner {
-    Nobody,
-    Side(Player),
+// The number of the board's state, and 4 more for a free choice.
+impl From<Effect> for u64 {
+    ghost from_gives = { λ effect number. number ≡ effect_number effect };
+
+    fn from(effect: Effect) -> u64 {
+        let state = u64::from(effect.board);
+        if effect.free_choice { state + 4 } else { state }
+    }
 }
 
 // What the evaluation gives for one place of a board's line, for two places, and for a won board.
@@ -169,18 +142,10 @@ impl Weights {
     pub const MOST: u16 = 1000;
 
     // Whether none is over 1,000.
+    #[tactic(auto, unfolding(crate::specs::Evaluation::accepted_weights))]
     pub fn are_accepted(self) -> bool
         ensures { result ≡ accepted_weights self }
     {
-        if self.one > Weights::MOST {
-            return false;
-        }
-        if self.two > Weights::MOST {
-            return false;
-        }
-        if self.board > Weights::MOST {
-            return false;
-        }
-        true
+        self.one <= Weights::MOST && self.two <= Weights::MOST && self.board <= Weights::MOST
     }
 }

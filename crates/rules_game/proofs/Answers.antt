@@ -1,5 +1,6 @@
 -- What a search says of a game from the empty board, table off: it is plain minimax to the last completed depth, so what holds of that
 -- holds of it.
+use Rattle.std.specs.Prelude.{Option, None}
 use mathlib.Core.Path.{◌≡◌, refl, sym, ap, ◌∙◌, subst}
 use mathlib.Core.Bool.{not}
 use mathlib.Core.List.{List}
@@ -12,8 +13,6 @@ use Rattle.base.proofs.Bool.{is}
 use Rattle.base.proofs.Integers.{hi, lo, zarith}
 use Rattle.rules.specs.declared.Player.{Player}
 use Rattle.rules.specs.declared.Player.TheVariants.{X, O}
-use Rattle.rules.specs.declared.DrawWinner.{DrawWinner}
-use Rattle.rules.specs.declared.DrawWinner.TheVariants.{Nobody}
 use Rattle.rules.specs.declared.Weights.{Weights}
 use Rattle.rules.specs.Position.{Position, start, unfinished}
 use Rattle.rules.specs.Play.{reached}
@@ -53,7 +52,7 @@ module _ (weights : Weights) (accepted : T (accepted_weights weights)) (ms : Lis
   g : Good p
   g = reached_good start start_is_good ms
 
-  module _ (draws : DrawWinner) (n : ℕ) where
+  module _ (draws : Option Player) (n : ℕ) where
     abbrev sc : Scoring
     sc = scoring_with draws weights
 
@@ -93,7 +92,7 @@ module _ (weights : Weights) (accepted : T (accepted_weights weights)) (ms : Lis
   -- a side that it leaves alone, without a draw: every search that is not stopped, to a limit of three or more, scores that side's win
   pub alone_scores : (n : ℕ) → entries nobody (suc k) p s ≤ n → 2 ≤ k → (w : Player) → T (alone (analysis p).status w) →
       (analyze (game nobody) (at_most n) (suc k) p s).completed.score ≡ win_for w p
-  alone_scores n h two w a = (unstopped_right Nobody n h).right.score_is ∙ tells.alone_wins w a (suc k) (omega arith)
+  alone_scores n h two w a = (unstopped_right None n h).right.score_is ∙ tells.alone_wins w a (suc k) (omega arith)
 
   module _ (w : Player) (out : T (not (allows (analysis p).status w))) where
     never_right : (j : ℕ) (x : Completed) → AttainsMinimax (game nobody) j p x → x.score ≡ win_for w p → ⊥
@@ -101,14 +100,14 @@ module _ (weights : Weights) (accepted : T (accepted_weights weights)) (ms : Lis
 
     stopped_never : (a : Allowance) → T (analyze (game nobody) a (suc k) p s).is_stopped →
         (analyze (game nobody) a (suc k) p s).completed.score ≡ win_for w p → ⊥
-    stopped_never unlimited u e = T_not (analyze (game nobody) unlimited (suc k) p s).is_stopped (limited Nobody 0).unlimited_whole u
+    stopped_never unlimited u e = T_not (analyze (game nobody) unlimited (suc k) p s).is_stopped (limited None 0).unlimited_whole u
     stopped_never (at_most n) u e = by_depth x.completed.depth refl
       where
         x : SearchAnswer
         x = analyze (game nobody) (at_most n) (suc k) p s
 
         z : AnswersSpent nobody n k p s x
-        z = stopped_right_too Nobody n (mark_means_spent (game nobody) n (suc k) p s (omega arith) u)
+        z = stopped_right_too None n (mark_means_spent (game nobody) n (suc k) p s (omega arith) u)
 
         by_depth : (d : ℕ) → x.completed.depth ≡ d → ⊥
         by_depth zero h = not_nothing p.turn w (sym (ap (λ (y : Completed). y.score) (z.nothing_so_far h)) ∙ e)

@@ -1,4 +1,5 @@
 -- Searches, computed, with the memory that they leave. What is expected was worked out apart, by a program that agrees with the Rust.
+use Rattle.std.specs.Prelude.{Some}
 use mathlib.Core.Path.{◌≡◌, refl}
 use mathlib.Core.Bool.{Bool, true, false}
 use mathlib.Core.List.{List, [], ◌∷◌}
@@ -13,7 +14,6 @@ use Rattle.rules.specs.declared.Player.TheVariants.{X, O}
 use Rattle.rules.specs.declared.CellState.{CellState}
 use Rattle.rules.specs.declared.CellState.TheVariants.{Empty, Played}
 use Rattle.rules.specs.declared.GameState.TheVariants.{InPlay, Won}
-use Rattle.rules.specs.declared.NextBoard.TheVariants.{Only}
 use Rattle.rules.specs.Board.{has_line, result_of}
 use Rattle.rules.specs.Position.{Position, start}
 use Rattle.base.specs.Checks.{all_pass, first_failed}
@@ -113,7 +113,7 @@ abbrev e : CellState
 e = Empty
 
 unfoldable pub late : Position
-late = position X (Only 5) (InPlay ∷ Won X ∷ InPlay ∷ Won O ∷ Won O ∷ InPlay ∷ Won O ∷ Won X ∷ InPlay ∷ []) (
+late = position X (Some 5) (InPlay ∷ Won X ∷ InPlay ∷ Won O ∷ Won O ∷ InPlay ∷ Won O ∷ Won X ∷ InPlay ∷ []) (
     (x ∷ e ∷ e ∷ x ∷ e ∷ x ∷ o ∷ e ∷ x ∷ []) ∷
     (e ∷ x ∷ x ∷ x ∷ x ∷ o ∷ x ∷ o ∷ o ∷ []) ∷
     (o ∷ o ∷ x ∷ x ∷ x ∷ o ∷ e ∷ x ∷ o ∷ []) ∷

@@ -1,5 +1,6 @@
 -- Wins and losses that the endgame analysis proves, as plain minimax gives them with no draw winner and accepted weights: in one, two and
 -- three plies, and never.
+use Rattle.std.specs.Prelude.{Option, None, Some}
 use mathlib.Core.Path.{◌≡◌, refl, sym, ap, ◌∙◌, subst}
 use mathlib.Core.Bool.{not}
 use mathlib.Core.Logic.{inl, inr}
@@ -16,8 +17,6 @@ use Rattle.rules.specs.declared.Player.{Player}
 use Rattle.rules.specs.declared.Player.TheVariants.{X, O}
 use Rattle.rules.specs.declared.GameState.{GameState}
 use Rattle.rules.specs.declared.GameState.TheVariants.{InPlay, Drawn, Won}
-use Rattle.rules.specs.declared.NextBoard.{NextBoard}
-use Rattle.rules.specs.declared.NextBoard.TheVariants.{Any, Only}
 use Rattle.rules.specs.declared.Weights.{Weights}
 use Rattle.rules.specs.Board.{other, in_play, won_by, nine}
 use Rattle.rules.specs.Position.{Position, unfinished, open_board, won_boards, free_cell}
@@ -123,7 +122,7 @@ module _ (weights : Weights) (accepted : T (accepted_weights weights)) where
 
   -- ---- lost in two: w, not to move, has a critical board outside board b, where the side to move has to play without winning, and every
   -- cell there sends w to a critical board
-  module _ (p : Position) (g : Good p) (t : T (unfinished p)) (b : ℕ) (due : p.next_board ≡ Only b)
+  module _ (p : Position) (g : Good p) (t : T (unfinished p)) (b : ℕ) (due : p.next_board ≡ Some b)
       (still : T (not (critical p p.turn b)))
       (w : Player) (turn : other p.turn ≡ w) (k : ℕ) (k9 : k < 9) (cr : T (critical p w k)) (away : b ≡ k → ⊥)
       (sends : (c : ℕ) → c < 9 → T (free_cell p b c) → T (open_board p c) → T (critical p w c) × (b ≡ c → ⊥)) where
@@ -176,24 +175,24 @@ module _ (weights : Weights) (accepted : T (accepted_weights weights)) where
       k : (k : ℕ) × In k nine × T (critical p v k)
       k = any_some (critical p v) nine r.0
 
-      s : (b : ℕ) × (p.next_board ≡ Only b) × T (not (critical p v b)) × T (all_suit p v b)
+      s : (b : ℕ) × (p.next_board ≡ Some b) × T (not (critical p v b)) × T (all_suit p v b)
       s = forced→ p v p.next_board r.1
 
       b : ℕ
       b = s.0
 
       b9 : b < 9
-      b9 = ltb→lt b 9 (and→ (ltb b 9) _ (subst (λ (d : NextBoard). T (next_board_open p d)) s.1 g.due_is)).0
+      b9 = ltb→lt b 9 (and→ (ltb b 9) _ (subst (λ (d : Option ℕ). T (next_board_open p d)) s.1 g.due_is)).0
 
       still : T (not (critical p p.turn b))
       still =
           not_T (critical p p.turn b) (λ u. T_not (prove_attacker p) n
           (unfold prove_attacker in (→and (has_critical p p.turn) _ (some_any (critical p p.turn) b nine (in_nine b b9) u)
-          (subst (λ (d : NextBoard). T (attack p p.turn d)) (sym s.1) (unfold attack in (→or_l (critical p p.turn b) _ u))))))
+          (subst (λ (d : Option ℕ). T (attack p p.turn d)) (sym s.1) (unfold attack in (→or_l (critical p p.turn b) _ u))))))
 
   -- ---- won in three: the side to move has a critical board, and sends the other side from board b, which is due, to board i, from where
   -- it cannot but send back to a critical board
-  module _ (p : Position) (g : Good p) (t : T (unfinished p)) (b : ℕ) (due : p.next_board ≡ Only b) (b9 : b < 9)
+  module _ (p : Position) (g : Good p) (t : T (unfinished p)) (b : ℕ) (due : p.next_board ≡ Some b) (b9 : b < 9)
       (opened : T (open_board p b))
       (quiet : T (not (critical p p.turn b))) (k : ℕ) (k9 : k < 9) (cr : T (critical p p.turn k)) (i : ℕ) (i9 : i < 9)
       (lured : Lure p p.turn b i) where
@@ -203,7 +202,7 @@ module _ (weights : Weights) (accepted : T (accepted_weights weights)) where
       cell = i9;
       unfinished = t;
       opened = opened;
-      allowed = subst (λ (d : NextBoard). T (may d b)) (sym due) (eqb_refl b);
+      allowed = subst (λ (d : Option ℕ). T (may d b)) (sym due) (eqb_refl b);
       empty = lured.empty;
     }
 
@@ -213,10 +212,10 @@ module _ (weights : Weights) (accepted : T (accepted_weights weights)) where
     still_open : T (open_board q i)
     still_open = open_still p b i l i lured.away lured.opened
 
-    due_there : q.next_board ≡ Only i
+    due_there : q.next_board ≡ Some i
     unfolding after
     due_there =
-        if_ind (λ (d : NextBoard). d ≡ Only i) (open_board q i) _ _ (λ _. refl) (λ u. absurd (T_not (open_board q i) u still_open))
+        if_ind (λ (d : Option ℕ). d ≡ Some i) (open_board q i) _ _ (λ _. refl) (λ u. absurd (T_not (open_board q i) u still_open))
 
     sends_back : (c : ℕ) → c < 9 → T (free_cell q i c) → T (open_board q c) → T (critical q p.turn c) × (i ≡ c → ⊥)
     sends_back c c9 f o =
@@ -259,10 +258,10 @@ module _ (weights : Weights) (accepted : T (accepted_weights weights)) where
       at_once : (j : ℕ) → j < 9 → T (critical p p.turn j) → T (may p.next_board j) → mm 3 p ≡ won
       at_once j h c m = stays_won_to (game sc) lawful 2 1 3 p g (omega arith) (wins_in_1 p g t j h c m)
 
-      go : (d : NextBoard) → p.next_board ≡ d → T (attack p p.turn d) → T (next_board_open p d) → mm 3 p ≡ won
-      go Any e h o = at_once k.0 (nine_in k.0 k.1) k.2 (subst (λ (d : NextBoard). T (may d k.0)) (sym e) tt)
-      go (Only b) e h o = elim (is (critical p p.turn b)) [
-        | inl u ↦ at_once b b9 u (subst (λ (d : NextBoard). T (may d b)) (sym e) (eqb_refl b))
+      go : (d : Option ℕ) → p.next_board ≡ d → T (attack p p.turn d) → T (next_board_open p d) → mm 3 p ≡ won
+      go None e h o = at_once k.0 (nine_in k.0 k.1) k.2 (subst (λ (d : Option ℕ). T (may d k.0)) (sym e) tt)
+      go (Some b) e h o = elim (is (critical p p.turn b)) [
+        | inl u ↦ at_once b b9 u (subst (λ (d : Option ℕ). T (may d b)) (sym e) (eqb_refl b))
         | inr u ↦ elim (attack→ p p.turn b h) [
           | inl v ↦ absurd (T_not (critical p p.turn b) u v)
           | inr v ↦ by_lure u (any_some (lure p p.turn b) nine v)

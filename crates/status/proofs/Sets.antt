@@ -3,33 +3,40 @@ use mathlib.Core.Path.{◌≡◌, refl, sym, ap, ap₂, ◌∙◌}
 use mathlib.Core.Bool.{Bool, not, ◌&&◌}
 use Prim.Native.Nat.{ℕ, zero, suc, ◌+◌, ◌*◌, ◌/◌, ◌%◌, ◌≤◌, ◌<◌, min}
 use native.Mathlib.Omega.{arith}
+use mathlib.Core.Logic.{◌⊎◌, inl, inr}
 use lib.Bits.{bit_and, and_mask, and_step}
 use lib.Dec.{eqb, eqb→eq}
+use Rattle.std.specs.Prelude.{None, Some, option_map}
 use Rattle.base.specs.Branch.{when◌then◌else◌}
 use Rattle.base.specs.Bits.{bit}
 use Rattle.base.proofs.BitsOperations.{bit_low, bit_suc}
 use Rattle.base.proofs.Bool.{always}
 use Rattle.rules.specs.Status.{Status, as_byte, from_byte, merge}
 use Rattle.rules.proofs.Status.{from_byte_none}
-use Rattle.status.specs.declared.Read.TheVariants.{Set, Nothing}
-use Rattle.status.specs.Sets.{read_of}
+use Rattle.status.specs.Sets.{status_of}
 
 -- a byte over 7 is no set's
-pub over_7_is_nothing : (v : ℕ) → 8 ≤ v → Nothing ≡ read_of (from_byte v)
-over_7_is_nothing v h = sym (ap read_of (from_byte_none v h))
+pub over_7_is_nothing : (v : ℕ) → 8 ≤ v → None ≡ option_map status_of (from_byte v)
+over_7_is_nothing v h = sym (ap (option_map status_of) (from_byte_none v h))
 
--- of the others all but 0 and 3 are
-pub byte_is_set : (v : ℕ) → v < 8 → (v ≡ 0 → ⊥) → (v ≡ 3 → ⊥) → Set (record { bits = v }) ≡ read_of (from_byte v)
+-- nor are 3 and 0
+pub no_set : (v : ℕ) → (v ≡ 3) ⊎ (v ≡ 0) → None ≡ option_map status_of (from_byte v)
 unfolding from_byte when◌then◌else◌
-byte_is_set zero h n m = absurd (n refl)
-byte_is_set (suc zero) h n m = refl
-byte_is_set (suc (suc zero)) h n m = refl
-byte_is_set (suc (suc (suc zero))) h n m = absurd (m refl)
-byte_is_set (suc (suc (suc (suc zero)))) h n m = refl
-byte_is_set (suc (suc (suc (suc (suc zero))))) h n m = refl
-byte_is_set (suc (suc (suc (suc (suc (suc zero)))))) h n m = refl
-byte_is_set (suc (suc (suc (suc (suc (suc (suc zero))))))) h n m = refl
-byte_is_set (suc (suc (suc (suc (suc (suc (suc (suc v)))))))) h n m = absurd (omega arith)
+no_set v (inl e) = rw e
+no_set v (inr e) = rw e
+
+-- of the others all are
+pub byte_is_set : (v : ℕ) → v < 8 → (v ≡ 3 → ⊥) → (v ≡ 0 → ⊥) → Some (record { bits = v }) ≡ option_map status_of (from_byte v)
+unfolding from_byte when◌then◌else◌
+byte_is_set zero h m n = absurd (n refl)
+byte_is_set (suc zero) h m n = refl
+byte_is_set (suc (suc zero)) h m n = refl
+byte_is_set (suc (suc (suc zero))) h m n = absurd (m refl)
+byte_is_set (suc (suc (suc (suc zero)))) h m n = refl
+byte_is_set (suc (suc (suc (suc (suc zero))))) h m n = refl
+byte_is_set (suc (suc (suc (suc (suc (suc zero)))))) h m n = refl
+byte_is_set (suc (suc (suc (suc (suc (suc (suc zero))))))) h m n = refl
+byte_is_set (suc (suc (suc (suc (suc (suc (suc (suc v)))))))) h m n = absurd (omega arith)
 
 -- a byte and the mask of its lowest bit, or of the next, is not 0 exactly where that bit is set
 one_or_none : (d : ℕ) → d < 2 → not (eqb d 0) ≡ eqb d 1

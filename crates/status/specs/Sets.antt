@@ -1,12 +1,9 @@
 -- The set that a status means, and the status of a set.
 use Rattle.std.specs.Prelude.{true, false, ℕ}
-use Rattle.std.proofs.Math.Option.{Option, none, some}
 use Rattle.rules.specs.declared.Player.{Player}
 use Rattle.base.specs.Bits.{bit}
 use Rattle.rules.specs.Status.{Status as Set, for_player, as_byte}
 use Rattle.status.specs.declared.Status.{Status}
-use Rattle.status.specs.declared.Read.{Read}
-use Rattle.status.specs.declared.Read.TheVariants.{Set as IsSet, Nothing}
 
 -- the low three bits: X wins, O wins, draw
 abbrev pub set_of : Status → Set
@@ -17,11 +14,6 @@ status_of s = record { bits = as_byte s }
 
 abbrev pub only_draw : Set
 only_draw = record { x = false; o = false; draw = true }
-
--- document 01's "or none"
-abbrev pub read_of : Option Set → Read
-read_of none = Nothing
-read_of (some s) = IsSet (status_of s)
 
 -- the byte of a set that holds a side alone
 abbrev pub won_byte : Player → ℕ

@@ -1,12 +1,11 @@
 // The set of the results that are left: X wins, O wins, draw.
-// Ported from src/lib/prove.rs of nelhage/ultimattt at commit 87ef0d9c7c (Apache-2.0, see NOTICE), changed: `Status` only, and an enum for
-// `Option`.
+// Ported from src/lib/prove.rs of nelhage/ultimattt at commit 87ef0d9c7c (Apache-2.0, see NOTICE), changed: `Status` only.
 #![tactic(auto)]
 
-ghost use Rattle.std.specs.Prelude.{◌≡◌, eqb};
+ghost use Rattle.std.specs.Prelude.{◌≡◌, eqb, option_map};
 ghost use Rattle.std.specs.Int.Bits.{bit_and};
 ghost use Rattle.rules.specs.Status.{unproven, for_player, draw_or_other, allows, from_byte};
-ghost use Rattle.status.specs.Sets.{set_of, only_draw, status_of, read_of, won_byte};
+ghost use Rattle.status.specs.Sets.{set_of, only_draw, status_of, won_byte};
 
 use rules::Player;
 
@@ -18,16 +17,9 @@ const MAYBE_DRAW: u8 = 0b0100;
 
 const VALID_BITS: u8 = 0b0111;
 
-#[derive(Clone, Copy)]
+#[derive(Clone, Copy, PartialEq, Eq)]
 pub struct Status {
     pub bits: u8,
-}
-
-// What a byte, or the common part of two sets, is read as.
-#[derive(Clone, Copy)]
-pub enum Read {
-    Set(Status),
-    Nothing,
 }
 
 impl Status {
@@ -85,17 +77,17 @@ impl Status {
         }
     }
 
-    pub fn from_byte(v: u8) -> Read
-        ensures { result ≡ read_of (from_byte v) }
+    #[tactic(auto, using(crate::proofs::Sets::over_7_is_nothing, crate::proofs::Sets::no_set, crate::proofs::Sets::byte_is_set))]
+    pub fn from_byte(v: u8) -> Option<Status>
+        ensures { result ≡ option_map status_of (from_byte v) }
     {
         if v > VALID_BITS {
-            return Read::Nothing;
+            return None;
         }
-        match v {
-            0 => Read::Nothing,
-            3 => Read::Nothing,
-            _ => Read::Set(Status { bits: v }),
+        if v == MAYBE_X | MAYBE_O || v == 0 {
+            return None;
         }
+        Some(Status { bits: v })
     }
 
     pub fn as_byte(self) -> u8
@@ -105,12 +97,13 @@ impl Status {
     }
 
     // The common part, or nothing.
-    pub fn merge(self, other: Status) -> Read
-        ensures { result ≡ read_of (from_byte (bit_and self.bits other.bits)) }
+    pub fn merge(self, other: Status) -> Option<Status>
+        ensures { result ≡ option_map status_of (from_byte (bit_and self.bits other.bits)) }
     {
         Status::from_byte(self.bits & other.bits)
     }
 
+    #[tactic(auto, using(crate::proofs::Sets::lowest_bit_test, crate::proofs::Sets::next_bit_test))]
     pub fn is_winnable(self, who: Player) -> bool
         ensures { result ≡ allows (set_of self) who }
     {

@@ -1,8 +1,8 @@
 -- Rows of words: what a look_up finds and what a store writes, by the cases that the code tells apart, and the one after the other.
+use Rattle.std.specs.Prelude.{Option, None, Some}
 use mathlib.Core.Path.{◌≡◌, refl, sym, ap, ap₂, ◌∙◌}
 use mathlib.Core.Bool.{true, false}
 use mathlib.Core.List.{List}
-use mathlib.Core.Option.{Option, none, some}
 use Prim.Native.Nat.{ℕ, ◌+◌, ◌/◌, ◌≤◌, ◌<◌}
 use native.Mathlib.Nat.{mod-lt}
 use native.Mathlib.Omega.{arith}
@@ -29,10 +29,10 @@ written words i h e = set (set (set words i h) (i + 1) (to_word e.value)) (i + 2
 
 -- ---- a table that is off: nothing is found, and a store leaves the row as it is
 module _ (words : List ℕ) (h : ℕ) (k : length words < 3) where
-  pub look_up_off : look_up words h ≡ none
+  pub look_up_off : look_up words h ≡ None
   unfolding look_up off
   look_up_off =
-      if_ind (λ (o : Option Entry). o ≡ none) (ltb (length words) 3) _ _ (λ _. refl)
+      if_ind (λ (o : Option Entry). o ≡ None) (ltb (length words) 3) _ _ (λ _. refl)
       (λ t. absurd (omega (arith, nltb→le (length words) 3 t)))
 
   pub store_off : (e : Entry) → store words h e ≡ words
@@ -43,16 +43,16 @@ module _ (words : List ℕ) (h : ℕ) (k : length words < 3) where
 
 -- ---- one that is on, where the words of a hash begin at i
 module _ (words : List ℕ) (h i : ℕ) (k : 3 ≤ length words) (at : i ≡ begins (length words) h) where
-  look_up_on : look_up words h ≡ (when eqb (get_or words i 0) h then (λ _. held_at words i) else λ _. none)
+  look_up_on : look_up words h ≡ (when eqb (get_or words i 0) h then (λ _. held_at words i) else λ _. None)
   unfolding look_up off
   look_up_on =
-      if_ind (λ (o : Option Entry). o ≡ (when eqb (get_or words i 0) h then (λ _. held_at words i) else λ _. none)) (ltb (length words) 3)
+      if_ind (λ (o : Option Entry). o ≡ (when eqb (get_or words i 0) h then (λ _. held_at words i) else λ _. None)) (ltb (length words) 3)
       _ _
       (λ t. absurd (omega (arith, ltb→lt (length words) 3 t)))
-      (λ _. ap (λ (j : ℕ). when eqb (get_or words j 0) h then (λ _. held_at words j) else λ _. none) (sym at))
+      (λ _. ap (λ (j : ℕ). when eqb (get_or words j 0) h then (λ _. held_at words j) else λ _. None) (sym at))
 
   -- another position's entry is not taken
-  pub look_up_other : (get_or words i 0 ≡ h → ⊥) → look_up words h ≡ none
+  pub look_up_other : (get_or words i 0 ≡ h → ⊥) → look_up words h ≡ None
   unfolding when◌then◌else◌
   look_up_other f = look_up_on ∙ rw (ne_eqb (get_or words i 0) h f)
 
@@ -102,7 +102,7 @@ module _ (words : List ℕ) (i h : ℕ) (e : Entry) (k : i + 2 < length words) w
   third_word = get_or-set_same (set (set words i h) (i + 1) (to_word e.value)) (i + 2) (rest_of e) 0 (simp length-set (omega arith))
 
   -- what is written at a hash's slot is found there
-  found : 3 ≤ length words → i ≡ begins (length words) h → Kept e → look_up (written words i h e) h ≡ some e
+  found : 3 ≤ length words → i ≡ begins (length words) h → Kept e → look_up (written words i h e) h ≡ Some e
   found l at f =
       let w = written words i h e in
       let n : length w ≡ length words = written_length words i h e in
@@ -112,7 +112,7 @@ module _ (words : List ℕ) (i h : ℕ) (e : Entry) (k : i + 2 < length words) w
 
 -- an entry that was stored is found
 pub look_up_stored : (words : List ℕ) (h : ℕ) (e : Entry) → 3 ≤ length words → Kept e →
-    replaces e.depth (held_at words (begins (length words) h)) ≡ true → look_up (store words h e) h ≡ some e
+    replaces e.depth (held_at words (begins (length words) h)) ≡ true → look_up (store words h e) h ≡ Some e
 look_up_stored words h e k f r =
     let i = begins (length words) h in
     ap (λ (w : List ℕ). look_up w h) (store_taken words h i k refl e r) ∙ found words i h e (begins_within (length words) h k) k refl f

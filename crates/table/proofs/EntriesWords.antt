@@ -1,18 +1,18 @@
 -- Words and what they say: a value is read back from its word, and an entry from its two words.
+use Rattle.std.specs.Prelude.{Option, None, Some}
 use mathlib.Core.Path.{◌≡◌, refl, sym, ap, ◌∙◌, subst}
-use mathlib.Core.Bool.{Bool, true, false, ◌&&◌}
-use mathlib.Core.Option.{Option, none, some}
-use Prim.Native.Nat.{ℕ, ◌-◌, ◌/◌, ◌%◌, ◌≤◌, ◌<◌}
+use mathlib.Core.Bool.{Bool, ◌&&◌}
+use Prim.Native.Nat.{ℕ, suc, ◌-◌, ◌/◌, ◌%◌, ◌≤◌, ◌<◌}
 use native.Mathlib.Omega.{arith}
 use lib.Dec.{T, leb, ltb, leb→le, le→leb, ltb→lt, lt→ltb, nltb→le, T_not}
-use lib.IntN.{ℤ, pos, negsuc, nat_abs}
-use lib.Signed.{mag, le_z, lt_z, ◌≤ℤ◌, ◌<ℤ◌, clash_ℤ}
+use lib.IntN.{ℤ, pos, negsuc}
+use lib.Signed.{le_z, ◌≤ℤ◌, ◌<ℤ◌, clash_ℤ}
 use mir.Syntax.{w64}
-use mir.Val.{SFits}
+use mir.Val.{to_z}
+use mir.Facts.{to_z_pos, to_z-neg}
 use Rattle.base.proofs.Bool.{and→, →and}
 use Rattle.base.proofs.Branch.{if_ind}
 use Rattle.base.proofs.Integers.{hi, lo, hi_le, lo_le, zarith}
-use Rattle.base.proofs.Signed.{reads, negative, natural}
 use Rattle.theory.specs.PlainMinimax.{lowest, highest}
 use Rattle.theory.specs.Table.{Entry, from_word, to_word, rest_of, entry_of}
 use Rattle.table.specs.declared.Bound.{Bound}
@@ -20,13 +20,6 @@ use Rattle.table.specs.declared.Bound.TheVariants.{Exact, AtLeast, AtMost}
 use Rattle.table.specs.Entries.{bound_number}
 
 -- ---- values
-module _ (z : ℤ) (f : SFits w64 z) where
-  pub negative_word : lt_z (reads z) (pos 0) ≡ true → 18446744073709551615 - mag z ≡ to_word z
-  negative_word e = subst (λ (y : ℤ). 18446744073709551615 - mag y ≡ to_word y) (sym (negative z f e)) refl
-
-  pub natural_word : lt_z (reads z) (pos 0) ≡ false → nat_abs z ≡ to_word z
-  natural_word e = subst (λ (y : ℤ). nat_abs y ≡ to_word y) (sym (natural z f e)) refl
-
 pub value_low : (w : ℕ) → w < 9223372036854775808 → from_word w ≡ pos w
 unfolding from_word
 value_low w h =
@@ -38,6 +31,16 @@ unfolding from_word
 value_high w h =
     if_ind (λ (z : ℤ). z ≡ negsuc (18446744073709551615 - w)) (ltb w 9223372036854775808) _ _
     (λ t. absurd (omega (arith, ltb→lt w 9223372036854775808 t))) (λ _. refl)
+
+-- the library's reading of a word
+pub signed_word : (w : ℕ) → w < 18446744073709551616 → to_z w64 w ≡ from_word w
+unfolding from_word
+signed_word w h =
+    if_ind (λ (z : ℤ). to_z w64 w ≡ z) (ltb w 9223372036854775808) _ _
+    (λ t. to_z_pos w64 (ltb→lt w 9223372036854775808 t))
+    (λ t. let k = nltb→le w 9223372036854775808 t in
+    ap (to_z w64) {y = 18446744073709551616 - suc (18446744073709551615 - w)} (omega arith)
+    ∙ to_z-neg w64 (18446744073709551615 - w) (omega arith))
 
 -- the word of a number that 64 bits hold says that number
 pub value_back : (z : ℤ) → negsuc 9223372036854775807 ≤ℤ z → z ≤ℤ pos 9223372036854775807 → from_word (to_word z) ≡ z
@@ -96,22 +99,22 @@ module _ (value rest : ℕ) where
   says = record { value = from_word value; depth = rest % 256; bound = rest / 256 % 256; move = rest / 65536 }
 
   -- two words that say what is not kept are no entry
-  pub absent : (Kept says → ⊥) → none ≡ entry_of value rest
+  pub absent : (Kept says → ⊥) → None ≡ entry_of value rest
   unfolding entry_of
-  absent f = if_ind (λ (o : Option Entry). none ≡ o) (kept says) _ _ (λ t. absurd (f (kept→ says t))) (λ _. refl)
+  absent f = if_ind (λ (o : Option Entry). None ≡ o) (kept says) _ _ (λ t. absurd (f (kept→ says t))) (λ _. refl)
 
   -- nor are they if they say a value that is too low or too high
-  pub absent_low : {v : ℤ} → v ≡ from_word value → v <ℤ lowest → none ≡ entry_of value rest
+  pub absent_low : {v : ℤ} → v ≡ from_word value → v <ℤ lowest → None ≡ entry_of value rest
   absent_low e h = absent (λ k. clash_ℤ h (subst (λ (z : ℤ). lowest ≤ℤ z) (sym e) k.value_least))
 
-  pub absent_high : {v : ℤ} → v ≡ from_word value → highest <ℤ v → none ≡ entry_of value rest
+  pub absent_high : {v : ℤ} → v ≡ from_word value → highest <ℤ v → None ≡ entry_of value rest
   absent_high e h = absent (λ k. clash_ℤ h (subst (λ (z : ℤ). z ≤ℤ highest) (sym e) k.value_most))
 
   -- two words that say an entry that is kept are that entry
-  pub present : (e : Entry) → Kept e → e ≡ says → some e ≡ entry_of value rest
+  pub present : (e : Entry) → Kept e → e ≡ says → Some e ≡ entry_of value rest
   unfolding entry_of
   present e k s =
-      ap some s ∙ if_ind (λ (o : Option Entry). some says ≡ o) (kept says) _ _ (λ _. refl)
+      ap Some s ∙ if_ind (λ (o : Option Entry). Some says ≡ o) (kept says) _ _ (λ _. refl)
       (λ t. absurd (T_not (kept says) t (→kept says (subst Kept s k))))
 
 -- entries with the same four parts are the same
@@ -120,7 +123,7 @@ pub same_entry : {v v' : ℤ} {d d' b b' m m' : ℕ} → v ≡ v' → d ≡ d' �
 same_entry p q r s = cc
 
 -- an entry that the table keeps is read back
-pub entry_back : (e : Entry) → Kept e → entry_of (to_word e.value) (rest_of e) ≡ some e
+pub entry_back : (e : Entry) → Kept e → entry_of (to_word e.value) (rest_of e) ≡ Some e
 unfolding hi lo
 entry_back e k =
     let v = value_back e.value (omega (zarith, k.value_least)) (omega (zarith, k.value_most)) in

@@ -1,12 +1,9 @@
 -- What the structs of the table mean.
-use Rattle.std.proofs.Math.Option.{Option, none, some}
 use Rattle.std.specs.Prelude.{ℕ}
 use Rattle.theory.specs.Table.{Entry as Meant}
 use Rattle.table.specs.declared.Bound.{Bound}
 use Rattle.table.specs.declared.Bound.TheVariants.{Exact, AtLeast, AtMost}
 use Rattle.table.specs.declared.Entry.{Entry}
-use Rattle.table.specs.declared.LookupResult.{LookupResult}
-use Rattle.table.specs.declared.LookupResult.TheVariants.{Entry as Holds, Absent}
 
 -- document 01's numbers
 abbrev pub bound_number : Bound → ℕ
@@ -16,7 +13,3 @@ bound_number AtMost = 2
 
 abbrev pub entry_means : Entry → Meant
 entry_means e = record { value = e.value; depth = e.depth; bound = bound_number e.bound; move = e.pv.bits }
-
-abbrev pub lookup_means : LookupResult → Option Meant
-lookup_means (Holds e) = some (entry_means e)
-lookup_means Absent = none

@@ -1,7 +1,7 @@
 -- Worked examples, computed, with some of the Rust's answers.
+use Rattle.std.specs.Prelude.{Option, None, Some}
 use mathlib.Core.Path.{◌≡◌, refl, sym, ap, ◌∙◌}
 use mathlib.Core.List.{List, [], ◌∷◌, ◌++◌}
-use mathlib.Core.Option.{Option, none, some}
 use Prim.Native.Nat.{ℕ}
 use Prim.Native.String.{String}
 use lib.ListN.{length, take, replicate}
@@ -10,8 +10,6 @@ use Rattle.base.specs.Lists.{any}
 use Rattle.rules.specs.declared.Player.TheVariants.{X, O}
 use Rattle.rules.specs.declared.GameState.{GameState}
 use Rattle.rules.specs.declared.GameState.TheVariants.{InPlay, Drawn, Won}
-use Rattle.rules.specs.declared.NextBoard.{NextBoard}
-use Rattle.rules.specs.declared.NextBoard.TheVariants.{Any, Only}
 use Rattle.rules.specs.Board.{has_line, result_of}
 use Rattle.rules.specs.Position.{Position, start}
 use Rattle.rules.specs.Hash.{cell_key, board_key, next_board_key, xors, cells_hash, board_hash, hash}
@@ -25,14 +23,14 @@ use Rattle.text.proofs.WritingRoundTrip.{start_is_written, read_after_write}
 -- ---- what the facts compute with
 -- what is told of the position that is read, if any
 abbrev pub told : {A : Type 0} → (Position → A) → Reading → Option A
-told f (reads p) = some (f p)
-told f (refuses n o l) = none
+told f (reads p) = Some (f p)
+told f (refuses n o l) = None
 
 -- the position written again, its game's state, its next board and its hash
 pub record Seen : Type 0 where
   pub text : List ℕ
   pub state : GameState
-  pub next_board : NextBoard
+  pub next_board : Option ℕ
   pub hash : ℕ
 
 -- what is compared with the Rust
@@ -67,7 +65,7 @@ pub empty_text_reads : read empty_text ≡ reads start
 empty_text_reads = ap read (sym start_text) ∙ read_after_write start start_is_written
 
 -- its hash is 0
-pub empty_text_is_seen : seen (read empty_text) ≡ some (record { text = empty_text; state = InPlay; next_board = Any; hash = 0 })
+pub empty_text_is_seen : seen (read empty_text) ≡ Some (record { text = empty_text; state = InPlay; next_board = None; hash = 0 })
 unfolding empty_text e9 seeing
 empty_text_is_seen = refl
 
@@ -79,7 +77,7 @@ short_texts = (refl, refl, refl, refl)
 
 -- a tail up to 256 bytes passes, 257 bytes do not, and a third `;` is 2
 pub tails :
-    (told text_of (read (empty_text ++ replicate 155 0xff)) ≡ some empty_text)
+    (told text_of (read (empty_text ++ replicate 155 0xff)) ≡ Some empty_text)
     × (read (empty_text ++ replicate 156 0xff) ≡ refuses 1 0 0)
     × (read (empty_text ++ (semicolon ∷ [])) ≡ refuses 2 0 102)
 unfolding empty_text e9 seeing
@@ -111,15 +109,15 @@ cell_refusals = (refl, refl, refl, refl, refl, refl)
 
 -- ---- with more than one `@` the next board is where the last stands, and each of them is a board in play
 pub several_due :
-    (told (λ p. p.next_board) (read (quoted "O;@X@.#@.O.;" ++ e9)) ≡ some (Only 5))
-    × (told text_of (read (quoted "O;@X@.#@.O.;" ++ e9)) ≡ some (quoted "O;.X..#@.O.;" ++ e9))
+    (told (λ p. p.next_board) (read (quoted "O;@X@.#@.O.;" ++ e9)) ≡ Some (Some 5))
+    × (told text_of (read (quoted "O;@X@.#@.O.;" ++ e9)) ≡ Some (quoted "O;.X..#@.O.;" ++ e9))
 unfolding e9 seeing
 several_due = (refl, refl)
 
 -- ---- only the lines of the side not to move are looked at
 pub trusted_marks :
-    (told (λ p. p.state) (read (quoted "X;XXX......;" ++ e9)) ≡ some InPlay)
-    × (told (λ p. p.state) (read (quoted "O;XXX......;" ++ e9)) ≡ some (Won X))
+    (told (λ p. p.state) (read (quoted "X;XXX......;" ++ e9)) ≡ Some InPlay)
+    × (told (λ p. p.state) (read (quoted "O;XXX......;" ++ e9)) ≡ Some (Won X))
 unfolding e9 reading
 trusted_marks = (refl, refl)
 
@@ -152,27 +150,28 @@ unfolding reading
 rust_refusals = (refl, refl, refl, refl, refl, refl, refl, refl, refl, refl, refl, refl, refl, refl, refl, refl, refl, refl)
 
 -- a text reads, with what the Rust then shows
-abbrev Rust : List ℕ → String → GameState → NextBoard → ℕ → Type 0
-Rust t again g d h = seen (read t) ≡ some (record { text = quoted again; state = g; next_board = d; hash = h })
+abbrev Rust : List ℕ → String → GameState → Option ℕ → ℕ → Type 0
+Rust t again g d h = seen (read t) ≡ Some (record { text = quoted again; state = g; next_board = d; hash = h })
 
 -- positions: won, drawn though X has every line, with a tail, with several `@`
 pub rust_readings :
     (Rust (quoted "O;.@.......;.OO....../XX.O...X./.OX....../......X../........./........./XX....O.O/.O......./......X..")
     "O;.@.......;.OO....../XX.O...X./.OX....../......X../........./........./XX....O.O/.O......./......X.."
-    InPlay (Only 1) 16275768051207996528)
+    InPlay (Some 1) 16275768051207996528)
     × (Rust (quoted "X;OX.OOOX@X;OOOX...../.O.XXX.../.....O..X/......OOO/XOX.O.OO./XO..O..O./.X..X..X./.X..XX.O./X..X..X.O")
     "X;OX.OOOX@X;OOOX...../.O.XXX.../.....O..X/......OOO/XOX.O.OO./XO..O..O./.X..X..X./.X..XX.O./X..X..X.O"
-    (Won O) (Only 7) 7471298720362326179)
+    (Won O) (Some 7) 7471298720362326179)
     × (Rust (quoted "X;XXXXXXXXX;.......OO/......X../O......../..X....../.X......X/...O.O.O./XX......./OOO..X.../..O......")
-    "X;XXXXXXXXX;.......OO/......X../O......../..X....../.X......X/...O.O.O./XX......./OOO..X.../..O......" Drawn Any 7042103740342865050)
+    "X;XXXXXXXXX;.......OO/......X../O......../..X....../.X......X/...O.O.O./XX......./OOO..X.../..O......" Drawn None 7042103740342865050)
     × (Rust (quoted "X;OO.OO..OO;..O.X...O/O..XX..X./X......../XO......./........./.....XO../.O......./........./.X.......tail")
-    "X;OO.OO..OO;..O.X...O/O..XX..X./X......../XO......./........./.....XO../.O......./........./.X......." (Won O) Any 6599334585561191219)
+    "X;OO.OO..OO;..O.X...O/O..XX..X./X......../XO......./........./.....XO../.O......./........./.X......."
+    (Won O) None 6599334585561191219)
     × (Rust (quoted "O;X#XOXOOXO;OXXXOOXXX/XOXOOXOXO/OOXOXOX.O/OOOX.X.OX/XX..O.XXX/O...OXO.O/XXOOOXOOX/...XXX.../OXXOOOXOX" ++
     (0xc3 ∷ 0xa9 ∷ []))
-    "O;X#XOXOOXO;OXXXOOXXX/XOXOOXOXO/OOXOXOX.O/OOOX.X.OX/XX..O.XXX/O...OXO.O/XXOOOXOOX/...XXX.../OXXOOOXOX" Drawn Any 8260499521574549790)
+    "O;X#XOXOOXO;OXXXOOXXX/XOXOOXOXO/OOXOXOX.O/OOOX.X.OX/XX..O.XXX/O...OXO.O/XXOOOXOOX/...XXX.../OXXOOOXOX" Drawn None 8260499521574549790)
     × (Rust (quoted "X;@@@.@@.@.;.O..X..../...XO..O./..X....../.....XO../OX.X..X.O/....OXXXX/X.OOO.X.O/.....O..O/.X.......")
     "X;.......@.;.O..X..../...XO..O./..X....../.....XO../OX.X..X.O/....OXXXX/X.OOO.X.O/.....O..O/.X......."
-    InPlay (Only 7) 8000145076095137924)
+    InPlay (Some 7) 8000145076095137924)
 unfolding seeing
 rust_readings = (refl, refl, refl, refl, refl, refl)
 

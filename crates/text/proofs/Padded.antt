@@ -1,11 +1,11 @@
 -- Along the list: what is set next after its bytes is one byte more, until the row is full.
 use mathlib.Core.Path.{◌≡◌, refl, sym, ap, ◌∙◌}
 use mathlib.Core.List.{List, [], ◌∷◌, ◌++◌}
-use Prim.Native.Nat.{ℕ, zero, suc, min, ◌≤◌}
+use Prim.Native.Nat.{ℕ, zero, suc, ◌+◌, min, ◌≤◌, ◌<◌}
 use native.Mathlib.Decide.{dec_le}
 use native.Mathlib.Omega.{arith}
-use lib.ListN.{length, take, set}
-use lib.Seq.{set_out}
+use lib.ListN.{length, take, set, replicate, length-append, length-take}
+use lib.Seq.{set_out, take_all}
 use Rattle.text.specs.Padded.{padded}
 
 pub length_padded : (n : ℕ) (xs : List ℕ) → length (padded n xs) ≡ n
@@ -43,3 +43,31 @@ take_padded zero n xs h l = refl
 take_padded (suc k) zero xs h l = absurd (omega arith)
 take_padded (suc k) (suc n) [] h l = absurd (omega arith)
 take_padded (suc k) (suc n) (x ∷ xs) h l = ap (◌∷◌ x) (take_padded k n xs (omega arith) (omega arith))
+
+pub padded_none : (n : ℕ) → padded n [] ≡ replicate n 0
+unfolding padded
+padded_none zero = refl
+padded_none (suc n) = ap (◌∷◌ 0) (padded_none n)
+
+-- ---- the first k of a row's n bytes, the others 0
+module _ (n : ℕ) (row : List ℕ) (k : ℕ) (h : k ≤ n) (e : row ≡ padded n (take k row)) where
+  pub held_length : length (take k row) ≡ k
+  held_length = let l = ap length e ∙ length_padded n (take k row) in omega (arith, length-take k row)
+
+  -- one more
+  pub held_next : (b : ℕ) → k < n → set row k b ≡ padded n (take k row ++ (b ∷ []))
+  held_next b l =
+      let m : min (length (take k row)) n ≡ k = omega (arith, held_length) in
+      ap (λ (r : List ℕ). set r k b) e ∙ ap (λ (i : ℕ). set (padded n (take k row)) i b) (sym m) ∙ set_padded n (take k row) b
+
+  pub held_more : (b : ℕ) → k < n → take (k + 1) (set row k b) ≡ take k row ++ (b ∷ [])
+  held_more b l =
+      let m : length (take k row ++ (b ∷ [])) ≡ k + 1 = omega (arith, held_length, length-append (take k row) (b ∷ [])) in
+      ap (take (k + 1)) (held_next b l) ∙ take_padded (k + 1) n (take k row ++ (b ∷ [])) (omega arith) (omega arith)
+      ∙ take_all (k + 1) (take k row ++ (b ∷ [])) (omega arith)
+
+-- ---- the first n of bytes that come one by one
+pub first_of_first : (n : ℕ) (xs ys : List ℕ) → take n (take n xs ++ ys) ≡ take n (xs ++ ys)
+first_of_first zero xs ys = refl
+first_of_first (suc n) [] ys = refl
+first_of_first (suc n) (x ∷ xs) ys = ap (◌∷◌ x) (first_of_first n xs ys)

@@ -1,8 +1,8 @@
 -- Laws of reading: each answer with what it takes, and of a text that reads, what its position is like.
+use Rattle.std.specs.Prelude.{Option, None, Some}
 use mathlib.Core.Path.{◌≡◌, refl, ap, ◌∙◌, subst}
 use mathlib.Core.Bool.{Bool, true, false, ◌&&◌}
 use mathlib.Core.List.{List, [], ◌∷◌, ◌++◌}
-use mathlib.Core.Option.{Option, none, some}
 use Prim.Native.Nat.{ℕ, suc, ◌+◌, ◌*◌, ◌≤◌, ◌<◌}
 use native.Mathlib.Omega.{arith}
 use borrow.Author.Tests.{lt-ltb}
@@ -16,7 +16,6 @@ use Rattle.base.proofs.Lists.{default_unused}
 use Rattle.rules.specs.declared.Player.{Player}
 use Rattle.rules.specs.declared.CellState.TheVariants.{Empty}
 use Rattle.rules.specs.declared.GameState.TheVariants.{InPlay}
-use Rattle.rules.specs.declared.NextBoard.TheVariants.{Any}
 use Rattle.rules.specs.Board.{other, result_of}
 use Rattle.rules.specs.Position.{Position, open_board, won_boards}
 use Rattle.rules.specs.Sound.{next_board_open, proper}
@@ -39,21 +38,21 @@ pub record Parted (t s os cs : List ℕ) : Type 0 where
 -- and the first is w's letter
 pub record Sided (t s os cs : List ℕ) (w : Player) : Type 0 where
   pub parted : Parted t s os cs
-  pub letter_is : lone_side s ≡ some w
+  pub letter_is : lone_side s ≡ Some w
 
 -- and the second has nine marks, none of them bad
 pub record Marked (t s os cs : List ℕ) (w : Player) : Type 0 where
   pub sided : Sided t s os cs w
   pub nine_marks : length os ≡ 9
-  pub none_bad : first_bad os ≡ none
+  pub none_bad : first_bad os ≡ None
 
 -- each answer, with what it takes
 pub data Answer (t : List ℕ) : Reading → Type 0 where
   too_long : 256 < length t → Answer t (refuses 1 0 0)
   not_three : length t ≤ 256 → (length (sections t) ≡ 3 → ⊥) → Answer t (refuses 2 0 (length t))
-  bad_side : {s os cs : List ℕ} → Parted t s os cs → lone_side s ≡ none → Answer t (refuses 3 0 (length s))
+  bad_side : {s os cs : List ℕ} → Parted t s os cs → lone_side s ≡ None → Answer t (refuses 3 0 (length s))
   not_nine : {s os cs : List ℕ} {w : Player} → Sided t s os cs w → (length os ≡ 9 → ⊥) → Answer t (refuses 4 2 (length os))
-  bad_mark : {s os cs : List ℕ} {w : Player} {i : ℕ} → Sided t s os cs w → length os ≡ 9 → first_bad os ≡ some i →
+  bad_mark : {s os cs : List ℕ} {w : Player} {i : ℕ} → Sided t s os cs w → length os ≡ 9 → first_bad os ≡ Some i →
       Answer t (refuses 5 (2 + i) 1)
   bad_cells : {s os cs : List ℕ} {w : Player} → Marked t s os cs w → (first_fault cs (from 0 89) ≡ 0 → ⊥) →
       Answer t (refuses (first_fault cs (from 0 89)) 12 (length cs))
@@ -71,12 +70,12 @@ read_answers t =
 
     by_marks : (s os cs : List ℕ) (w : Player) → Sided t s os cs w → length os ≡ 9 → (r : Option ℕ) → first_bad os ≡ r →
         Answer t (read_marks r w os cs)
-    by_marks s os cs w q n none e = by_cells s os cs w (record { sided = q; nine_marks = n; none_bad = e })
-    by_marks s os cs w q n (some i) e = bad_mark q n e
+    by_marks s os cs w q n None e = by_cells s os cs w (record { sided = q; nine_marks = n; none_bad = e })
+    by_marks s os cs w q n (Some i) e = bad_mark q n e
 
     by_side : (s os cs : List ℕ) → Parted t s os cs → (r : Option Player) → lone_side s ≡ r → Answer t (read_side r s os cs)
-    by_side s os cs q none e = bad_side q e
-    by_side s os cs q (some w) e =
+    by_side s os cs q None e = bad_side q e
+    by_side s os cs q (Some w) e =
         let d : Sided t s os cs w = record { parted = q; letter_is = e } in
         if_equal (Answer t) (length os) 9 _ _ (λ n. by_marks s os cs w d n (first_bad os) refl) (λ n. not_nine d n)
 
@@ -177,7 +176,7 @@ cell_in_at cs b c h k l = if_ind (λ s. s ≡ or_else (cell_mark (get_or cs (10 
 -- the board that is due has an `@`, so it reads as in play
 said_due : (w : Player) (os cs : List ℕ) → length os ≡ 9 → T (next_board_open (said w os cs) (said w os cs).next_board)
 unfolding said overall_mark when◌then◌else◌
-said_due w os cs n = last_at_cases (λ d. T (next_board_open (said w os cs) d)) 0 os Any (λ _. tt) (λ k h e _.
+said_due w os cs n = last_at_cases (λ d. T (next_board_open (said w os cs) d)) 0 os None (λ _. tt) (λ k h e _.
     let z : 0 + k ≡ k = omega arith in
     rw z (→and (ltb k 9) _ (lt→ltb k 9 (omega arith)) (rw (state_in_at os k (omega arith) h, e) tt)))
 
@@ -256,7 +255,7 @@ shortest {t} (good {s = s} {os = os} {cs = cs} m e) = omega (
   cells_there cs e 88 (lit< tt),
 )
   where
-    lettered : {w : Player} (s : List ℕ) → lone_side s ≡ some w → 1 ≤ length s
+    lettered : {w : Player} (s : List ℕ) → lone_side s ≡ Some w → 1 ≤ length s
     lettered [] h = let z : ◌≡◌ {A = ℕ} 0 1 = cc in absurd (omega arith)
     lettered (c ∷ s) h = omega arith
 

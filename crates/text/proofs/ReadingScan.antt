@@ -1,9 +1,9 @@
 -- What a scan from left to right finds: sections by the places of the semicolons, bad marks, the last `@` and faults by their index.
+use Rattle.std.specs.Prelude.{Option, None, Some}
 use mathlib.Core.Path.{◌≡◌, refl, sym, ap, ap₂, ◌∙◌, subst}
 use mathlib.Core.Bool.{Bool, true, false, not, cond, ◌&&◌}
 use mathlib.Core.List.{List, [], ◌∷◌}
 use mathlib.Core.Logic.{◌⊎◌, inl, inr}
-use mathlib.Core.Option.{Option, none, some}
 use Prim.Native.Nat.{ℕ, zero, suc, ◌+◌, ◌-◌, ◌%◌, ◌≤◌, ◌<◌}
 use native.Mathlib.Decide.{ℕ_discrete}
 use native.Mathlib.Omega.{arith}
@@ -15,8 +15,6 @@ use Rattle.base.specs.Branch.{when◌then◌else◌}
 use Rattle.base.specs.Lists.{count, from}
 use Rattle.base.proofs.Bool.{and→, →and, is, not_not}
 use Rattle.base.proofs.Branch.{if_ind}
-use Rattle.rules.specs.declared.NextBoard.{NextBoard}
-use Rattle.rules.specs.declared.NextBoard.TheVariants.{Only}
 use Rattle.text.specs.Bytes.{semicolon, slash, at_mark}
 use Rattle.text.specs.Reading.{side_of, overall_mark, cell_mark, known, first_longer, sections, one_on, first_bad, last_at}
 use Rattle.text.specs.Reading.{fault_at, first_fault, lone_side}
@@ -150,7 +148,7 @@ lone_byte (c ∷ []) e = refl
 lone_byte (c ∷ d ∷ cs) e = absurd (omega arith)
 
 -- no byte, or several, name none
-pub not_lone : (s : List ℕ) → (length s ≡ 1 → ⊥) → lone_side s ≡ none
+pub not_lone : (s : List ℕ) → (length s ≡ 1 → ⊥) → lone_side s ≡ None
 not_lone [] n = refl
 not_lone (c ∷ []) n = absurd (n refl)
 not_lone (c ∷ d ∷ cs) n = refl
@@ -166,9 +164,9 @@ pub record FirstBad (os : List ℕ) (i : ℕ) : Type 0 where
   pub before : (k : ℕ) → k < i → Known os k
   pub bad : Known os i → ⊥
 
-first_bad_here : (c : ℕ) (cs : List ℕ) → (T (known (overall_mark c)) → ⊥) → first_bad (c ∷ cs) ≡ some 0
+first_bad_here : (c : ℕ) (cs : List ℕ) → (T (known (overall_mark c)) → ⊥) → first_bad (c ∷ cs) ≡ Some 0
 unfolding first_bad
-first_bad_here c cs n = if_ind (λ r. r ≡ some 0) (known (overall_mark c)) _ _ (λ t. absurd (n t)) (λ _. refl)
+first_bad_here c cs n = if_ind (λ r. r ≡ Some 0) (known (overall_mark c)) _ _ (λ t. absurd (n t)) (λ _. refl)
 
 first_bad_later : (c : ℕ) (cs : List ℕ) → T (known (overall_mark c)) → first_bad (c ∷ cs) ≡ one_on (first_bad cs)
 unfolding first_bad
@@ -176,7 +174,7 @@ first_bad_later c cs t =
     if_ind (λ r. r ≡ one_on (first_bad cs)) (known (overall_mark c)) _ _ (λ _. refl) (λ n. absurd (T_not (known (overall_mark c)) n t))
 
 -- the first bad mark is the one that is found
-pub →first_bad : (os : List ℕ) (i : ℕ) → FirstBad os i → first_bad os ≡ some i
+pub →first_bad : (os : List ℕ) (i : ℕ) → FirstBad os i → first_bad os ≡ Some i
 →first_bad [] i f = absurd (omega (arith, f.inside))
 →first_bad (c ∷ cs) zero f = first_bad_here c cs f.bad
 →first_bad (c ∷ cs) (suc i) f = first_bad_later c cs (f.before 0 (omega arith))
@@ -184,15 +182,15 @@ pub →first_bad : (os : List ℕ) (i : ℕ) → FirstBad os i → first_bad os 
     (record { inside = omega (arith, f.inside); before = λ k h. f.before (suc k) (omega arith); bad = f.bad }))
 
 -- where every mark is known none is found
-pub →none_bad : (os : List ℕ) → ((k : ℕ) → k < length os → Known os k) → first_bad os ≡ none
+pub →none_bad : (os : List ℕ) → ((k : ℕ) → k < length os → Known os k) → first_bad os ≡ None
 unfolding first_bad
 →none_bad [] f = refl
 →none_bad (c ∷ cs) f = first_bad_later c cs (f 0 (omega arith)) ∙ ap one_on (→none_bad cs (λ k h. f (suc k) (omega arith)))
 
 -- what is found says which marks are known
 abbrev pub BadMarks : List ℕ → Option ℕ → Type 0
-BadMarks os none = (k : ℕ) → k < length os → Known os k
-BadMarks os (some i) = FirstBad os i
+BadMarks os None = (k : ℕ) → k < length os → Known os k
+BadMarks os (Some i) = FirstBad os i
 
 -- either answer is right
 pub first_bad_is : (os : List ℕ) → BadMarks os (first_bad os)
@@ -203,8 +201,8 @@ first_bad_is (c ∷ cs) = if_ind (BadMarks (c ∷ cs)) (known (overall_mark c)) 
     (λ n. record { inside = omega arith; before = λ k h. absurd (omega arith); bad = T_not (known (overall_mark c)) n })
   where
     go : (r : Option ℕ) → T (known (overall_mark c)) → BadMarks cs r → BadMarks (c ∷ cs) (one_on r)
-    go none t f = λ k. elim k as (λ k. k < length (c ∷ cs) → Known (c ∷ cs) k) [ zero ↦ λ _. t | suc k ↦ λ h. f k (omega arith) ]
-    go (some i) t f =
+    go None t f = λ k. elim k as (λ k. k < length (c ∷ cs) → Known (c ∷ cs) k) [ zero ↦ λ _. t | suc k ↦ λ h. f k (omega arith) ]
+    go (Some i) t f =
         record {
           inside = omega (arith, f.inside);
           before = λ k. elim k as (λ k. k < suc i → Known (c ∷ cs) k) [ zero ↦ λ _. t | suc k ↦ λ h. f.before k (omega arith) ];
@@ -212,13 +210,13 @@ first_bad_is (c ∷ cs) = if_ind (BadMarks (c ∷ cs)) (known (overall_mark c)) 
         }
 
 -- the mark that is found is the first bad one
-pub first_bad→ : (os : List ℕ) (i : ℕ) → first_bad os ≡ some i → FirstBad os i
+pub first_bad→ : (os : List ℕ) (i : ℕ) → first_bad os ≡ Some i → FirstBad os i
 first_bad→ os i e = subst (BadMarks os) e (first_bad_is os)
 
 -- ---- the last `@`
 -- one mark on: the board that is due, as far as it is known
-pub last_at_steps : (i : ℕ) (os : List ℕ) (d : NextBoard) → i < length os
-    → last_at i (drop i os) d ≡ last_at (suc i) (drop (suc i) os) (when eqb (get_or os i 0) at_mark then (λ _. Only i) else λ _. d)
+pub last_at_steps : (i : ℕ) (os : List ℕ) (d : Option ℕ) → i < length os
+    → last_at i (drop i os) d ≡ last_at (suc i) (drop (suc i) os) (when eqb (get_or os i 0) at_mark then (λ _. Some i) else λ _. d)
 unfolding last_at
 last_at_steps i os d h = ap (λ (cs : List ℕ). last_at i cs d) (drop-cons os i 0 h)
 
@@ -235,32 +233,32 @@ none_at_all c cs n f zero _ _ = n
 none_at_all c cs n f (suc k) _ l = f k (omega arith) (omega arith)
 
 -- it is the last place that holds `@`, or with none what was due before
-pub last_at_cases {κ} : (P : NextBoard → Type κ) (i : ℕ) (os : List ℕ) (d : NextBoard) →
-    (NoneAt os 0 → P d) → ((k : ℕ) → k < length os → get_or os k 0 ≡ at_mark → NoneAt os (suc k) → P (Only (i + k))) →
+pub last_at_cases {κ} : (P : Option ℕ → Type κ) (i : ℕ) (os : List ℕ) (d : Option ℕ) →
+    (NoneAt os 0 → P d) → ((k : ℕ) → k < length os → get_or os k 0 ≡ at_mark → NoneAt os (suc k) → P (Some (i + k))) →
     P (last_at i os d)
 unfolding last_at
 last_at_cases P i [] d x f = x (λ k _ h. absurd (omega arith))
 last_at_cases P i (c ∷ cs) d x f = last_at_cases P (suc i) cs _
     (λ n. if_equal P c at_mark _ _
-    (λ e. subst (λ (k : ℕ). P (Only k)) (omega arith) (f 0 (omega arith) e (none_at_later c cs 0 n)))
+    (λ e. subst (λ (k : ℕ). P (Some k)) (omega arith) (f 0 (omega arith) e (none_at_later c cs 0 n)))
     (λ m. x (none_at_all c cs m n)))
-    (λ k h e n. subst (λ (k : ℕ). P (Only k)) (omega arith) (f (suc k) (omega arith) e (none_at_later c cs (suc k) n)))
+    (λ k h e n. subst (λ (k : ℕ). P (Some k)) (omega arith) (f (suc k) (omega arith) e (none_at_later c cs (suc k) n)))
 
 -- without an `@` nothing becomes due
-pub last_at_none : (os : List ℕ) (d : NextBoard) → NoneAt os 0 → last_at 0 os d ≡ d
+pub last_at_none : (os : List ℕ) (d : Option ℕ) → NoneAt os 0 → last_at 0 os d ≡ d
 last_at_none os d n = last_at_cases (λ r. r ≡ d) 0 os d (λ _. refl) (λ k h e _. absurd (n k (omega arith) h e))
 
 -- the last `@` is due
-pub last_at_is : (os : List ℕ) (d : NextBoard) (i : ℕ) → i < length os → get_or os i 0 ≡ at_mark → NoneAt os (suc i) →
-    last_at 0 os d ≡ Only i
-last_at_is os d i h e n = last_at_cases (λ r. r ≡ Only i) 0 os d
+pub last_at_is : (os : List ℕ) (d : Option ℕ) (i : ℕ) → i < length os → get_or os i 0 ≡ at_mark → NoneAt os (suc i) →
+    last_at 0 os d ≡ Some i
+last_at_is os d i h e n = last_at_cases (λ r. r ≡ Some i) 0 os d
     (λ m. absurd (m i (omega arith) h e)) (λ k l f m. go k l f m (is (ltb i k)) (is (ltb k i)))
   where
     go : (k : ℕ) → k < length os → get_or os k 0 ≡ at_mark → NoneAt os (suc k)
-        → T (ltb i k) ⊎ T (not (ltb i k)) → T (ltb k i) ⊎ T (not (ltb k i)) → Only (0 + k) ≡ Only i
+        → T (ltb i k) ⊎ T (not (ltb i k)) → T (ltb k i) ⊎ T (not (ltb k i)) → Some (0 + k) ≡ Some i
     go k l f m (inl t) u = absurd (n k (ltb→lt i k t) l f)
     go k l f m (inr t) (inl u) = absurd (m i (ltb→lt k i u) h e)
-    go k l f m (inr t) (inr u) = ap Only (omega (arith, nltb→le))
+    go k l f m (inr t) (inr u) = ap Some (omega (arith, nltb→le))
 
 -- ---- the fault of a byte of the cells
 -- byte i is a cell's mark

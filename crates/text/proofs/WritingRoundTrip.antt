@@ -1,9 +1,9 @@
 -- A written position reads back as itself. All that is read, and all that is played from the empty board, can be so written.
+use Rattle.std.specs.Prelude.{Option, None, Some}
 use mathlib.Core.Path.{◌≡◌, refl, sym, ap, ◌∙◌, subst, fun_ext}
 use mathlib.Core.Bool.{◌||◌}
 use mathlib.Core.List.{List, [], ◌∷◌}
 use mathlib.Core.Logic.{inl, inr}
-use mathlib.Core.Option.{none, some}
 use Prim.Native.Nat.{ℕ, ◌+◌, ◌-◌, ◌*◌, ◌/◌, ◌%◌, ◌≤◌, ◌<◌}
 use native.Mathlib.Decide.{ℕ_discrete}
 use native.Mathlib.Omega.{arith}
@@ -20,8 +20,6 @@ use Rattle.rules.specs.declared.CellState.{CellState}
 use Rattle.rules.specs.declared.CellState.TheVariants.{Empty, Played}
 use Rattle.rules.specs.declared.GameState.{GameState}
 use Rattle.rules.specs.declared.GameState.TheVariants.{InPlay, Drawn, Won}
-use Rattle.rules.specs.declared.NextBoard.{NextBoard}
-use Rattle.rules.specs.declared.NextBoard.TheVariants.{Any, Only}
 use Rattle.rules.specs.Board.{other, in_play, won_by, has_line, result_of}
 use Rattle.rules.specs.Position.{same_next_board, Position, start}
 use Rattle.rules.specs.Play.{board_of, cell_of, after, tried, reached}
@@ -41,23 +39,23 @@ use Rattle.text.proofs.Writing.{slash_every_tenth, cell_elsewhere, text_has_101_
 use Rattle.text.proofs.Writing.{cells_have_89_bytes, cells_at}
 
 -- ---- each byte reads as what it was written for
-side_reads : (w : Player) → side_of (letter w) ≡ some w
+side_reads : (w : Player) → side_of (letter w) ≡ Some w
 unfolding side_of when◌then◌else◌
 side_reads X = refl
 side_reads O = refl
 
-state_reads : (g : GameState) → overall_mark (state_byte g) ≡ some g
+state_reads : (g : GameState) → overall_mark (state_byte g) ≡ Some g
 unfolding overall_mark side_of when◌then◌else◌
 state_reads InPlay = refl
 state_reads Drawn = refl
 state_reads (Won X) = refl
 state_reads (Won O) = refl
 
-at_reads : overall_mark at_mark ≡ some InPlay
+at_reads : overall_mark at_mark ≡ Some InPlay
 unfolding overall_mark when◌then◌else◌
 at_reads = refl
 
-cell_reads : (s : CellState) → cell_mark (cell_byte s) ≡ some s
+cell_reads : (s : CellState) → cell_mark (cell_byte s) ≡ Some s
 unfolding cell_mark side_of when◌then◌else◌
 cell_reads Empty = refl
 cell_reads (Played X) = refl
@@ -84,7 +82,7 @@ Plain c = c ≡ semicolon → ⊥
 
 overall_is_plain : (p : Position) (b : ℕ) → Plain (overall_byte p b)
 unfolding overall_byte
-overall_is_plain p b = if_ind Plain (same_next_board p.next_board (Only b)) _ _
+overall_is_plain p b = if_ind Plain (same_next_board p.next_board (Some b)) _ _
     (λ _ e. omega arith) (λ _. state_differs semicolon (lit< tt) (lit< tt) (p.states b))
 
 cells_are_plain : (p : Position) (k : ℕ) → Plain (cells_byte p k)
@@ -111,19 +109,19 @@ text_parts p =
     clear i j f k a b e = let r = f k a b in byte_is_plain p k r.0 r.1 (sym (text_at p k r.2) ∙ e)
 
 -- ---- the board that is due, and no other, has an `@`
-same_due→eq : (d : NextBoard) (b : ℕ) → T (same_next_board d (Only b)) → d ≡ Only b
-same_due→eq Any b t = absurd t
-same_due→eq (Only c) b t = ap Only (eqb→eq c b t)
+same_due→eq : (d : Option ℕ) (b : ℕ) → T (same_next_board d (Some b)) → d ≡ Some b
+same_due→eq None b t = absurd t
+same_due→eq (Some c) b t = ap Some (eqb→eq c b t)
 
-at_is_due : (p : Position) (b : ℕ) → overall_byte p b ≡ at_mark → p.next_board ≡ Only b
+at_is_due : (p : Position) (b : ℕ) → overall_byte p b ≡ at_mark → p.next_board ≡ Some b
 unfolding overall_byte
-at_is_due p b = if_ind (λ c. c ≡ at_mark → p.next_board ≡ Only b) (same_next_board p.next_board (Only b)) _ _
+at_is_due p b = if_ind (λ c. c ≡ at_mark → p.next_board ≡ Some b) (same_next_board p.next_board (Some b)) _ _
     (λ t _. same_due→eq p.next_board b t) (λ _ e. absurd (state_differs at_mark (lit< tt) (lit< tt) (p.states b) e))
 
-due_has_at : (p : Position) (b : ℕ) → p.next_board ≡ Only b → overall_byte p b ≡ at_mark
+due_has_at : (p : Position) (b : ℕ) → p.next_board ≡ Some b → overall_byte p b ≡ at_mark
 unfolding overall_byte
-due_has_at p b e = if_ind (λ c. c ≡ at_mark) (same_next_board p.next_board (Only b)) _ _
-    (λ _. refl) (λ n. absurd (T_not (same_next_board p.next_board (Only b)) n (rw e (eqb_refl b))))
+due_has_at p b e = if_ind (λ c. c ≡ at_mark) (same_next_board p.next_board (Some b)) _ _
+    (λ _. refl) (λ n. absurd (T_not (same_next_board p.next_board (Some b)) n (rw e (eqb_refl b))))
 
 -- ---- positions that can be written: proper, with the state that the side not to move has left, and nothing beyond the nine boards
 pub record Written (p : Position) : Type 0 where
@@ -150,29 +148,29 @@ module _ (p : Position) (z : Written p) where
   unfolding proper
   due_is_open = (and→ (next_board_open p p.next_board) _ z.is_proper).0
 
-  due_back : last_at 0 (marks_of p) Any ≡ p.next_board
+  due_back : last_at 0 (marks_of p) None ≡ p.next_board
   due_back = go p.next_board refl due_is_open
     where
-      no_other : (b : ℕ) → b < 9 → get_or (marks_of p) b 0 ≡ at_mark → p.next_board ≡ Only b
+      no_other : (b : ℕ) → b < 9 → get_or (marks_of p) b 0 ≡ at_mark → p.next_board ≡ Some b
       no_other b h e = at_is_due p b (sym (marks_at p b h) ∙ e)
 
-      go : (d : NextBoard) → p.next_board ≡ d → T (next_board_open p d) → last_at 0 (marks_of p) Any ≡ d
-      go Any e t = last_at_none (marks_of p) Any (λ k _ h m. let x = no_other k h m in let y : ◌≡◌ {A = ℕ} 0 1 = cc in omega arith)
-      go (Only b) e t =
+      go : (d : Option ℕ) → p.next_board ≡ d → T (next_board_open p d) → last_at 0 (marks_of p) None ≡ d
+      go None e t = last_at_none (marks_of p) None (λ k _ h m. let x = no_other k h m in let y : ◌≡◌ {A = ℕ} 0 1 = cc in omega arith)
+      go (Some b) e t =
           let h = ltb→lt b 9 (and→ (ltb b 9) _ t).0 in
-          last_at_is (marks_of p) Any b h (marks_at p b h ∙ due_has_at p b e)
+          last_at_is (marks_of p) None b h (marks_at p b h ∙ due_has_at p b e)
           (λ k l m f. let x = no_other k m f in let y : b ≡ k = cc in omega arith)
 
   -- an overall mark reads as the board's state: the board that is due is in play
-  mark_reads : (b : ℕ) → overall_mark (overall_byte p b) ≡ some (p.states b)
+  mark_reads : (b : ℕ) → overall_mark (overall_byte p b) ≡ Some (p.states b)
   unfolding overall_byte
-  mark_reads b = if_ind (λ c. overall_mark c ≡ some (p.states b)) (same_next_board p.next_board (Only b)) _ _
+  mark_reads b = if_ind (λ c. overall_mark c ≡ Some (p.states b)) (same_next_board p.next_board (Some b)) _ _
       (λ t.
-      let due = subst (λ (d : NextBoard). T (next_board_open p d)) (same_due→eq p.next_board b t) due_is_open in
-      at_reads ∙ ap some (sym (in_play_is (p.states b) (and→ (ltb b 9) _ due).1)))
+      let due = subst (λ (d : Option ℕ). T (next_board_open p d)) (same_due→eq p.next_board b t) due_is_open in
+      at_reads ∙ ap Some (sym (in_play_is (p.states b) (and→ (ltb b 9) _ due).1)))
       (λ _. state_reads (p.states b))
 
-  marks_are_known : first_bad (marks_of p) ≡ none
+  marks_are_known : first_bad (marks_of p) ≡ None
   marks_are_known = →none_bad (marks_of p) (λ k h. rw (marks_at p k h, mark_reads k) tt)
 
   outside : Filled (said p.turn (marks_of p) (cells_of p))

@@ -1,7 +1,6 @@
 -- One line of the program: what it asks, and the text of the answer.
-use Rattle.std.specs.Prelude.{Bool, true, false, ◌&&◌, List, [], ◌∷◌, ◌++◌, ℕ, zero, suc, ◌+◌, ◌-◌, ◌*◌, ◌/◌, ◌%◌, eqb}
+use Rattle.std.specs.Prelude.{Bool, true, false, ◌&&◌, List, [], ◌∷◌, ◌++◌, ℕ, zero, suc, ◌+◌, ◌-◌, ◌*◌, ◌/◌, ◌%◌, eqb, Option, None, Some}
 use Rattle.std.specs.Prelude.{leb, ltb, ℤ, pos, negsuc}
-use Rattle.std.proofs.Math.Option.{Option, none, some}
 use Rattle.base.specs.Branch.{when◌then◌else◌}
 use Rattle.rules.specs.declared.Player.TheVariants.{X, O}
 use Rattle.rules.specs.Status.{Status}
@@ -29,10 +28,10 @@ is_digit c = leb first_digit c && leb c (first_digit + 9)
 
 -- one or two digits
 unfoldable pub depth_of : List ℕ → Option ℕ
-depth_of [] = none
-depth_of (c ∷ []) = when is_digit c then (λ _. some (c - first_digit)) else λ _. none
-depth_of (c ∷ d ∷ []) = when is_digit c && is_digit d then (λ _. some (10 * (c - first_digit) + (d - first_digit))) else λ _. none
-depth_of (c ∷ d ∷ e ∷ cs) = none
+depth_of [] = None
+depth_of (c ∷ []) = when is_digit c then (λ _. Some (c - first_digit)) else λ _. None
+depth_of (c ∷ d ∷ []) = when is_digit c && is_digit d then (λ _. Some (10 * (c - first_digit) + (d - first_digit))) else λ _. None
+depth_of (c ∷ d ∷ e ∷ cs) = None
 
 pub data Question : Type 0 where
   -- 19
@@ -40,8 +39,8 @@ pub data Question : Type 0 where
   asks : (text : List ℕ) (depth : ℕ) → Question
 
 abbrev pub asks_with : List ℕ → Option ℕ → Question
-asks_with text none = no_depth
-asks_with text (some depth) = asks text depth
+asks_with text None = no_depth
+asks_with text (Some depth) = asks text depth
 
 abbrev pub asked_by : Parted → Question
 asked_by no_blank = no_depth

@@ -1,10 +1,9 @@
 -- A position as a text of 101 bytes.
-use Rattle.std.specs.Prelude.{◌||◌, List, [], ◌∷◌, ◌++◌, map, ℕ, ◌-◌, ◌/◌, ◌%◌, eqb, ltb}
+use Rattle.std.specs.Prelude.{◌||◌, List, [], ◌∷◌, ◌++◌, map, ℕ, ◌-◌, ◌/◌, ◌%◌, eqb, ltb, Some}
 use Rattle.rules.specs.declared.CellState.{CellState}
 use Rattle.rules.specs.declared.CellState.TheVariants.{Empty, Played}
 use Rattle.rules.specs.declared.GameState.{GameState}
 use Rattle.rules.specs.declared.GameState.TheVariants.{InPlay, Drawn, Won}
-use Rattle.rules.specs.declared.NextBoard.TheVariants.{Only}
 use Rattle.base.specs.Branch.{when◌then◌else◌}
 use Rattle.rules.specs.Board.{nine}
 use Rattle.rules.specs.Position.{Position, same_next_board}
@@ -21,7 +20,7 @@ cell_byte (Played w) = letter w
 
 -- the board that is due is marked, whatever its state
 unfoldable pub overall_byte : Position → ℕ → ℕ
-overall_byte p b = when same_next_board p.next_board (Only b) then (λ _. at_mark) else λ _. state_byte (p.states b)
+overall_byte p b = when same_next_board p.next_board (Some b) then (λ _. at_mark) else λ _. state_byte (p.states b)
 
 unfoldable pub board_text : Position → ℕ → List ℕ
 board_text p b = map (λ c. cell_byte (p.cells b c)) nine

@@ -1,9 +1,9 @@
 -- A position that is not over, of which no move is accepted and the table has no entry: depth 1 finds the window's lower edge, which ends
 -- the search.
+use Rattle.std.specs.Prelude.{None}
 use mathlib.Core.Path.{◌≡◌, ap, ◌∙◌}
 use mathlib.Core.Bool.{false}
 use mathlib.Core.List.{List, [], ◌∷◌}
-use mathlib.Core.Option.{none}
 use Prim.Native.Nat.{ℕ, zero, suc, ◌≤◌, ◌<◌}
 use native.Mathlib.Omega.{arith}
 use lib.Dec.{T}
@@ -38,7 +38,7 @@ module _ (G : Game) (n : ℕ) (p : G.Pos) (s : Memory) where
       ∙ count_enter (begin s) ∙ ap suc (count_begin s)
 
   module _ (Going_on : G.over p ≡ false) (none_accepted : (m : ℕ) → T (G.accepts p m) → ⊥)
-      (unknown : look_up s.table (G.key p) ≡ none) (room : s.count < n) where
+      (unknown : look_up s.table (G.key p) ≡ None) (room : s.count < n) where
     abbrev pv : List ℕ
     pv = no_move ∷ []
 

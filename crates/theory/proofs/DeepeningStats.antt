@@ -1,9 +1,9 @@
 -- For every game: a depth's visited are just the positions that it enters, and the stats stand in the order of their depths.
+use Rattle.std.specs.Prelude.{Option, None, Some}
 use mathlib.Core.Path.{◌≡◌, refl, sym, ap, ◌∙◌}
 use mathlib.Core.Bool.{not}
 use mathlib.Core.List.{List, [], ◌∷◌, ◌++◌}
 use mathlib.Core.Logic.{inl, inr}
-use mathlib.Core.Option.{Option, none, some}
 use Prim.Native.Nat.{ℕ, zero, suc, ◌+◌, ◌≤◌, ◌<◌}
 use native.Mathlib.Omega.{arith}
 use lib.Dec.{T}
@@ -45,8 +45,8 @@ even_leaf s = omega arith
 
 even_probed : (s : Memory) (d : ℕ) (a b : ℤ) (e : Option Entry) → Leaves (Even s) (probed (enter s) d a b e)
 unfolding probed enter hit answered
-even_probed s d a b none = omega arith
-even_probed s d a b (some e) = if_ind (Leaves (Even s)) (suffices e d a b) _ _ (λ _. omega arith) (λ _. omega arith)
+even_probed s d a b None = omega arith
+even_probed s d a b (Some e) = if_ind (Leaves (Even s)) (suffices e d a b) _ _ (λ _. omega arith) (λ _. omega arith)
 
 even_cut : (s t : Memory) (w : Player) (prev m : ℕ) → Even s t → Even s (cut w t prev m)
 unfolding cut

@@ -1,7 +1,7 @@
 -- What the operations of a search do to its memory: only entering a position counts, and a table that is off stays off and answers nothing.
+use Rattle.std.specs.Prelude.{Option, None, Some}
 use mathlib.Core.Path.{◌≡◌, refl, ap, ◌∙◌}
 use mathlib.Core.List.{List, []}
-use mathlib.Core.Option.{Option, none, some}
 use Prim.Native.Nat.{ℕ, suc, ◌<◌}
 use lib.Dec.{T, T_not}
 use lib.IntN.{ℤ}
@@ -54,8 +54,8 @@ Leaves P (missed ms s) = P s
 probed_leaves : (P : Memory → Type 0) (s : Memory) (d : ℕ) (a b : ℤ) (e : Option Entry) → P s → P (hit s) →
     P (answered (hit s)) → Leaves P (probed s d a b e)
 unfolding probed
-probed_leaves P s d a b none h k l = h
-probed_leaves P s d a b (some e) h k l = if_ind (Leaves P) (suffices e d a b) _ _ (λ _. l) (λ _. k)
+probed_leaves P s d a b None h k l = h
+probed_leaves P s d a b (Some e) h k l = if_ind (Leaves P) (suffices e d a b) _ _ (λ _. l) (λ _. k)
 
 pub count_probe : (s : Memory) (key d : ℕ) (a b : ℤ) → Leaves (λ z. z.count ≡ s.count) (probe s key d a b)
 count_probe s key d a b =
@@ -90,9 +90,9 @@ off_cut X s prev m t = t
 off_cut O s prev m t = t
 
 -- it has no entry
-pub look_up_off : (words : List ℕ) (h : ℕ) → T (off words) → look_up words h ≡ none
+pub look_up_off : (words : List ℕ) (h : ℕ) → T (off words) → look_up words h ≡ None
 unfolding look_up
-look_up_off words h t = if_ind (λ e. e ≡ none) (off words) _ _ (λ _. refl) (λ u. absurd (T_not (off words) u t))
+look_up_off words h t = if_ind (λ e. e ≡ None) (off words) _ _ (λ _. refl) (λ u. absurd (T_not (off words) u t))
 
 -- and takes none
 pub store_off : (words : List ℕ) (h : ℕ) (e : Entry) → T (off words) → store words h e ≡ words

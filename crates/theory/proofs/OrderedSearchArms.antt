@@ -1,8 +1,8 @@
 -- The arms of the search and of one turn over the moves, as equations: each test that a definition makes, answered, leaves that test's arm.
+use Rattle.std.specs.Prelude.{Option, None, Some}
 use mathlib.Core.Path.{◌≡◌, refl, sym, ap, ◌∙◌}
 use mathlib.Core.Bool.{Bool, true, false, ◌||◌, true≢false, false≢true}
 use mathlib.Core.List.{List, [], ◌∷◌, ◌++◌}
-use mathlib.Core.Option.{Option, none, some}
 use Prim.Native.Nat.{ℕ, zero, suc, ◌-◌, ◌<◌}
 use native.Mathlib.Omega.{arith}
 use lib.Dec.{eqb, eqb→eq}
@@ -69,25 +69,25 @@ module _ (G : Game) (n : Allowance) (d : ℕ) (p : G.Pos) (a b : ℤ) (pv : List
       ∙ ap (λ (y : Option Entry). acted G n p a b pv prev (d - 1) d (probed (enter s) d a b y)) l
 
   -- its entry suffices
-  pub search_known : (e : Entry) → look_up s.table (G.key p) ≡ some e → suffices e d a b ≡ true →
+  pub search_known : (e : Entry) → look_up s.table (G.key p) ≡ Some e → suffices e d a b ≡ true →
       search G n d p a b pv prev s ≡ found e.value (set_first e.move pv) (answered (hit (enter s)))
   unfolding probed on_probe when◌then◌else◌
-  search_known e l t = asked (some e) l ∙ rw t
+  search_known e l t = asked (Some e) l ∙ rw t
 
   -- it has none
-  pub search_none : look_up s.table (G.key p) ≡ none → search G n d p a b pv prev s
+  pub search_none : look_up s.table (G.key p) ≡ None → search G n d p a b pv prev s
       ≡ unless_stopped (over_moves G (search G n (d - 1)) p b prev (candidates G [] (enter s) p prev pv) a pv (replicate (d - 1) no_move)
       (enter s)) (λ r line' s₃. found r line' (with_stored s₃ (G.key p) d a b r line'))
   unfolding probed on_probe
-  search_none l = asked none l
+  search_none l = asked None l
 
   -- its entry does not suffice: its move is tried first
-  pub search_some : (e : Entry) → look_up s.table (G.key p) ≡ some e → suffices e d a b ≡ false →
+  pub search_some : (e : Entry) → look_up s.table (G.key p) ≡ Some e → suffices e d a b ≡ false →
       search G n d p a b pv prev s
       ≡ unless_stopped (over_moves G (search G n (d - 1)) p b prev (candidates G (e.move ∷ []) (hit (enter s)) p prev pv) a pv
       (replicate (d - 1) no_move) (hit (enter s))) (λ r line' s₃. found r line' (with_stored s₃ (G.key p) d a b r line'))
   unfolding probed on_probe when◌then◌else◌
-  search_some e l t = asked (some e) l ∙ rw t
+  search_some e l t = asked (Some e) l ∙ rw t
 
 -- ---- the moves that are tried
 -- one turn of `fresh` from each of two lists seen: ok is whether the move is accepted, c and c' whether it was seen, w and w' what is left

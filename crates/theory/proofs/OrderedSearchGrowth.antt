@@ -1,8 +1,8 @@
 -- No count grows faster than the positions entered, and none is entered beyond the allowance: a position is entered before anything else is
 -- counted for it, and each of the other counts rises for it at most once.
+use Rattle.std.specs.Prelude.{Option, None, Some}
 use mathlib.Core.Path.{◌≡◌, refl}
 use mathlib.Core.List.{List, [], ◌∷◌}
-use mathlib.Core.Option.{Option, none, some}
 use Prim.Native.Nat.{ℕ, zero, suc, ◌+◌, ◌≤◌}
 use native.Mathlib.Omega.{arith}
 use lib.Dec.{T, ltb→lt}
@@ -189,8 +189,8 @@ entered_answered s =
 
 entered_probed : (s : Memory) (d : ℕ) (a b : ℤ) (e : Option Entry) → Leaves (Entered s) (probed (enter s) d a b e)
 unfolding probed
-entered_probed s d a b none = entered s
-entered_probed s d a b (some e) = if_ind (Leaves (Entered s)) (suffices e d a b) _ _ (λ _. entered_answered s) (λ _. entered_hit s)
+entered_probed s d a b None = entered s
+entered_probed s d a b (Some e) = if_ind (Leaves (Entered s)) (suffices e d a b) _ _ (λ _. entered_answered s) (λ _. entered_hit s)
 
 entered_probe : (s : Memory) (key d : ℕ) (a b : ℤ) → Leaves (Entered s) (probe (enter s) key d a b)
 entered_probe s key d a b = entered_probed s d a b (look_up (enter s).table key)

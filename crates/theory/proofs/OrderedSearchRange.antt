@@ -1,7 +1,7 @@
 -- A score stays within the root's window if every evaluation does: a score is an evaluation, an edge of a window within it, a table's
 -- value, which is tested, or the negative of such a score, and the root's window is its own negative.
+use Rattle.std.specs.Prelude.{Option, None, Some}
 use mathlib.Core.List.{List, [], ◌∷◌}
-use mathlib.Core.Option.{Option, none, some}
 use Prim.Native.Nat.{ℕ, zero, suc, ◌/◌, ◌%◌}
 use lib.Dec.{leb, ltb}
 use lib.IntN.{ℤ, neg_ℤ}
@@ -28,8 +28,8 @@ within_neg z h = (omega (zarith, ng z, h.1), omega (zarith, ng z, h.0))
 
 -- ---- a table's value
 abbrev ValueWithin : Option Entry → Type 0
-ValueWithin none = Unit {0}
-ValueWithin (some e) = Within e.value
+ValueWithin None = Unit {0}
+ValueWithin (Some e) = Within e.value
 
 entry_within : (value rest : ℕ) → ValueWithin (entry_of value rest)
 unfolding entry_of
@@ -50,8 +50,8 @@ KnownWithin (missed ms s) = Unit {0}
 
 probed_within : (s : Memory) (d : ℕ) (a b : ℤ) (e : Option Entry) → ValueWithin e → KnownWithin (probed s d a b e)
 unfolding probed
-probed_within s d a b none h = tt
-probed_within s d a b (some e) h = if_ind KnownWithin (suffices e d a b) _ _ (λ _. h) (λ _. tt)
+probed_within s d a b None h = tt
+probed_within s d a b (Some e) h = if_ind KnownWithin (suffices e d a b) _ _ (λ _. h) (λ _. tt)
 
 -- ---- a score
 abbrev ScoreWithin : ℤ → List ℕ → Memory → Type 0

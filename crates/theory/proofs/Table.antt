@@ -1,8 +1,8 @@
 -- The table, on rows of six words: two entries. What is read and written is worked out from the layout, word by word.
+use Rattle.std.specs.Prelude.{Option, None, Some}
 use mathlib.Core.Path.{◌≡◌, refl}
 use mathlib.Core.Bool.{true, false}
 use mathlib.Core.List.{List, [], ◌∷◌}
-use mathlib.Core.Option.{Option, none, some}
 use Prim.Native.Nat.{ℕ}
 use lib.IntN.{ℤ, pos, negsuc}
 use Rattle.base.specs.Branch.{when◌then◌else◌}
@@ -32,12 +32,12 @@ unfolding store off begins entry_of from_word when◌then◌else◌
 stored = store
 
 -- an entry is written to its slot, and read again
-entry_kept : (stored zeros 7 (entry (negsuc 2) 4 1 0x44) ≡ seven) × (looked seven 7 ≡ some (entry (negsuc 2) 4 1 0x44))
+entry_kept : (stored zeros 7 (entry (negsuc 2) 4 1 0x44) ≡ seven) × (looked seven 7 ≡ Some (entry (negsuc 2) 4 1 0x44))
 unfolding stored looked
 entry_kept = (refl, refl)
 
 -- it is not taken for another position's of the same slot, nor for one of another slot
-entry_of_its_own : (looked seven 9 ≡ none) × (looked seven 8 ≡ none) × (looked zeros 0 ≡ none)
+entry_of_its_own : (looked seven 9 ≡ None) × (looked seven 8 ≡ None) × (looked zeros 0 ≡ None)
 unfolding looked
 entry_of_its_own = (refl, refl, refl)
 
@@ -48,8 +48,8 @@ unfolding stored
 deeper_replaces = (refl, refl, refl, refl)
 
 -- with fewer than three words nothing is read or written
-too_short : (looked (7 ∷ 5 ∷ []) 7 ≡ none) × (stored (7 ∷ 5 ∷ []) 7 (entry (pos 5) 4 0 0x11) ≡ 7 ∷ 5 ∷ []) ×
-    (looked [] 7 ≡ none)
+too_short : (looked (7 ∷ 5 ∷ []) 7 ≡ None) × (stored (7 ∷ 5 ∷ []) 7 (entry (pos 5) 4 0 0x11) ≡ 7 ∷ 5 ∷ []) ×
+    (looked [] 7 ≡ None)
 unfolding looked stored
 too_short = (refl, refl, refl)
 
@@ -58,20 +58,20 @@ unfolding entry_of from_word when◌then◌else◌
 read = entry_of
 
 -- an entry is absent with depth 0 or 82, bound 3, or a bit beyond the move
-absent_rest : (read 5 4456704 ≡ none) × (read 5 4456786 ≡ none) × (read 5 4457220 ≡ none) × (read 5 16777476 ≡ none) ×
-    (read 5 9223372036859232516 ≡ none)
+absent_rest : (read 5 4456704 ≡ None) × (read 5 4456786 ≡ None) × (read 5 4457220 ≡ None) × (read 5 16777476 ≡ None) ×
+    (read 5 9223372036859232516 ≡ None)
 unfolding read
 absent_rest = (refl, refl, refl, refl, refl)
 
 -- or a value of 2^60 + 2 or more, or -2^60 - 2 or less
-absent_value : (read 1152921504606846978 4456708 ≡ none) × (read 17293822569102704638 4456708 ≡ none)
+absent_value : (read 1152921504606846978 4456708 ≡ None) × (read 17293822569102704638 4456708 ≡ None)
 unfolding read
 absent_value = (refl, refl)
 
 -- it is there at each edge of these
-present : (read 5 4456785 ≡ some (entry (pos 5) 81 1 0x44)) × (read 5 4456964 ≡ some (entry (pos 5) 4 2 0x44)) ×
-    (read 5 16711940 ≡ some (entry (pos 5) 4 1 0xff)) × (read 1152921504606846977 4456708 ≡ some (entry highest 4 1 0x44)) ×
-    (read 17293822569102704639 4456708 ≡ some (entry lowest 4 1 0x44))
+present : (read 5 4456785 ≡ Some (entry (pos 5) 81 1 0x44)) × (read 5 4456964 ≡ Some (entry (pos 5) 4 2 0x44)) ×
+    (read 5 16711940 ≡ Some (entry (pos 5) 4 1 0xff)) × (read 1152921504606846977 4456708 ≡ Some (entry highest 4 1 0x44)) ×
+    (read 17293822569102704639 4456708 ≡ Some (entry lowest 4 1 0x44))
 unfolding read
 present = (refl, refl, refl, refl, refl)
 

@@ -1,6 +1,5 @@
 -- The ordered search: move by move in a given order, each scored by the same search one depth lower, as far as a window shows.
-use Rattle.std.specs.Prelude.{Bool, true, List, [], ◌∷◌, ◌++◌, ℕ, zero, suc, ltb, ℤ, neg_ℤ, get_or, replicate}
-use Rattle.std.proofs.Math.Option.{Option, none, some}
+use Rattle.std.specs.Prelude.{Bool, true, List, [], ◌∷◌, ◌++◌, ℕ, zero, suc, ltb, ℤ, neg_ℤ, get_or, replicate, Option, None, Some}
 use Rattle.std.specs.Int.Signed.{le_z, lt_z}
 use Rattle.base.specs.Branch.{when◌then◌else◌}
 use Rattle.base.specs.Lists.{elem}
@@ -37,8 +36,8 @@ pub data Probed : Type 0 where
   missed : List ℕ → Memory → Probed
 
 unfoldable pub probed : Memory → ℕ → ℤ → ℤ → Option Entry → Probed
-probed s depth a b none = missed [] s
-probed s depth a b (some e) =
+probed s depth a b None = missed [] s
+probed s depth a b (Some e) =
     when suffices e depth a b then (λ _. known e.value e.move (answered (hit s))) else λ _. missed (e.move ∷ []) (hit s)
 
 abbrev pub probe : Memory → ℕ → ℕ → ℤ → ℤ → Probed

@@ -1,7 +1,6 @@
 -- The table: words of 64 bits, three for each entry (the hash; the value; depth, bound and move in one word).
-use Rattle.std.specs.Prelude.{Bool, true, ◌&&◌, List, ℕ, zero, suc, ◌+◌, ◌-◌, ◌*◌, ◌/◌, ◌%◌, eqb, leb, ltb, ℤ, pos}
+use Rattle.std.specs.Prelude.{Bool, true, ◌&&◌, List, ℕ, zero, suc, ◌+◌, ◌-◌, ◌*◌, ◌/◌, ◌%◌, eqb, leb, ltb, ℤ, pos, Option, None, Some}
 use Rattle.std.specs.Prelude.{negsuc, length, get_or, set}
-use Rattle.std.proofs.Math.Option.{Option, none, some}
 use Rattle.std.specs.Int.Signed.{le_z}
 use Rattle.base.specs.Branch.{when◌then◌else◌}
 use Rattle.theory.specs.Limits.{console}
@@ -34,8 +33,8 @@ entry_of value rest =
     let bound = rest / 256 % 256 in
     let move = rest / 65536 in
     when ltb 0 depth && (leb depth console.deepest && (leb bound 2 && (leb move 255 && (le_z lowest v && le_z v highest))))
-    then (λ _. some (record { value = v; depth = depth; bound = bound; move = move }))
-    else λ _. none
+    then (λ _. Some (record { value = v; depth = depth; bound = bound; move = move }))
+    else λ _. None
 
 -- ---- the row
 -- with fewer than three words the table is off
@@ -48,14 +47,14 @@ begins words h = 3 * (h % (words / 3))
 
 unfoldable pub look_up : List ℕ → ℕ → Option Entry
 look_up words h =
-    when off words then (λ _. none) else
+    when off words then (λ _. None) else
     λ _. let i = begins (length words) h in
-    when eqb (get_or words i 0) h then (λ _. entry_of (get_or words (i + 1) 0) (get_or words (i + 2) 0)) else λ _. none
+    when eqb (get_or words i 0) h then (λ _. entry_of (get_or words (i + 1) 0) (get_or words (i + 2) 0)) else λ _. None
 
 -- what is stored goes where no entry is, or one of less depth
 abbrev pub replaces : ℕ → Option Entry → Bool
-replaces depth none = true
-replaces depth (some e) = ltb e.depth depth
+replaces depth None = true
+replaces depth (Some e) = ltb e.depth depth
 
 unfoldable pub store : List ℕ → ℕ → Entry → List ℕ
 store words h e =

@@ -1,39 +1,37 @@
 -- Refused as unsound, refused by play, or judged.
+use Rattle.std.specs.Prelude.{Err}
 use mathlib.Core.Path.{◌≡◌, refl, sym, ap, ◌∙◌}
-use Rattle.boards.specs.Answers.{move_error_number, answer_number}
-use Rattle.rules.specs.Play.{play}
-use Rattle.game.specs.After.{refusal}
+use Rattle.std.proofs.Common.{rules}
+use Rattle.endgame.specs.declared.MoveStatusError.TheVariants.{Unsound as NotSound, Refused}
+use Rattle.rules.specs.Endgame.{judge}
+use Rattle.status.specs.Sets.{status_of}
+use Rattle.game.specs.declared.Game.{Game}
 use Rattle.game.specs.Meaning.{position_of}
-use Rattle.game.proofs.After.{some_number}
+use Rattle.boards.proofs.Answers.{error_not_0}
 use Rattle.endgame.proofs.MeansAnswers.{judges_as, tried_first, may_judge, judged_played, judged_refused}
 use Rattle.endgame.proofs.evaluate_move.Goals as goal
-use Rattle.endgame.proofs.evaluate_move.Goals.{In-Accepted}
 
-pub returns-then-is_unsound : goal.returns-then-is_unsound
-returns-then-is_unsound c =
-    judges_as _ _ _ _ (tried_first (position_of c.args.pos) _
-    (sym c.is_unsound.ensures ∙ c.if-is_unsound.true)) refl c.unproven.ensures
+pub returns-in_err-check_sound : goal.returns-in_err-check_sound
+returns-in_err-check_sound c =
+    let e : c.from_residual.result ≡ Err NotSound = search rules in
+    rw e (judges_as _ _ _ _ (tried_first (position_of c.args.pos) _ c.in_err-check_sound.ensures) refl refl)
 
--- play accepts the move
-played : (c : In-Accepted) → refusal (play (position_of c.args.pos) c.args.m.bits) ≡ 0
-played c = sym c.make_move-tried.ensures.number ∙ ap answer_number c.in-Accepted.is
+pub returns-in_err-make_move : goal.returns-in_err-make_move
+returns-in_err-make_move c =
+    let why = c.in_err-make_move.field-0.0 in
+    let e : c.from_residual-in_err-make_move.result ≡ Err (Refused why) = search rules in
+    rw e (judges_as _ _ _ _ (judged_refused (position_of c.args.pos) _ (sym c.in_ok-check_sound.ensures) _ (error_not_0 why)
+    c.in_err-make_move.ensures.number) refl refl)
 
-pub move_status-requires : goal.move_status-requires
-move_status-requires c =
-    may_judge (position_of c.args.pos) _ (sym c.is_unsound.ensures ∙ c.if-is_unsound.false)
-    (played (goal.at.move_status-requires c).In-Accepted)
+pub of-requires : goal.of-requires
+of-requires c =
+    (may_judge (position_of c.args.pos) _ (sym c.in_ok-check_sound.ensures) (sym c.in_ok-make_move.ensures.number)).0
 
-pub returns-in-Accepted : goal.returns-in-Accepted
-returns-in-Accepted c =
-    judges_as _ _ _ _ (judged_played (position_of c.args.pos) _ (sym c.is_unsound.ensures ∙ c.if-is_unsound.false)
-    (played (goal.at.returns-in-Accepted c).In-Accepted)) refl
-    c.move_status.ensures
+pub evaluate_move-requires : goal.evaluate_move-requires
+evaluate_move-requires c =
+    (may_judge (position_of c.args.pos) _ (sym c.in_ok-check_sound.ensures) (sym c.in_ok-make_move.ensures.number)).1
 
-pub returns-in-Refused : goal.returns-in-Refused
-returns-in-Refused c =
-    let p = position_of c.args.pos in
-    judges_as _ _ _ _
-    (judged_refused p _ (sym c.is_unsound.ensures ∙ c.if-is_unsound.false)
-    (move_error_number c.in-Refused.why) (some_number c.in-Refused.why)
-    (sym (ap answer_number c.in-Refused.is) ∙ c.make_move-tried.ensures.number))
-    refl c.unproven-in-Refused.ensures
+pub returns : goal.returns
+returns c =
+    judges_as _ _ _ _ (judged_played (position_of c.args.pos) _ (sym c.in_ok-check_sound.ensures) (sym c.in_ok-make_move.ensures.number))
+    refl (c.evaluate_move.ensures ∙ ap (λ (g : Game). status_of (judge (position_of g) c.args.m.bits)) c.of.ensures)

@@ -1,34 +1,33 @@
 -- The tests that `live` has, in its order.
-use mathlib.Core.Path.{sym, refl, ◌∙◌}
+use mathlib.Core.Path.{sym, ap, refl, ◌∙◌}
+use mathlib.Core.Bool.{not}
 use borrow.Author.Tests.{eq-eqb, ne_eqb, not-true, not-false}
+use Rattle.std.proofs.Common.{rules}
 use Rattle.lines.proofs.Masks.{line_known}
 use Rattle.game.specs.Meaning.{position_of}
 use Rattle.endgame.proofs.PartsSets.{none_in}
 use Rattle.endgame.proofs.PartsSound.{live_closed, live_full, live_line_x, live_line_o}
 use Rattle.endgame.proofs.is_live.Goals as goal
+use Rattle.endgame.proofs.is_live.Goals.{then-free_squares-ne0, else-free_squares-ne0}
 
 pub returns-then-not-in_play : goal.returns-then-not-in_play
 returns-then-not-in_play c =
-    live_closed (position_of c.args.pos) _
-    (sym c.in_play.ensures ∙ c.if-not-in_play.true)
+    ap not c.if-not-in_play.true ∙ live_closed (position_of c.args.pos) _ (sym c.if-not-in_play.ensures)
 
-pub returns-then-free_squares-eq0 : goal.returns-then-free_squares-eq0
-returns-then-free_squares-eq0 c =
-    let p = position_of c.args.pos in
-    live_full p _ (sym c.in_play.ensures ∙ c.if-not-in_play.false)
-    (not-true _ (sym (none_in _ _ c.free_squares.ensures) ∙ eq-eqb _ _ c.if-free_squares-eq0.true))
+pub returns-then-not-has_line : goal.returns-then-not-has_line
+returns-then-not-has_line c = elim c.if-free_squares-ne0.branch [
+  | then-free_squares-ne0 w ↦ live_line_o (position_of c.args.pos) _ (sym c.if-not-in_play.ensures)
+      (not-false _ (sym (none_in _ _ c.free_squares.ensures) ∙ ne_eqb _ _ w.if-free_squares-ne0.true))
+      (line_known _ _ _ _ w.xbits.ensures w.has_line.ensures (not-true _ (sym w.value-is ∙ c.if-not-has_line.true))) _
+      (line_known _ _ _ _ c.obits.ensures c.has_line-then-not-has_line.ensures refl)
+  | else-free_squares-ne0 w ↦ search rules
+]
 
-pub returns-then-has_line : goal.returns-then-has_line
-returns-then-has_line c =
-    let p = position_of c.args.pos in
-    live_line_x p _ (sym c.in_play.ensures ∙ c.if-not-in_play.false)
-    (not-false _ (sym (none_in _ _ c.free_squares.ensures) ∙ ne_eqb _ _ c.if-free_squares-eq0.false))
-    (line_known _ _ _ _ c.xbits.ensures c.has_line.ensures c.if-has_line.true)
-
-pub returns : goal.returns
-returns c =
-    let p = position_of c.args.pos in
-    live_line_o p _ (sym c.in_play.ensures ∙ c.if-not-in_play.false)
-    (not-false _ (sym (none_in _ _ c.free_squares.ensures) ∙ ne_eqb _ _ c.if-free_squares-eq0.false))
-    (line_known _ _ _ _ c.xbits.ensures c.has_line.ensures c.if-has_line.false) _
-    (line_known _ _ _ _ c.obits.ensures c.has_line-2.ensures refl)
+pub returns-else-not-has_line : goal.returns-else-not-has_line
+returns-else-not-has_line c = elim c.if-free_squares-ne0.branch [
+  | then-free_squares-ne0 w ↦ c.if-not-has_line.false ∙ live_line_x (position_of c.args.pos) _ (sym c.if-not-in_play.ensures)
+      (not-false _ (sym (none_in _ _ c.free_squares.ensures) ∙ ne_eqb _ _ w.if-free_squares-ne0.true))
+      (line_known _ _ _ _ w.xbits.ensures w.has_line.ensures (not-false _ (sym w.value-is ∙ c.if-not-has_line.false)))
+  | else-free_squares-ne0 w ↦ c.if-not-has_line.false ∙ live_full (position_of c.args.pos) _ (sym c.if-not-in_play.ensures)
+      (not-true _ (sym (none_in _ _ c.free_squares.ensures) ∙ eq-eqb _ _ w.if-free_squares-ne0.false))
+]

@@ -1,50 +1,35 @@
--- No side's line, and the boards from the loop's on are live exactly if all are, as those before it are.
-use mathlib.Core.Path.{◌≡◌, sym, ap, ◌∙◌}
-use native.Mathlib.Omega.{arith}
-use Rattle.base.specs.Lists.{all}
-use Rattle.rules.specs.Board.{nine}
-use Rattle.rules.proofs.Board.{nine_at}
+-- No side's line, and all boards are live.
+use mathlib.Core.Path.{sym, refl, ◌∙◌}
+use borrow.Author.Tests.{not-true, not-false}
+use Rattle.std.proofs.Common.{rules}
+use Rattle.std.proofs.lemmas.Iterator.{YieldsList-from_range}
+use Rattle.std.proofs.lemmas.Iterator.Search.{all_from_yields_List}
+use Rattle.base.proofs.ListsAgree.{all_of_list}
 use Rattle.lines.proofs.Masks.{line_known}
 use Rattle.game.specs.Meaning.{position_of}
 use Rattle.endgame.specs.Parts.{live}
-use Rattle.endgame.proofs.PartsLoop.{all_failed, all_passed}
 use Rattle.endgame.proofs.PartsSound.{line_of_x, line_of_o, no_line}
-use borrow.Author.Rules.{rules}
 use Rattle.endgame.proofs.is_sound.Goals as goal
+use Rattle.endgame.proofs.is_sound.Goals.{then-not-has_line, else-not-has_line}
 
-pub returns-then-has_line : goal.returns-then-has_line
-returns-then-has_line c =
-    line_of_x (position_of c.args.pos)
-    (line_known _ _ _ _ c.xbits.ensures c.has_line.ensures c.if-has_line.true)
+pub returns-then-not-has_line-2 : goal.returns-then-not-has_line-2
+returns-then-not-has_line-2 c = let p = position_of c.args.pos in elim c.if-not-has_line.branch [
+  | then-not-has_line w ↦
+      all_from_yields_List (live p) _ _ _ c.all.ensures.ran (YieldsList-from_range 0 9 9 refl refl) (λ x b q k. search rules)
+      ∙ all_of_list (live p) _
+      ∙ no_line p (line_known _ _ _ _ c.xbits.ensures c.has_line.ensures w.if-not-has_line.true)
+      (line_known _ _ _ _ w.obits.ensures w.has_line-then-not-has_line.ensures
+      (not-true _ (sym w.value-is ∙ c.if-not-has_line-2.true)))
+  | else-not-has_line w ↦ search rules
+]
 
-pub returns-then-has_line-2 : goal.returns-then-has_line-2
-returns-then-has_line-2 c =
-    let p = position_of c.args.pos in
-    line_of_o p (line_known _ _ _ _ c.xbits.ensures c.has_line.ensures c.if-has_line.false)
-    (line_known _ _ _ _ c.obits.ensures c.has_line-2.ensures c.if-has_line-2.true)
-
-pub loop-board-init : goal.loop-board-init
-loop-board-init c =
-    let p = position_of c.args.pos in (
-      search rules,
-      no_line p (line_known _ _ _ _ c.xbits.ensures c.has_line.ensures c.if-has_line.false)
-          (line_known _ _ _ _ c.obits.ensures c.has_line-2.ensures c.if-has_line-2.false),
-    )
-
-pub returns-then-not-is_live : goal.returns-then-not-is_live
-returns-then-not-is_live c =
-    let p = position_of c.args.pos in
-    all_failed (live p) nine 0 c.loop-board.board c.loop-board-test.true _ c.loop-board.invariant.1
-    (ap (live p) (nine_at _ c.loop-board-test.true) ∙ sym c.is_live.ensures ∙ c.if-not-is_live.true)
-
-pub loop-board-preserved : goal.loop-board-preserved
-loop-board-preserved c =
-    let p = position_of c.args.pos in (
-      search rules,
-      all_passed (live p) nine 0 c.loop-board.board c.loop-board-test.true _ c.loop-board.invariant.1
-          (ap (live p) (nine_at _ c.loop-board-test.true) ∙ sym c.is_live.ensures ∙ c.if-not-is_live.false),
-    )
-
-pub returns : goal.returns
-unfolding all
-returns c = let e : c.loop-board.board ≡ 9 = omega arith in rw e at c.loop-board.invariant.1
+pub returns-else-not-has_line-2 : goal.returns-else-not-has_line-2
+returns-else-not-has_line-2 c = let p = position_of c.args.pos in elim c.if-not-has_line.branch [
+  | then-not-has_line w ↦
+      c.if-not-has_line-2.false
+      ∙ line_of_o p (line_known _ _ _ _ c.xbits.ensures c.has_line.ensures w.if-not-has_line.true)
+      (line_known _ _ _ _ w.obits.ensures w.has_line-then-not-has_line.ensures
+      (not-false _ (sym w.value-is ∙ c.if-not-has_line-2.false)))
+  | else-not-has_line w ↦
+      c.if-not-has_line-2.false ∙ line_of_x p (line_known _ _ _ _ c.xbits.ensures c.has_line.ensures w.if-not-has_line.false)
+]

@@ -21,8 +21,8 @@ returns-then-are_accepted c =
           ∙ ap (λ (x : Values). evaluate_by (sc x.weights) p x.boards) c.new.ensures ∙ by_values (sc a.weights) p);
     }
 
-pub returns : goal.returns
-returns c =
+pub returns-else-are_accepted : goal.returns-else-are_accepted
+returns-else-are_accepted c =
     let a = c.args in
     let e = evaluated_refused (scoring_with a.draw_winner a.weights) (position_of a.g)
     (sym c.are_accepted.ensures ∙ c.if-are_accepted.false) in

@@ -1,75 +1,48 @@
 -- Eight lines of at most 65,535 do not overflow, and the digits of each side are its cells.
-use mathlib.Core.Path.{◌∙◌}
-use Rattle.rules.specs.Evaluation.{board_line}
+use mathlib.Core.Path.{◌≡◌, sym, refl, ap, ap₂, ◌∙◌}
+use Prim.Native.Nat.{◌+◌, ◌*◌}
+use native.Mathlib.Omega.{arith}
+use lib.Dec.{T, ltb, lt→ltb}
+use lib.IntN.{◌+ℤ◌}
 use mir.Syntax.{w32}
-use Rattle.base.proofs.Signed.{Held, held_promised, held_fits, held_reads, plus}
-use Rattle.evaluation.proofs.ValuesLines.{eight}
+use Rattle.base.specs.Bits.{bit}
+use Rattle.base.proofs.Integers.{within_+}
+use Rattle.base.proofs.Signed.{Held, held_promised, held_fits, held_gives, held_reads}
+use Rattle.rules.specs.Evaluation.{board_line}
+use Rattle.evaluation.proofs.ValuesLines.{first_lines, first_more, first_eight}
 use Rattle.evaluation.proofs.ValuesBoards.{board_sum}
+use Rattle.evaluation.proofs.score_board.Goals.{After-score_line-score}
 use Rattle.evaluation.proofs.score_board.Goals as goal
 
-pub overflow_add-result : goal.overflow_add-result
-overflow_add-result c =
-    let to-2 : Held w32 131070 = plus (held_promised c.score_line.ensures) (held_promised c.score_line-2.ensures) tt tt in
-    held_fits to-2 tt
+-- the sum with one line more
+abbrev more : (c : After-score_line-score) → Held w32 (65535 * c.loop-i.i + 65535)
+more c =
+    let a : Held w32 (65535 * c.loop-i.i) = held_promised c.loop-i.invariant in
+    let b : Held w32 65535 = held_promised c.score_line-score.ensures in
+    record {
+      machine = _;
+      value = _;
+      same = ap₂ ◌+ℤ◌ a.same (held_reads b tt);
+      near = within_+ _ _ a.value b.value a.near b.near;
+    }
 
-pub overflow_add-result-2 : goal.overflow_add-result-2
-overflow_add-result-2 c =
-    let to-2 : Held w32 131070 = plus (held_promised c.score_line.ensures) (held_promised c.score_line-2.ensures) tt tt in
-    let to-3 : Held w32 196605 = plus to-2 (held_promised c.score_line-3.ensures) tt tt in
-    held_fits to-3 tt
+abbrev few : (c : After-score_line-score) → T (ltb (65535 * c.loop-i.i + 65535) 2147483648)
+few c = lt→ltb _ _ (omega (arith, c.loop-i-test.true))
 
-pub overflow_add-result-3 : goal.overflow_add-result-3
-overflow_add-result-3 c =
-    let to-2 : Held w32 131070 = plus (held_promised c.score_line.ensures) (held_promised c.score_line-2.ensures) tt tt in
-    let to-3 : Held w32 196605 = plus to-2 (held_promised c.score_line-3.ensures) tt tt in
-    let to-4 : Held w32 262140 = plus to-3 (held_promised c.score_line-4.ensures) tt tt in
-    held_fits to-4 tt
+pub loop-i-init : goal.loop-i-init
+unfolding first_lines
+loop-i-init c = (refl, omega arith)
 
-pub overflow_add-result-4 : goal.overflow_add-result-4
-overflow_add-result-4 c =
-    let to-2 : Held w32 131070 = plus (held_promised c.score_line.ensures) (held_promised c.score_line-2.ensures) tt tt in
-    let to-3 : Held w32 196605 = plus to-2 (held_promised c.score_line-3.ensures) tt tt in
-    let to-4 : Held w32 262140 = plus to-3 (held_promised c.score_line-4.ensures) tt tt in
-    let to-5 : Held w32 327675 = plus to-4 (held_promised c.score_line-5.ensures) tt tt in
-    held_fits to-5 tt
+pub overflow_add-score : goal.overflow_add-score
+overflow_add-score c = held_fits (more c) (few c)
 
-pub overflow_add-result-5 : goal.overflow_add-result-5
-overflow_add-result-5 c =
-    let to-2 : Held w32 131070 = plus (held_promised c.score_line.ensures) (held_promised c.score_line-2.ensures) tt tt in
-    let to-3 : Held w32 196605 = plus to-2 (held_promised c.score_line-3.ensures) tt tt in
-    let to-4 : Held w32 262140 = plus to-3 (held_promised c.score_line-4.ensures) tt tt in
-    let to-5 : Held w32 327675 = plus to-4 (held_promised c.score_line-5.ensures) tt tt in
-    let to-6 : Held w32 393210 = plus to-5 (held_promised c.score_line-6.ensures) tt tt in
-    held_fits to-6 tt
-
-pub overflow_add-result-6 : goal.overflow_add-result-6
-overflow_add-result-6 c =
-    let to-2 : Held w32 131070 = plus (held_promised c.score_line.ensures) (held_promised c.score_line-2.ensures) tt tt in
-    let to-3 : Held w32 196605 = plus to-2 (held_promised c.score_line-3.ensures) tt tt in
-    let to-4 : Held w32 262140 = plus to-3 (held_promised c.score_line-4.ensures) tt tt in
-    let to-5 : Held w32 327675 = plus to-4 (held_promised c.score_line-5.ensures) tt tt in
-    let to-6 : Held w32 393210 = plus to-5 (held_promised c.score_line-6.ensures) tt tt in
-    let to-7 : Held w32 458745 = plus to-6 (held_promised c.score_line-7.ensures) tt tt in
-    held_fits to-7 tt
-
-pub overflow_add-result-7 : goal.overflow_add-result-7
-overflow_add-result-7 c =
-    let to-2 : Held w32 131070 = plus (held_promised c.score_line.ensures) (held_promised c.score_line-2.ensures) tt tt in
-    let to-3 : Held w32 196605 = plus to-2 (held_promised c.score_line-3.ensures) tt tt in
-    let to-4 : Held w32 262140 = plus to-3 (held_promised c.score_line-4.ensures) tt tt in
-    let to-5 : Held w32 327675 = plus to-4 (held_promised c.score_line-5.ensures) tt tt in
-    let to-6 : Held w32 393210 = plus to-5 (held_promised c.score_line-6.ensures) tt tt in
-    let to-7 : Held w32 458745 = plus to-6 (held_promised c.score_line-7.ensures) tt tt in
-    let to-8 : Held w32 524280 = plus to-7 (held_promised c.score_line-8.ensures) tt tt in
-    held_fits to-8 tt
+pub loop-i-preserved : goal.loop-i-preserved
+loop-i-preserved c =
+    let g = held_gives (more c) (few c) (sym (first_more (board_line _ (bit _) (bit _)) c.loop-i.i)) in
+    (g.0, omega (arith, g.1))
 
 pub returns : goal.returns
 returns c =
-    let to-2 : Held w32 131070 = plus (held_promised c.score_line.ensures) (held_promised c.score_line-2.ensures) tt tt in
-    let to-3 : Held w32 196605 = plus to-2 (held_promised c.score_line-3.ensures) tt tt in
-    let to-4 : Held w32 262140 = plus to-3 (held_promised c.score_line-4.ensures) tt tt in
-    let to-5 : Held w32 327675 = plus to-4 (held_promised c.score_line-5.ensures) tt tt in
-    let to-6 : Held w32 393210 = plus to-5 (held_promised c.score_line-6.ensures) tt tt in
-    let to-7 : Held w32 458745 = plus to-6 (held_promised c.score_line-7.ensures) tt tt in
-    let to-8 : Held w32 524280 = plus to-7 (held_promised c.score_line-8.ensures) tt tt in
-    held_reads to-8 tt ∙ eight (board_line _ _ _) ∙ board_sum _ _ _ _ _ c.xbits-x.ensures c.obits-o.ensures
+    let e : c.loop-i.i ≡ 8 = omega (arith, c.loop-i-test.false) in
+    c.loop-i.invariant.0 ∙ ap (first_lines (board_line _ (bit _) (bit _))) e ∙ first_eight (board_line _ (bit _) (bit _))
+    ∙ board_sum _ _ _ _ _ c.xbits-x.ensures c.obits-o.ensures

@@ -6,7 +6,10 @@ use Rattle.base.proofs.Signed.{Held, held_wide, held_fits, held_gives, plus}
 use Rattle.lines.proofs.Masks.{place_at, place_low}
 use Rattle.evaluation.proofs.ValuesOverall.{overall_both, overall_x, overall_o}
 use Rattle.evaluation.proofs.score_overall.Goals as goal
-use Rattle.evaluation.proofs.score_overall.Goals.{then-x-mask-ne0+else-o-mask-ne0, else-x-mask-ne0}
+use Rattle.evaluation.proofs.score_overall.Goals.{
+  else-x-mask-ne0-via-then-x-mask-ne0+else-o-mask-ne0,
+  else-x-mask-ne0-via-else-x-mask-ne0,
+}
 
 pub returns-then-o-mask-ne0 : goal.returns-then-o-mask-ne0
 returns-then-o-mask-ne0 c = (overall_both _ _ _ _ c.requires c.if-x-mask-ne0.true c.if-o-mask-ne0.true, omega arith)
@@ -55,7 +58,7 @@ returns c =
     plus to-2 (held_wide (value_at a.values (place_at a.i 2)) c.wide-3.ensures c.wide-arg-3-1.given) tt
     tt in
     let h = c.requires in
-    held_gives to-3 tt (elim c.if-x-mask-ne0.branch [
-      | then-x-mask-ne0+else-o-mask-ne0 w ↦ overall_x _ _ _ _ h w.if-o-mask-ne0.false
-      | else-x-mask-ne0 w ↦ overall_o _ _ _ _ h w.if-x-mask-ne0.false
+    held_gives to-3 tt (elim c.else-x-mask-ne0.branch [
+      | else-x-mask-ne0-via-then-x-mask-ne0+else-o-mask-ne0 w ↦ overall_x _ _ _ _ h w.if-o-mask-ne0.false
+      | else-x-mask-ne0-via-else-x-mask-ne0 w ↦ overall_o _ _ _ _ h w.if-x-mask-ne0.false
     ])

@@ -1,17 +1,11 @@
--- A board or cell over 8 has no key; in range the key is the one that stands at 9 × board + cell.
+-- In range the key is the one that stands at 9 × board + cell.
 use mathlib.Core.Path.{◌∙◌, sym, ap}
 use native.Mathlib.Omega.{arith}
 use borrow.Author.Rules.{rules}
 use Rattle.rules.specs.declared.CellState.{CellState}
 use Rattle.rules.specs.Hash.{cell_key}
-use Rattle.keys.proofs.KeysRange.{key_in_range, no_key_out_of_range}
+use Rattle.keys.proofs.KeysRange.{key_in_range}
 use Rattle.keys.proofs.for_cell.Goals as goal
-
-pub returns-then-board-gt8 : goal.returns-then-board-gt8
-returns-then-board-gt8 c = no_key_out_of_range _ _ _ (λ h k. omega arith)
-
-pub returns-then-square-gt8 : goal.returns-then-square-gt8
-returns-then-square-gt8 c = no_key_out_of_range _ _ _ (λ h k. omega arith)
 
 pub returns-in-Empty : goal.returns-in-Empty
 unfolding cell_key

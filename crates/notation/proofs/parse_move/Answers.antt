@@ -1,21 +1,27 @@
--- Two letters from `a` to `i`, the first one first.
-use mathlib.Core.Path.{refl, ap}
-use mathlib.Core.Bool.{not}
-use Rattle.notation.proofs.ParsedMoves.{not_two, first_bad, second_bad, both_good}
+-- Two letters, the first one first.
+use Rattle.std.specs.Prelude.{Err}
+use mathlib.Core.Path.{◌≡◌, sym}
+use Rattle.notation.proofs.ParsedMoves.{coordinate_small, first_bad, second_bad, both_good}
+use borrow.Author.Rules.{rules}
+use native.Mathlib.Omega.{arith}
 use Rattle.notation.proofs.parse_move.Goals as goal
 
-pub returns-then-text-ne2 : goal.returns-then-text-ne2
-returns-then-text-ne2 c = not_two _ c.if-text-ne2.true
+pub returns-in_err-board : goal.returns-in_err-board
+returns-in_err-board c =
+    let e : c.from_residual.result ≡ Err c.in_err-board.field-0.0 = search rules in
+    rw e (first_bad _ (omega (arith, c.in-len2)) _ (sym c.in_err-board.ensures))
 
-pub returns-then-not-parse_coord : goal.returns-then-not-parse_coord
-returns-then-not-parse_coord c = first_bad _ c.if-text-ne2.false _ c.parse_coord.ensures (ap not c.if-not-parse_coord.true)
+pub returns-in_err-cell : goal.returns-in_err-cell
+returns-in_err-cell c =
+    let e : c.from_residual-in_err-cell.result ≡ Err c.in_err-cell.field-0.0 = search rules in
+    rw e (second_bad _ (omega (arith, c.in-len2)) _ (sym c.in_ok-board.ensures) _ (sym c.in_err-cell.ensures))
 
-pub returns-then-not-parse_coord-2 : goal.returns-then-not-parse_coord-2
-returns-then-not-parse_coord-2 c =
-    second_bad _ c.if-text-ne2.false _ c.parse_coord.ensures
-    (ap not c.if-not-parse_coord.false) _ c.parse_coord-2.ensures (ap not c.if-not-parse_coord-2.true)
+pub overflow_mul-result : goal.overflow_mul-result
+overflow_mul-result c = let m = coordinate_small _ _ (sym c.in_ok-board.ensures) in omega arith
+
+pub overflow_add-result : goal.overflow_add-result
+overflow_add-result c =
+    let m = coordinate_small _ _ (sym c.in_ok-board.ensures) in let n = coordinate_small _ _ (sym c.in_ok-cell.ensures) in omega arith
 
 pub returns : goal.returns
-returns c =
-    both_good _ c.if-text-ne2.false _ c.parse_coord.ensures
-    (ap not c.if-not-parse_coord.false) _ c.parse_coord-2.ensures _ (ap not c.if-not-parse_coord-2.false) refl
+returns c = both_good _ (omega (arith, c.in-len2)) _ (sym c.in_ok-board.ensures) _ (sym c.in_ok-cell.ensures)

@@ -1,15 +1,18 @@
--- The bytes before the next one are written.
-use mathlib.Core.Path.{◌≡◌, refl}
-use Rattle.notation.proofs.PartsBytes.{none_rendered, one_rendered, all_rendered}
+-- The bytes are those of the text, in order.
+use mathlib.Core.Path.{sym, ◌∙◌}
+use lib.Seq.{ext_get_or}
+use Rattle.text.specs.Writing.{text_of, byte_at}
+use Rattle.text.proofs.Writing.{text_at, text_has_101_bytes}
+use Rattle.game.specs.Meaning.{position_of}
+use Rattle.notation.proofs.PartsBytes.{from_fn_gives}
 use borrow.Author.Rules.{rules}
 use native.Mathlib.Omega.{arith}
 use Rattle.notation.proofs.render.Goals as goal
 
-pub loop-i-init : goal.loop-i-init
-loop-i-init c = (search rules, none_rendered _ _ refl)
-
-pub loop-i-preserved : goal.loop-i-preserved
-loop-i-preserved c = (omega arith, one_rendered _ _ _ _ c.loop-i-test.true c.loop-i.invariant.1 c.render_at.ensures)
-
 pub returns : goal.returns
-returns c = let l = c.loop-i in let e : l.i ≡ 101 = omega arith in all_rendered _ _ (rw e at l.invariant.1)
+returns c =
+    let p = position_of c.args.g in
+    let r = c.from_fn.ensures.items in
+    ext_get_or 0 c.from_fn.result (text_of p) (r.long ∙ sym (text_has_101_bytes p))
+    (λ k h. from_fn_gives _ _ (byte_at p) (λ i y q e. search rules) c.from_fn.result 0 101 r.each k (omega arith) (omega (arith, r.long))
+    ∙ sym (text_at p k (omega (arith, r.long))))

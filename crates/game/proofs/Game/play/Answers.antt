@@ -12,7 +12,7 @@ returns c =
     let h = c.requires in
     let n : length g.local_boards.rows ≡ 3 = omega arith in
     play_makes g c.args.global c.args.local n h.0 h.1 h.2 h.3 _ _ _ _ _ _ _ _
-    c.other-next_player.ensures
+    c.other.ensures
     (elim c.if-in_play.branch [
       | then-in_play w ↦ w.next_board-is ∙ next_only _ _ _ c.in_play.ensures w.if-in_play.true
       | else-in_play w ↦ w.next_board-is ∙ next_any _ _ _ c.in_play.ensures w.if-in_play.false

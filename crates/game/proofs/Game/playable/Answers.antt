@@ -8,21 +8,15 @@ use Rattle.game.proofs.Game.playable.Goals as goal
 pub returns-then-game_over : goal.returns-then-game_over
 returns-then-game_over c = none_over (position_of c.args.self) (not-true _ (sym c.game_over.ensures ∙ c.if-game_over.true))
 
-pub returns-in-Any : goal.returns-in-Any
-returns-in-Any c =
-    all_open (position_of c.args.self) _
-    (not-false _ (sym c.game_over.ensures ∙ c.if-game_over.false))
-    c.openbits-open.ensures
-    c.in-Any.is
+pub returns-in-None : goal.returns-in-None
+returns-in-None c =
+    all_open (position_of c.args.self) _ (not-false _ (sym c.game_over.ensures ∙ c.if-game_over.false)) c.openbits-open.ensures
+    c.in-None.is
 
-pub returns-then-b-gt8 : goal.returns-then-b-gt8
-returns-then-b-gt8 c =
-    none_due (position_of c.args.self) _ c.in-Only.is c.if-b-gt8.true
+pub returns-in-Some : goal.returns-in-Some
+returns-in-Some c =
+    one_open (position_of c.args.self) _ (not-false _ (sym c.game_over.ensures ∙ c.if-game_over.false)) c.openbits-open.ensures _
+    c.in-Some.is c.if-due-lt9.true
 
-pub returns-else-b-gt8 : goal.returns-else-b-gt8
-returns-else-b-gt8 c =
-    one_open (position_of c.args.self) _
-    (not-false _ (sym c.game_over.ensures ∙ c.if-game_over.false))
-    c.openbits-open.ensures _
-    c.in-Only.is
-    c.if-b-gt8.false
+pub returns-in-Some-2 : goal.returns-in-Some-2
+returns-in-Some-2 c = none_due (position_of c.args.self) _ c.in-Some.is c.if-due-lt9.false

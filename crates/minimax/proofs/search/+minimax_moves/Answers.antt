@@ -17,8 +17,8 @@ use Rattle.minimax.proofs.StateMoves.{under_asked, under_counted, under_lower, t
 use Rattle.minimax.proofs.StateMoves.{turn_better, turn_cut}
 use Rattle.minimax.proofs.search.+minimax_moves.Goals as goal
 use Rattle.minimax.proofs.search.+minimax_moves.Goals.{minimax-After-enter-s, minimax-After-lookup-held, minimax-After-suffices}
-use Rattle.minimax.proofs.search.+minimax_moves.Goals.{minimax-After-slice_known-3-1, minimax-in-Absent, minimax-in-Entry+else-suffices}
-use Rattle.minimax.proofs.search.+minimax_moves.Goals.{moves-After-empty-local, moves-At-loop-a, moves-After-below-below}
+use Rattle.minimax.proofs.search.+minimax_moves.Goals.{minimax-After-slice_known-3-1, minimax-in_default, minimax-in-Some+else-suffices}
+use Rattle.minimax.proofs.search.+minimax_moves.Goals.{moves-After-empty-local, moves-At-loop-child, moves-After-below-below}
 use Rattle.minimax.proofs.search.+minimax_moves.Goals.{moves-Joined-is_leaf, moves-After-raise-best}
 use Rattle.minimax.proofs.search.+minimax_moves.Goals.{moves-then-is_leaf+else-s-a, moves-else-is_leaf+else-r}
 
@@ -56,21 +56,39 @@ pub minimax-suffice-requires : goal.minimax-suffice-requires
 minimax-suffice-requires t c =
     may_suffice (entering t (goal.at.minimax-suffice-requires t c).After-enter-s) c.hit-s.result (c.hit-s.ensures [])
 
+-- it is no leaf, and the table is asked
+abbrev looked : (t : ℕ) → minimax-After-lookup-held t → (e : Entering) × Looked e
+looked t c = (
+  record {
+    a = c.args.a;
+    s = c.args.state;
+    l = c.args.pv;
+    words = c.args.words.now;
+    asked = c.requires.0;
+    counted = c.requires.1;
+    more = c.if-state-a.false;
+    s₁ = c.enter-s.result;
+    entered = c.enter-s.ensures;
+  },
+  record {
+    x = c.is_leaf.result;
+    told_leaf = c.is_leaf.ensures;
+    no_leaf = c.if-is_leaf.false;
+    held = c.lookup-held.result;
+    key = c.zobrist.result;
+    key_is = c.zobrist.ensures;
+    looked = c.lookup-held.ensures;
+  },
+)
+
 pub minimax-returns-then-suffices : goal.minimax-returns-then-suffices
 minimax-returns-then-suffices t c =
-    let e = entering t (goal.at.minimax-returns-then-suffices t c).After-enter-s in
-    let k : Looked e = record {
-      x = c.is_leaf.result;
-      told_leaf = c.is_leaf.ensures;
-      no_leaf = c.if-is_leaf.false;
-      held = c.lookup-held.result;
-      key = c.zobrist.result;
-      key_is = c.zobrist.ensures;
-      looked = c.lookup-held.ensures;
-    } in
+    let x = looked t (goal.at.minimax-returns-then-suffices t c).After-lookup-held in
+    let e = x.0 in
+    let k = x.1 in
     let knows : Knows k = record {
       entry = _;
-      is_held = c.in-Entry.is;
+      is_held = c.in-Some.is;
       s₂ = c.hit-s.result;
       was_hit = c.hit-s.ensures;
       b = c.suffices.result;
@@ -80,21 +98,14 @@ minimax-returns-then-suffices t c =
 
 pub minimax-moves-f-requires : goal.minimax-moves-f-requires
 minimax-moves-f-requires t c =
-    let e = entering t (goal.at.minimax-moves-f-requires t c).After-enter-s in
-    let k : Looked e = record {
-      x = c.is_leaf.result;
-      told_leaf = c.is_leaf.ensures;
-      no_leaf = c.if-is_leaf.false;
-      held = c.lookup-held.result;
-      key = c.zobrist.result;
-      key_is = c.zobrist.ensures;
-      looked = c.lookup-held.ensures;
-    } in
+    let x = looked t (goal.at.minimax-moves-f-requires t c).After-lookup-held in
+    let e = x.0 in
+    let k = x.1 in
     let goes : Goes e c.match-held.first c.match-held.s = elim c.match-held.branch [
-      | minimax-in-Absent w ↦ goes_on w.first-is w.s-is (none_goes k w.in-Absent.is c.none-first.result c.none-first.ensures)
-      | minimax-in-Entry+else-suffices w ↦ goes_on w.first-is w.s-is (some_goes {k = k} (record {
+      | minimax-in_default w ↦ goes_on w.first-is w.s-is (none_goes k w.in_default.is c.none-first.result c.none-first.ensures)
+      | minimax-in-Some+else-suffices w ↦ goes_on w.first-is w.s-is (some_goes {k = k} (record {
         entry = _;
-        is_held = w.in-Entry.is;
+        is_held = w.in-Some.is;
         s₂ = w.hit-s.result;
         was_hit = w.hit-s.ensures;
         b = w.suffices.result;
@@ -105,21 +116,14 @@ minimax-moves-f-requires t c =
 
 pub minimax-returns : goal.minimax-returns
 minimax-returns t c =
-    let e = entering t (goal.at.minimax-returns t c).After-enter-s in
-    let k : Looked e = record {
-      x = c.is_leaf.result;
-      told_leaf = c.is_leaf.ensures;
-      no_leaf = c.if-is_leaf.false;
-      held = c.lookup-held.result;
-      key = c.zobrist.result;
-      key_is = c.zobrist.ensures;
-      looked = c.lookup-held.ensures;
-    } in
+    let x = looked t (goal.at.minimax-returns t c).After-lookup-held in
+    let e = x.0 in
+    let k = x.1 in
     let goes : Goes e c.match-held.first c.match-held.s = elim c.match-held.branch [
-      | minimax-in-Absent w ↦ goes_on w.first-is w.s-is (none_goes k w.in-Absent.is c.none-first.result c.none-first.ensures)
-      | minimax-in-Entry+else-suffices w ↦ goes_on w.first-is w.s-is (some_goes {k = k} (record {
+      | minimax-in_default w ↦ goes_on w.first-is w.s-is (none_goes k w.in_default.is c.none-first.result c.none-first.ensures)
+      | minimax-in-Some+else-suffices w ↦ goes_on w.first-is w.s-is (some_goes {k = k} (record {
         entry = _;
-        is_held = w.in-Entry.is;
+        is_held = w.in-Some.is;
         s₂ = w.hit-s.result;
         was_hit = w.hit-s.ensures;
         b = w.suffices.result;
@@ -129,7 +133,7 @@ minimax-returns t c =
     goes_gives goes c.moves-f.ensures c.store.ensures
 
 -- ---- the search over its moves: where the loop begins and stands, the move that it meets, and what is found below that
-abbrev held : (t : ℕ) → moves-At-loop-a t → Held
+abbrev held : (t : ℕ) → moves-At-loop-child t → Held
 held t c = record {
   begun = record {
     a = c.args.a;
@@ -143,29 +147,48 @@ held t c = record {
     best_is = c.best-best.ensures;
     local_is = c.empty-local.ensures;
   };
-  at = stand c.loop-a.words c.loop-a.order c.loop-a.s c.loop-a.best c.loop-a.local;
-  turn = c.loop-a.invariant;
+  at = stand c.loop-child.words c.loop-child.order c.loop-child.s c.loop-child.best c.loop-child.local;
+  turn = c.loop-child.invariant;
 }
 
-pub moves-returns-then-is_none : goal.moves-returns-then-is_none
-moves-returns-then-is_none t c =
-    turn_done (held t (goal.at.moves-returns-then-is_none t c).At-loop-a) c.next-child.ensures
-    (sym c.is_none.ensures ∙ c.if-is_none.true) c.of.ensures
+pub moves-returns : goal.moves-returns
+moves-returns t c = turn_done (held t (goal.at.moves-returns t c).At-loop-child) c.in_default.ensures c.of-2.ensures
+
+-- a move is met there
+abbrev met : (t : ℕ) → moves-After-below-below t → (h : Held) × Met h
+met t c =
+    let h : Held = record {
+      begun = record {
+        a = c.args.a;
+        first = c.args.first;
+        pv = c.args.pv;
+        from = stand c.args.words.now c.order-order.result c.args.state c.best-best.result c.empty-local.result;
+        three = omega arith;
+        asked = c.requires.0;
+        ready = c.requires.1;
+        order_is = c.order-order.ensures c.args.words.now;
+        best_is = c.best-best.ensures;
+        local_is = c.empty-local.ensures;
+      };
+      at = stand c.loop-child.words c.loop-child.order c.loop-child.s c.loop-child.best c.loop-child.local;
+      turn = c.loop-child.invariant;
+    } in
+    let m : Met h = record {
+      child = _;
+      after = _;
+      under = _;
+      next = c.in-Some.ensures;
+      under_is = c.below-below.ensures;
+    } in
+    (h, m)
 
 -- at a leaf, where no position more may be entered
 pub moves-returns-then-s-a : goal.moves-returns-then-s-a
 moves-returns-then-s-a t c =
-    let h = held t (goal.at.moves-returns-then-s-a t c).At-loop-a in
-    let m : Met h = record {
-      child = _;
-      under = _;
-      next = c.next-child.ensures;
-      is_some = sym c.is_none.ensures ∙ c.if-is_none.false;
-      under_is = c.below-below.ensures;
-    } in
+    let m = (met t (goal.at.moves-returns-then-s-a t c).After-below-below).1 in
     let x : Brought m true = record {
       r = c.stop.result;
-      words = c.loop-a.words;
+      words = c.loop-child.words;
       gives = stop_below m c.if-s-a.true c.stop.result c.stop.ensures;
       long = refl;
       is_stopped = ap (λ (f : NodeResult). f.stopped) c.stop.ensures;
@@ -174,51 +197,23 @@ moves-returns-then-s-a t c =
 
 pub moves-leaf-s-requires : goal.moves-leaf-s-requires
 moves-leaf-s-requires t c =
-    let h = held t (goal.at.moves-leaf-s-requires t c).At-loop-a in
-    let m : Met h = record {
-      child = _;
-      under = _;
-      next = c.next-child.ensures;
-      is_some = sym c.is_none.ensures ∙ c.if-is_none.false;
-      under_is = c.below-below.ensures;
-    } in
+    let m = (met t (goal.at.moves-leaf-s-requires t c).After-below-below).1 in
     may_tell_leaf m c.if-s-a.false c.enter.result c.enter.ensures
 
 pub moves-evaluate-score-requires : goal.moves-evaluate-score-requires
 moves-evaluate-score-requires t c =
-    let h = held t (goal.at.moves-evaluate-score-requires t c).At-loop-a in
-    let m : Met h = record {
-      child = _;
-      under = _;
-      next = c.next-child.ensures;
-      is_some = sym c.is_none.ensures ∙ c.if-is_none.false;
-      under_is = c.below-below.ensures;
-    } in
+    let m = (met t (goal.at.moves-evaluate-score-requires t c).After-below-below).1 in
     (under_asked m).valued
 
 -- by the search of the position, stopped
 pub moves-minimax-r-requires : goal.moves-minimax-r-requires
 moves-minimax-r-requires t c =
-    let h = held t (goal.at.moves-minimax-r-requires t c).At-loop-a in
-    let m : Met h = record {
-      child = _;
-      under = _;
-      next = c.next-child.ensures;
-      is_some = sym c.is_none.ensures ∙ c.if-is_none.false;
-      under_is = c.below-below.ensures;
-    } in
+    let m = (met t (goal.at.moves-minimax-r-requires t c).After-below-below).1 in
     (omega (arith, under_lower m, c.decreases), (under_asked m, under_counted m))
 
 pub moves-returns-then-r : goal.moves-returns-then-r
 moves-returns-then-r t c =
-    let h = held t (goal.at.moves-returns-then-r t c).At-loop-a in
-    let m : Met h = record {
-      child = _;
-      under = _;
-      next = c.next-child.ensures;
-      is_some = sym c.is_none.ensures ∙ c.if-is_none.false;
-      under_is = c.below-below.ensures;
-    } in
+    let m = (met t (goal.at.moves-returns-then-r t c).After-below-below).1 in
     let x : Brought m true = record {
       r = c.minimax-r.result;
       words = c.minimax-r.new.words;
@@ -247,14 +242,14 @@ whole t c =
         best_is = c.best-best.ensures;
         local_is = c.empty-local.ensures;
       };
-      at = stand c.loop-a.words c.loop-a.order c.loop-a.s c.loop-a.best c.loop-a.local;
-      turn = c.loop-a.invariant;
+      at = stand c.loop-child.words c.loop-child.order c.loop-child.s c.loop-child.best c.loop-child.local;
+      turn = c.loop-child.invariant;
     } in
     let m : Met h = record {
       child = _;
+      after = _;
       under = _;
-      next = c.next-child.ensures;
-      is_some = sym c.is_none.ensures ∙ c.if-is_none.false;
+      next = c.in-Some.ensures;
       under_is = c.below-below.ensures;
     } in (
       h,
@@ -295,16 +290,16 @@ moves-returns-then-is_cut t c =
       better = sym c.is_below.ensures ∙ c.if-is_below.true;
       raises = c.raise-best.ensures;
     } in
-    turn_cut y (sym c.is_cut.ensures ∙ c.if-is_cut.true) c.cut.ensures c.of-then-is_cut.ensures
+    turn_cut y (sym c.is_cut.ensures ∙ c.if-is_cut.true) c.cut.ensures c.of.ensures
 
-pub moves-loop-a-smaller-else-is_cut : goal.moves-loop-a-smaller-else-is_cut
-moves-loop-a-smaller-else-is_cut t c =
-    let x = whole t (goal.at.moves-loop-a-smaller-else-is_cut t c).Joined-is_leaf in
+pub moves-loop-child-smaller-else-is_cut : goal.moves-loop-child-smaller-else-is_cut
+moves-loop-child-smaller-else-is_cut t c =
+    let x = whole t (goal.at.moves-loop-child-smaller-else-is_cut t c).Joined-is_leaf in
     order_shorter x.2
 
-pub moves-loop-a-preserved-else-is_cut : goal.moves-loop-a-preserved-else-is_cut
-moves-loop-a-preserved-else-is_cut t c =
-    let x = whole t (goal.at.moves-loop-a-preserved-else-is_cut t c).Joined-is_leaf in
+pub moves-loop-child-preserved-else-is_cut : goal.moves-loop-child-preserved-else-is_cut
+moves-loop-child-preserved-else-is_cut t c =
+    let x = whole t (goal.at.moves-loop-child-preserved-else-is_cut t c).Joined-is_leaf in
     let y : Raised x.2 = record {
       best = c.raise-best.result;
       better = sym c.is_below.ensures ∙ c.if-is_below.true;
@@ -312,12 +307,12 @@ moves-loop-a-preserved-else-is_cut t c =
     } in
     turn_better y (sym c.is_cut.ensures ∙ c.if-is_cut.false)
 
-pub moves-loop-a-smaller : goal.moves-loop-a-smaller
-moves-loop-a-smaller t c =
-    let x = whole t (goal.at.moves-loop-a-smaller t c).Joined-is_leaf in
+pub moves-loop-child-smaller : goal.moves-loop-child-smaller
+moves-loop-child-smaller t c =
+    let x = whole t (goal.at.moves-loop-child-smaller t c).Joined-is_leaf in
     order_shorter x.2
 
-pub moves-loop-a-preserved : goal.moves-loop-a-preserved
-moves-loop-a-preserved t c =
-    let x = whole t (goal.at.moves-loop-a-preserved t c).Joined-is_leaf in
+pub moves-loop-child-preserved : goal.moves-loop-child-preserved
+moves-loop-child-preserved t c =
+    let x = whole t (goal.at.moves-loop-child-preserved t c).Joined-is_leaf in
     turn_not x.2 (sym c.is_below.ensures ∙ c.if-is_below.false)

@@ -11,9 +11,9 @@ decreases-minimax l = 2 * l.a.depth + 1
 abbrev pub decreases-moves : goal.decreases-moves
 decreases-moves l = 2 * l.a.depth
 
-abbrev pub invariant-moves-loop-a : goal.invariant-moves-loop-a
-invariant-moves-loop-a l =
+abbrev pub invariant-moves-loop-child : goal.invariant-moves-loop-child
+invariant-moves-loop-child l =
     Turn l.a (stand l.initial.words l.initial.order l.initial.s l.initial.best l.initial.local) (stand l.words l.order l.s l.best l.local)
 
-abbrev pub decreases-moves-loop-a : goal.decreases-moves-loop-a
-decreases-moves-loop-a l = length (order_left l.a.game l.order)
+abbrev pub decreases-moves-loop-child : goal.decreases-moves-loop-child
+decreases-moves-loop-child l = length (order_left l.a.game l.order)

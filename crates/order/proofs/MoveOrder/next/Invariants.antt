@@ -1,10 +1,10 @@
 use lib.ListN.{length}
 use Rattle.order.specs.Order.{candidates_left}
-use Rattle.order.proofs.OrderSteps.{order_of, SameStep}
+use Rattle.order.proofs.OrderSteps.{SameStep}
 use Rattle.order.proofs.MoveOrder.next.Given as goal
 
 abbrev pub invariant-loop-m : goal.invariant-loop-m
-invariant-loop-m l = SameStep l.game (order_of l.left l.seen) (order_of l.initial.left l.initial.seen)
+invariant-loop-m l = SameStep l.game l.self l.initial.self
 
 abbrev pub decreases-loop-m : goal.decreases-loop-m
-decreases-loop-m l = length (candidates_left l.left)
+decreases-loop-m l = length (candidates_left l.self.left)

@@ -1,16 +1,14 @@
--- The keys of the cells while the board is in play, else the key of its state.
+-- The key of its state once the board is closed, else the keys of the cells.
+use mathlib.Core.Path.{sym, ◌∙◌}
+use borrow.Author.Tests.{not-true, not-false}
 use Rattle.base.specs.Branch.{when◌then◌else◌}
 use Rattle.rules.specs.Hash.{board_hash}
 use Rattle.boards.proofs.local.LocalBoards.board_hash.Goals as goal
 
-pub returns-in-InPlay : goal.returns-in-InPlay
+pub returns-then-terminal : goal.returns-then-terminal
 unfolding board_hash when◌then◌else◌
-returns-in-InPlay c = rw c.in-InPlay.is c.cells_hash.ensures
+returns-then-terminal c = rw (not-true _ (sym c.terminal.ensures ∙ c.if-terminal.true)) c.for_board.ensures
 
-pub returns-in-Drawn : goal.returns-in-Drawn
+pub returns : goal.returns
 unfolding board_hash when◌then◌else◌
-returns-in-Drawn c = rw (c.for_board.ensures, c.in-Drawn.is)
-
-pub returns-in-Won : goal.returns-in-Won
-unfolding board_hash when◌then◌else◌
-returns-in-Won c = rw (c.for_board-in-Won.ensures, c.in-Won.is)
+returns c = rw (not-false _ (sym c.terminal.ensures ∙ c.if-terminal.false)) c.cells_hash.ensures

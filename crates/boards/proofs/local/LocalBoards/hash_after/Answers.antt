@@ -1,16 +1,15 @@
--- Nothing changes while the board is in play; else the key of its state comes in for those of its cells.
+-- The key of its state comes in for those of the cells once the board is closed; else nothing changes.
+use mathlib.Core.Path.{sym, ◌∙◌}
+use borrow.Author.Tests.{not-true, not-false}
 use Rattle.base.specs.Branch.{when◌then◌else◌}
 use Rattle.boards.specs.Rows.{closing}
 use Rattle.boards.proofs.local.LocalBoards.hash_after.Goals as goal
 
-pub returns-in-InPlay : goal.returns-in-InPlay
+pub returns-then-terminal : goal.returns-then-terminal
 unfolding closing when◌then◌else◌
-returns-in-InPlay c = rw c.in-InPlay.is
+returns-then-terminal c =
+    rw (not-true _ (sym c.terminal.ensures ∙ c.if-terminal.true), c.cells_hash.ensures, c.for_board.ensures)
 
-pub returns-in-Drawn : goal.returns-in-Drawn
+pub returns : goal.returns
 unfolding closing when◌then◌else◌
-returns-in-Drawn c = rw (c.cells_hash.ensures, c.for_board.ensures, c.in-Drawn.is)
-
-pub returns-in-Won : goal.returns-in-Won
-unfolding closing when◌then◌else◌
-returns-in-Won c = rw (c.cells_hash-in-Won.ensures, c.for_board-in-Won.ensures, c.in-Won.is)
+returns c = rw (not-false _ (sym c.terminal.ensures ∙ c.if-terminal.false))

@@ -1,6 +1,5 @@
 -- Over range nothing changes; else one bit more in the row of the board.
 use native.Mathlib.Omega.{arith}
-use Rattle.keys.proofs.KeysPast.{rest_is_past}
 use Rattle.boards.proofs.With.{with_past_board, with_past_cell, with_row}
 use Rattle.boards.proofs.local.LocalBoards.set.Goals as goal
 
@@ -17,4 +16,4 @@ pub returns-in-2 : goal.returns-in-2
 returns-in-2 c = with_row _ _ _ _ 2 _ c.in-2.is (omega arith) (omega arith) c.with-in-2.ensures
 
 pub returns-in_default : goal.returns-in_default
-returns-in_default c = let h = rest_is_past 3 _ c.in_default.in_default-own.rest in with_past_board _ _ _ _ (omega arith)
+returns-in_default c = with_past_board _ _ _ _ (omega arith)

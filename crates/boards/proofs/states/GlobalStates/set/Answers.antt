@@ -1,6 +1,9 @@
 -- Over range nothing changes; else one bit more for each side that the state names.
 use mathlib.Core.Path.{refl, ap, ◌∙◌}
+use Prim.Native.Nat.{ℕ}
 use Rattle.rules.specs.declared.GameState.TheVariants.{Won}
+use Rattle.rules.specs.declared.Player.TheVariants.{X, O}
+use lib.Bits.{bit_or}
 use native.Mathlib.Omega.{arith}
 use Rattle.base.proofs.Bits.{shl_one}
 use Rattle.boards.proofs.With.{with_state_past, with_state_as}
@@ -17,12 +20,12 @@ returns-in-Drawn c =
     with_state_as _ _ _ _ _ (omega arith) c.in-Drawn.is
     (rw (shl_one 16 c.args.board (omega arith)))
 
-pub returns-in-X : goal.returns-in-X
-returns-in-X c =
-    with_state_as _ _ _ _ _ (omega arith) (c.in-Won.is ∙ ap Won c.in-X.is)
-    (rw (shl_one 16 c.args.board (omega arith)))
+pub returns-in-Won-X : goal.returns-in-Won-X
+returns-in-Won-X c =
+    with_state_as _ _ _ (Won X) _ (omega arith) (c.in-Won-X.is ∙ ap Won (rw c.in-Won-X.is at c.in-Won-X.field-0-is))
+    (ap (λ (k : ℕ). record { x = bit_or c.args.self.x k; o = c.args.self.o }) (shl_one 16 c.args.board (omega arith)))
 
-pub returns-in-O : goal.returns-in-O
-returns-in-O c =
-    with_state_as _ _ _ _ _ (omega arith) (c.in-Won.is ∙ ap Won c.in-O.is)
-    (rw (shl_one 16 c.args.board (omega arith)))
+pub returns-in-Won-O : goal.returns-in-Won-O
+returns-in-Won-O c =
+    with_state_as _ _ _ (Won O) _ (omega arith) (c.in-Won-O.is ∙ ap Won (rw c.in-Won-O.is at c.in-Won-O.field-0-is))
+    (ap (λ (k : ℕ). record { x = c.args.self.x; o = bit_or c.args.self.o k }) (shl_one 16 c.args.board (omega arith)))

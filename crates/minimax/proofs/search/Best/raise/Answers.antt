@@ -6,4 +6,4 @@ pub overflow_sub-result : goal.overflow_sub-result
 overflow_sub-result c = minus_fits _ c.requires.0
 
 pub returns : goal.returns
-returns c = (minus_reads _ c.requires.0, c.with_pv-pv.ensures.0, c.with_pv-pv.ensures.1)
+returns c = (minus_reads _ c.requires.0, c.with_pv.ensures.0, c.with_pv.ensures.1)

@@ -14,9 +14,9 @@ returns c =
     (record {
       value = reads c.args.found.score;
       depth = c.args.self.depth;
-      bound = c.bound_of-bound.result;
-      pv = c.first-pv.result;
+      bound = c.bound_of.result;
+      pv = c.first.result;
     }) c.if-found.false c.zobrist.ensures
     c.store.ensures
     (told c.args.found.score c.struct_told-1.given.1.1.0.1) refl
-    c.bound_of-bound.ensures (c.first-pv.ensures _ c.requires.0)
+    c.bound_of.ensures (c.first.ensures _ c.requires.0)

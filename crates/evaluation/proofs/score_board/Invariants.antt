@@ -1,0 +1,10 @@
+use Prim.Native.Nat.{◌*◌, ◌≤◌}
+use mathlib.Core.Path.{◌≡◌}
+use lib.IntN.{nat_abs}
+use Rattle.base.specs.Bits.{bit}
+use Rattle.rules.specs.Evaluation.{board_line}
+use Rattle.evaluation.proofs.ValuesLines.{first_lines}
+use Rattle.evaluation.proofs.score_board.Given as goal
+
+abbrev pub invariant-loop-i : goal.invariant-loop-i
+invariant-loop-i l = (l.score ≡ first_lines (board_line l.weights (bit l.x) (bit l.o)) l.i) × (nat_abs l.score ≤ 65535 * l.i)

@@ -1,6 +1,0 @@
--- No byte so far is the one.
-use Rattle.std.proofs.Common.{ℕ, ◌≤◌, ◌<◌, ◌≢◌, get_or}
-use Rattle.notation.proofs.find.Given as goal
-
-abbrev pub invariant-loop-i : goal.invariant-loop-i
-invariant-loop-i l = (k : ℕ) → l.from ≤ k → k < l.i → get_or l.text k 0 ≢ l.byte
