@@ -1,49 +1,23 @@
--- A byte more of the text is a byte more of the row, until it is full.
+-- A byte more of the text is a byte more of what is kept, until there is no room.
 use mathlib.Core.Path.{◌≡◌, refl, sym, ap, ap₂, ◌∙◌}
 use mathlib.Core.Bool.{Bool, true, false}
 use mathlib.Core.List.{List, [], ◌∷◌, ◌++◌, append-nil, append_assoc}
-use Prim.Native.Nat.{ℕ, ◌+◌, min, ◌≤◌, ◌<◌}
-use native.Mathlib.Decide.{dec_lt}
-use native.Mathlib.Numerals.{add-one}
-use native.Mathlib.Omega.{arith}
+use Prim.Native.Nat.{ℕ, ◌≤◌}
 use lib.IntN.{ℤ}
-use lib.ListN.{length, take, get_or, set, length-append}
-use lib.Seq.{take_all, take-suc, take-length}
-use borrow.Author.Tests.{lt-ltb, le-ltb}
-use Rattle.base.specs.Branch.{when◌then◌else◌}
+use native.Mathlib.Omega.{arith}
+use lib.ListN.{length, take, length-take}
+use lib.Seq.{take_all}
 use Rattle.rules.specs.Status.{Status}
 use Rattle.text.specs.Bytes.{space}
 use Rattle.text.specs.ProgramLine.{decimal, signed, shown, status_letters, moves_text, spaced, answer_text}
 use Rattle.answer_text.specs.declared.AnswerText.{AnswerText}
 use Rattle.answer_text.specs.AnswerBytes.{no_text, added, added_all, text_of_bytes, written_bytes}
-use Rattle.text.proofs.Padded.{length_padded, set_padded, padded_full, take_padded}
-
--- ---- one byte
-pub added_with_room : (o : AnswerText) (b : ℕ) → o.len < 224 → record { bytes = set o.bytes o.len b; len = o.len + 1 }
-    ≡ added o b
-unfolding added when◌then◌else◌
-added_with_room o b h = rw (lt-ltb o.len 224 h)
-
-pub added_when_full : (o : AnswerText) (b : ℕ) → 224 ≤ o.len → o ≡ added o b
-unfolding added when◌then◌else◌
-added_when_full o b h = rw (le-ltb o.len 224 h)
+use Rattle.text.proofs.Padded.{first_of_first}
 
 -- ---- several
 pub added_append : (o : AnswerText) (xs ys : List ℕ) → added_all o (xs ++ ys) ≡ added_all (added_all o xs) ys
 added_append o [] ys = refl
 added_append o (x ∷ xs) ys = added_append (added o x) xs ys
-
--- the first i bytes, and one more; and all
-pub added_next : (o p r : AnswerText) (bytes : List ℕ) (i : ℕ) → i < length bytes → p ≡ added_all o (take i bytes) →
-    r ≡ added p (get_or bytes i 0) → r ≡ added_all o (take (i + 1) bytes)
-added_next o p r bytes i h e f =
-    let t : take (i + 1) bytes ≡ take i bytes ++ (get_or bytes i 0 ∷ []) = rw (add-one i) (take-suc bytes i 0 h) in
-    f ∙ ap (λ (q : AnswerText). added q (get_or bytes i 0)) e ∙ sym (ap (added_all o) t
-    ∙ added_append o (take i bytes) (get_or bytes i 0 ∷ []))
-
-pub added_last : (o p : AnswerText) (bytes : List ℕ) (i : ℕ) → i ≡ length bytes → p ≡ added_all o (take i bytes) →
-    p ≡ added_all o bytes
-added_last o p bytes i h e = e ∙ ap (added_all o) (ap (λ (n : ℕ). take n bytes) h ∙ take-length bytes)
 
 -- a letter that is shown, and one that is not
 pub added_shown : (o r : AnswerText) (b : ℕ) (t : Bool) → t ≡ true → r ≡ added o b → r ≡ added_all o (shown t b)
@@ -61,45 +35,28 @@ added_status o p q r s x y d a b c e f g =
     ∙ sym (added_append o (shown s.x 88) (shown s.o 79 ++ shown s.draw 68)
     ∙ added_append (added_all o (shown s.x 88)) (shown s.o 79) (shown s.draw 68))
 
--- ---- the row of a text
+-- ---- the bytes of a text
 pub added_out : (t : List ℕ) (b : ℕ) → added (text_of_bytes t) b ≡ text_of_bytes (t ++ (b ∷ []))
-added_out t b = go (dec_lt (length t) 224)
-  where
-    longer : length (t ++ (b ∷ [])) ≡ length t + 1
-    longer = length-append t (b ∷ [])
+added_out t b = sym (added_append no_text t (b ∷ []))
 
-    go : Dec (length t < 224) → added (text_of_bytes t) b ≡ text_of_bytes (t ++ (b ∷ []))
-    go (yes h) =
-        let l = longer in
-        sym (added_with_room (text_of_bytes t) b (omega arith)) ∙ λ i. record {
-          bytes = set_padded 224 t b i;
-          len = (let e : min (length t) 224 + 1 ≡ min (length (t ++ (b ∷ []))) 224 = omega arith in e) i;
-        }
-    go (no h) =
-        let l = longer in
-        sym (added_when_full (text_of_bytes t) b (omega arith)) ∙ λ i. record {
-          bytes = sym (padded_full 224 t (b ∷ []) (omega arith)) i;
-          len = (let e : min (length t) 224 ≡ min (length (t ++ (b ∷ []))) 224 = omega arith in e) i;
-        }
-
--- what is added to a text's row is the row of the whole text: its first 224 bytes, and zeros
+-- what is added to a text's bytes makes those of the whole text
 pub added_all_out : (t u : List ℕ) → added_all (text_of_bytes t) u ≡ text_of_bytes (t ++ u)
-added_all_out t [] = ap text_of_bytes (sym (append-nil t))
-added_all_out t (b ∷ bs) =
-    ap (λ (o : AnswerText). added_all o bs) (added_out t b) ∙ added_all_out (t ++ (b ∷ [])) bs
-    ∙ ap text_of_bytes (append_assoc t (b ∷ []) bs)
+added_all_out t u = sym (added_append no_text t u)
 
-pub written : (t : List ℕ) → added_all no_text t ≡ text_of_bytes t
-written t = added_all_out [] t
+added_first : (o : AnswerText) (t : List ℕ) → length o.bytes ≤ 224 → (added_all o t).bytes ≡ take 224 (o.bytes ++ t)
+unfolding added
+added_first o [] h = sym (ap (take 224) (append-nil o.bytes) ∙ take_all 224 o.bytes h)
+added_first o (b ∷ bs) h =
+    let l : length (take 224 (o.bytes ++ (b ∷ []))) ≤ 224 = omega (arith, length-take 224 (o.bytes ++ (b ∷ []))) in
+    added_first (added o b) bs l ∙ first_of_first 224 (o.bytes ++ (b ∷ [])) bs ∙ ap (take 224) (append_assoc o.bytes (b ∷ []) bs)
+
+-- they are its first 224
+pub text_is_first : (t : List ℕ) → written_bytes (text_of_bytes t) ≡ take 224 t
+text_is_first t = added_first no_text t (omega arith)
 
 -- a text of at most 224 bytes is written whole
 pub written_whole : (t : List ℕ) → length t ≤ 224 → written_bytes (text_of_bytes t) ≡ t
-written_whole t h =
-    let n : min (min (length t) 224) 224 ≡ length t = omega arith in
-    rw n (take_padded (length t) 224 t h (omega arith) ∙ take_all (length t) t (omega arith))
-
-pub text_room : (o : AnswerText) (t : List ℕ) → o ≡ text_of_bytes t → length o.bytes ≡ 224
-text_room o t e = ap (λ (z : AnswerText). length z.bytes) e ∙ length_padded 224 t
+written_whole t h = text_is_first t ∙ take_all 224 t h
 
 -- a text, a blank, and the rest
 pub then_blank : (o p q r : AnswerText) (t u : List ℕ) → p ≡ added_all o t → q ≡ added p space → r ≡ added_all q u →
@@ -109,7 +66,7 @@ then_blank o p q r t u e f g =
 
 -- from nothing
 pub written_from : (o r : AnswerText) (t : List ℕ) → o ≡ no_text → r ≡ added_all o t → r ≡ text_of_bytes t
-written_from o r t e f = f ∙ ap (λ (z : AnswerText). added_all z t) e ∙ written t
+written_from o r t e f = f ∙ ap (λ (z : AnswerText). added_all z t) e
 
 pub answer_written : (s : Status) (legal depth : ℕ) (score : ℤ) (count : ℕ) (line : List ℕ)
     (o₀ o₁ o₂ o₃ o₄ o₅ p₁ p₂ p₃ p₄ p₅ r : AnswerText) → o₀ ≡ no_text →

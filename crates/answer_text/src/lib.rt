@@ -1,23 +1,21 @@
 // The bytes of an answer.
 #![tactic(auto)]
 
-ghost use Rattle.std.specs.Prelude.{◌≡◌, min};
+ghost use Rattle.std.specs.Prelude.{◌≡◌};
 ghost use Rattle.text.specs.MoveText.{move_text};
 ghost use Rattle.text.specs.ProgramLine.{decimal, signed, shown, status_letters, moves_text, answer_text, refusal_text};
 ghost use Rattle.status.specs.Sets.{set_of};
-ghost use Rattle.answer_text.specs.AnswerBytes.{no_text, added, added_all, move_bytes, text_of_bytes};
+ghost use Rattle.answer_text.specs.AnswerBytes.{no_text, added, added_all, move_bytes, text_of_bytes, written_bytes};
 
 use boards::{Move, PLACES};
+use byte_row::ByteRow;
 use rules::Player;
 use status::Status;
 
 // The longest answer has 201 bytes.
-pub const ROOM: usize = 224;
-
 #[derive(Clone, Copy)]
 pub struct AnswerText {
-    pub bytes: [u8; 224],
-    pub len: usize,
+    bytes: ByteRow<224>,
 }
 
 impl AnswerText {
@@ -25,22 +23,15 @@ impl AnswerText {
         ensures { result ≡ no_text }
     {
         AnswerText {
-            bytes: [0; 224],
-            len: 0,
+            bytes: ByteRow::new(),
         }
     }
 
     // One byte more; where there is no room it is dropped.
-    pub fn push(self, b: u8) -> AnswerText
+    pub fn push(mut self, b: u8) -> AnswerText
         ensures { result ≡ added self b }
     {
-        let at = self.len;
-        if at < ROOM {
-            let mut out = self;
-            out.bytes[at] = b;
-            out.len = at + 1;
-            return out;
-        }
+        self.bytes.push(b);
         self
     }
 
@@ -48,10 +39,8 @@ impl AnswerText {
         ensures { result ≡ added_all self bytes.now }
     {
         let mut out = self;
-        let mut i = 0;
-        while i < bytes.len() {
-            out = out.push(bytes[i]);
-            i += 1;
+        for &b in bytes {
+            out = out.push(b);
         }
         out
     }
@@ -107,14 +96,11 @@ impl AnswerText {
             return self.push(b'-');
         }
         let mut out = self;
-        let mut i: usize = 0;
-        while i < PLACES {
-            let m = line[i];
+        for m in line {
             if m.is_none() {
                 return out;
             }
             out = out.move_text(m);
-            i += 1;
         }
         out
     }
@@ -144,11 +130,9 @@ impl AnswerText {
         fourth.decimal(count).push(b' ').moves(line)
     }
 
-    // How many bytes are to be written: they are the first ones.
-    pub fn written(self) -> usize
-        ensures { result ≡ min self.len 224 }
+    pub fn as_slice(&self) -> &[u8]
+        ensures { result.now ≡ written_bytes self.now }
     {
-        let len = self.len;
-        if len < ROOM { len } else { ROOM }
+        self.bytes.as_slice()
     }
 }

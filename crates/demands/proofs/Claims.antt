@@ -1,4 +1,5 @@
 -- The claims hold of what the definition reports: an accepted search is the deepening search of the written rules, whose laws say them.
+use Rattle.std.specs.Prelude.{Option, None}
 use mathlib.Core.Path.{◌≡◌, refl, sym, ap, ◌∙◌, subst}
 use mathlib.Core.Bool.{Bool, true, false, not, cond, ◌&&◌}
 use mathlib.Core.List.{List, [], ◌∷◌, ◌++◌}
@@ -11,8 +12,6 @@ use lib.ListN.{length, get_or}
 use borrow.Author.Tests.{eqb-true, eqb-false}
 use Rattle.base.specs.Branch.{when◌then◌else◌}
 use Rattle.rules.specs.declared.Player.{Player}
-use Rattle.rules.specs.declared.DrawWinner.{DrawWinner}
-use Rattle.rules.specs.declared.DrawWinner.TheVariants.{Nobody}
 use Rattle.rules.specs.Position.{Position, start, unfinished}
 use Rattle.rules.specs.Play.{no_move, accepts, tried, reached}
 use Rattle.rules.specs.Status.{allows, alone}
@@ -63,7 +62,7 @@ module _ (sc : Scoring) (k : ℕ) (p : Position) where
   first_attains (m ∷ line) rest r b = b.1
 
 -- ---- a search of the position that a list of tried moves reaches, if it is unfinished
-module _ (ms : List ℕ) (t : T (unfinished (reached start ms))) (draws : DrawWinner) (c : Settings) (rs : Responses) where
+module _ (ms : List ℕ) (t : T (unfinished (reached start ms))) (draws : Option Player) (c : Settings) (rs : Responses) where
   abbrev sc : Scoring
   sc = scoring_with draws c.weights
 
@@ -160,10 +159,10 @@ module _ (ms : List ℕ) (t : T (unfinished (reached start ms))) (c : Settings) 
   abbrev G : Game
   G = game (no_draw_winner c.weights)
 
-  alone_by : (w : Player) → T (alone (analysis (reached start ms)).status w) → NotStopped Nobody c rs (reached start ms) →
+  alone_by : (w : Player) → T (alone (analysis (reached start ms)).status w) → NotStopped None c rs (reached start ms) →
       3 ≤ c.max_depth → (reported G c (reached start ms) rs []).score ≡ win_for w (reached start ms)
-  alone_by w a n three = sym (ap (λ (y : Reported). y.score) (is_report ms t Nobody c rs n.accepted))
-      ∙ by_depth c.max_depth n.enough (depth_is ms t Nobody c rs n.accepted) three
+  alone_by w a n three = sym (ap (λ (y : Reported). y.score) (is_report ms t None c rs n.accepted))
+      ∙ by_depth c.max_depth n.enough (depth_is ms t None c rs n.accepted) three
     where
       by_depth : (d : ℕ) → entries (no_draw_winner c.weights) d (reached start ms) (fresh_memory rs []) ≤ c.allowance →
           d ≡ suc (c.max_depth - 1) → 3 ≤ d → (analyze G (at_most c.allowance) d (reached start ms)
@@ -172,8 +171,8 @@ module _ (ms : List ℕ) (t : T (unfinished (reached start ms))) (c : Settings) 
           subst (λ (y : ℕ). entries (no_draw_winner c.weights) y (reached start ms) (fresh_memory rs []) ≤ c.allowance →
           (analyze G (at_most c.allowance) y (reached start ms) (fresh_memory rs [])).completed.score
           ≡ win_for w (reached start ms)) (sym e)
-          (λ i. alone_scores c.weights (weights_accepted ms t Nobody c rs n.accepted) ms t (fresh_memory rs [])
-          (table_off ms t Nobody c rs) refl (c.max_depth - 1) c.allowance i (omega arith) w a) h
+          (λ i. alone_scores c.weights (weights_accepted ms t None c rs n.accepted) ms t (fresh_memory rs [])
+          (table_off ms t None c rs) refl (c.max_depth - 1) c.allowance i (omega arith) w a) h
 
   never_by : (w : Player) → T (not (allows (analysis (reached start ms)).status w)) →
       (reported G c (reached start ms) rs []).score ≡ win_for w (reached start ms) → ⊥
@@ -184,13 +183,13 @@ module _ (ms : List ℕ) (t : T (unfinished (reached start ms))) (c : Settings) 
       searched_never a d k e =
           subst (λ (y : ℕ). (analyze G (at_most c.allowance) y (reached start ms)
           (fresh_memory rs [])).completed.score ≡ win_for w (reached start ms) → ⊥) (sym e)
-          (left_out_never_scores c.weights a ms t (fresh_memory rs []) (table_off ms t Nobody c rs) refl k w out
+          (left_out_never_scores c.weights a ms t (fresh_memory rs []) (table_off ms t None c rs) refl k w out
           (at_most c.allowance))
 
       by_refusal : (b : Bool) → eqb (entry_refusal c 0) 0 ≡ b → ⊥
       by_refusal true q = let e = eqb-true (entry_refusal c 0) 0 q in
-          searched_never (weights_accepted ms t Nobody c rs e) c.max_depth (c.max_depth - 1) (depth_is ms t Nobody c rs e)
-          (ap (λ (y : Reported). y.score) (is_report ms t Nobody c rs e) ∙ h)
+          searched_never (weights_accepted ms t None c rs e) c.max_depth (c.max_depth - 1) (depth_is ms t None c rs e)
+          (ap (λ (y : Reported). y.score) (is_report ms t None c rs e) ∙ h)
       by_refusal false q =
           not_nothing (reached start ms).turn w
           (sym (ap (λ (y : Reported). y.score) (turned_reported G c (reached start ms) rs [] q)) ∙ h)

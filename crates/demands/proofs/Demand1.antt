@@ -2,12 +2,12 @@
 use mathlib.Core.Path.{◌≡◌, ap, ◌∙◌}
 use mathlib.Core.List.{List}
 use Prim.Native.Nat.{ℕ}
+use Rattle.rules.specs.Play.{move_of}
+use lib.Dec.{ltb}
 use Rattle.boards.specs.declared.moves.Move.{Move}
-use Rattle.boards.specs.Answers.{Builds}
 use Rattle.game.specs.declared.Game.{Game}
 use Rattle.game.specs.Meaning.{position_of}
 use Rattle.game.specs.After.{Plays}
-use Rattle.game.specs.Look.{LooksCell, LooksState}
 use Rattle.notation.specs.Parsed.{Parses, ParsesMove}
 use Rattle.evaluation.specs.Values.{Evaluates}
 use Rattle.endgame.specs.Means.{Analyses, Judges}
@@ -20,10 +20,11 @@ use Rattle.answer_text.specs.AnswerBytes.{text_of_bytes}
 use Rattle.program_line.specs.Answered.{asked_text}
 use Rattle.demands.specs.declared.EntryAnswers.{EntryAnswers}
 use Rattle.demands.specs.Demand1.{Demand1}
-use Rattle.demands.proofs.Demand1Calls.{playing_holds, looking_cell_holds, looking_board_holds, building_holds}
+use Rattle.demands.proofs.Demand1Calls.{looking_cell_holds, looking_board_holds, playing_holds, building_holds}
 use Rattle.demands.proofs.Demand1Calls.{evaluating_holds, analysing_holds, judging_holds, searching_holds}
 use Rattle.demands.proofs.Demand1Texts.{reading_move_holds, reading_position_holds}
 use Rattle.demands.proofs.Demand1Lines.{answering_line_holds}
+use Rattle.boards.specs.Answers.{within, in_range}
 
 -- the promises of the functions that are called, of what they gave
 module _ (text line : List ℕ) (g : Game) (m : Move) (b c : ℕ) (memory : Minimax) (config : Config) (words words' : List ℕ)
@@ -32,9 +33,9 @@ module _ (text line : List ℕ) (g : Game) (m : Move) (b c : ℕ) (memory : Mini
     pub parsed : Parses text r.read
     pub move_parsed : ParsesMove text r.read_move
     pub tried : Plays g m r.played
-    pub looked_cell : LooksCell (position_of g) b c r.cell
-    pub looked_board : LooksState (position_of g) b r.board_state
-    pub built : Builds b c r.built
+    pub looked_cell : r.cell ≡ within (in_range b c) ((position_of g).cells b c)
+    pub looked_board : r.board_state ≡ within (ltb b 9) ((position_of g).states b)
+    pub built : r.built ≡ within (in_range b c) (record { bits = move_of b c })
     pub valued : Evaluates (scoring_of config) g r.evaluation
     pub analysed : Analyses g r.analysis
     pub judged : Judges g m r.move_status
@@ -50,8 +51,8 @@ module _ (text line : List ℕ) (g : Game) (m : Move) (b c : ℕ) (memory : Mini
     position_text = reading_position_holds text r.read h.parsed;
     move_text = reading_move_holds text r.read_move h.move_parsed;
     play = playing_holds g m r.played h.tried;
-    cell = looking_cell_holds b c g r.cell h.looked_cell;
-    board = looking_board_holds g b r.board_state h.looked_board;
+    cell = looking_cell_holds b c _ r.cell h.looked_cell;
+    board = looking_board_holds b _ r.board_state h.looked_board;
     build = building_holds b c r.built h.built;
     evaluation = evaluating_holds g config.draw_winner config.weights r.evaluation h.valued;
     endgame = analysing_holds g r.analysis h.analysed;

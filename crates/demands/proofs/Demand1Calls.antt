@@ -1,4 +1,10 @@
 -- Each promise of a call says the refusals of demand 1: the number is that of the first check that fails.
+use Rattle.rules.specs.declared.GameState.TheVariants.{InPlay}
+use Rattle.rules.specs.declared.GameState.{GameState}
+use Rattle.rules.specs.declared.CellState.TheVariants.{Empty}
+use Rattle.rules.specs.declared.CellState.{CellState}
+use Rattle.std.specs.Result.{result_unwrap_or}
+use Rattle.std.specs.Prelude.{Option, Result, IfOk, ℤ, Ok, Err}
 use lib.Ieee.Bits.{is_true, is_false}
 use mathlib.Core.Path.{◌≡◌, refl, sym, ap, ◌∙◌, subst}
 use mathlib.Core.Bool.{Bool, true, false, not, ◌||◌, ◌&&◌, or_assoc, not-not}
@@ -8,6 +14,7 @@ use Prim.Native.Nat.{ℕ, ◌≤◌}
 use native.Mathlib.Omega.{arith}
 use lib.Dec.{T, eqb, leb, ltb, eqb→eq, leb→le, le→leb, ltb→lt, nltb→le, T_not, not_T}
 use lib.ListN.{length}
+use Rattle.rules.specs.declared.Player.{Player}
 use Rattle.base.specs.Branch.{when◌then◌else◌}
 use Rattle.base.specs.Lists.{any, all}
 use Rattle.base.specs.Checks.{all_pass, first_failed}
@@ -15,12 +22,7 @@ use Rattle.base.proofs.Bool.{and→, →and, neither, is}
 use Rattle.base.proofs.Branch.{if_ind}
 use Rattle.base.proofs.Checks.{all_pass_0, some_failed, failed_number, 0_all_pass, failed_at, passed_++, failed_++}
 use Rattle.rules.specs.declared.Player.TheVariants.{X, O}
-use Rattle.rules.specs.declared.DrawWinner.{DrawWinner}
 use Rattle.rules.specs.declared.Weights.{Weights}
-use Rattle.rules.specs.declared.CellState.{CellState}
-use Rattle.rules.specs.declared.CellState.TheVariants.{Empty}
-use Rattle.rules.specs.declared.GameState.{GameState}
-use Rattle.rules.specs.declared.GameState.TheVariants.{InPlay}
 use Rattle.rules.specs.Board.{nine, sides, has_line}
 use Rattle.rules.specs.Position.{Position, unfinished, open_board, free_cell, has}
 use Rattle.rules.specs.Play.{no_move, move_of, board_of, cell_of, checks, accepts}
@@ -37,25 +39,15 @@ use Rattle.theory.specs.Deepening.{Completed, SearchAnswer}
 use Rattle.theory.specs.Reported.{entry_checks, entry_refusal, no_stats, filled, refused_entry, report, reported}
 use Rattle.theory.proofs.Allowance.{none_whole_marked, none_whole_counted, none_whole_nothing, none_whole_is}
 use Rattle.boards.specs.declared.moves.Move.{Move}
-use Rattle.boards.specs.declared.moves.Built.{Built}
-use Rattle.boards.specs.declared.local.LocalBoards.{LocalBoards}
-use Rattle.boards.specs.declared.states.GlobalStates.{GlobalStates}
-use Rattle.boards.specs.Packed.{cell_at, state_at}
-use Rattle.boards.specs.Answers.{answer_number, in_range, range_refusal, Builds}
+use Rattle.boards.specs.Answers.{in_range, within, move_error_number}
 use Rattle.game.specs.declared.Game.{Game}
-use Rattle.game.specs.declared.MoveResult.{MoveResult}
-use Rattle.game.specs.declared.CellAnswer.{CellAnswer}
-use Rattle.game.specs.declared.StateAnswer.{StateAnswer}
 use Rattle.game.specs.Meaning.{position_of}
 use Rattle.game.specs.After.{Plays}
-use Rattle.game.specs.Look.{LooksCell, LooksState}
 use Rattle.game.proofs.Meaning.{game_accepted, game_refused}
 use Rattle.game.proofs.AfterRefusals.{first_is_refusal, nought_accepts, refused_not_accepts}
 use Rattle.status.specs.Sets.{status_of}
-use Rattle.evaluation.specs.declared.Evaluation.{Evaluation}
 use Rattle.evaluation.specs.Values.{Evaluates}
 use Rattle.endgame.specs.declared.Analysis.{Analysis}
-use Rattle.endgame.specs.declared.MoveStatus.{MoveStatus}
 use Rattle.endgame.specs.Means.{move_status_number, Analyses, Judges}
 use Rattle.minimax.specs.declared.Minimax.{Minimax}
 use Rattle.minimax.specs.declared.Config.{Config}
@@ -63,7 +55,14 @@ use Rattle.minimax.specs.declared.Report.{Report}
 use Rattle.minimax.specs.Structs.{structs}
 use Rattle.minimax.specs.Report.{settings_of, report_of, answer_of, reported_of, scoring_of, responses_of}
 use Rattle.demands.specs.Demand1.{Playing, depth_1_enters, searching, NothingReported, Searching, line_of_boards, broken_board}
-use Rattle.demands.specs.Demand1.{Evaluating, unsound, analysing, Analysing, JudgingMove, LookingCell, LookingBoard, Building}
+use Rattle.demands.specs.Demand1.{LookingCell, LookingBoard}
+use Rattle.demands.specs.Demand1.{Evaluating, unsound, analysing, Analysing, JudgingMove, Building}
+use Rattle.rules.specs.Refusal.{answer_number}
+use Rattle.boards.specs.declared.moves.MoveError.{MoveError}
+use Rattle.evaluation.specs.declared.BadWeight.{BadWeight}
+use Rattle.endgame.specs.declared.Unsound.{Unsound}
+use Rattle.endgame.specs.declared.MoveStatusError.{MoveStatusError}
+use Rattle.status.specs.declared.Status.{Status}
 
 -- ---- a list of one check
 one_passes : (t : Bool) (n : ℕ) → T t → T (all_pass ((t, n) ∷ []))
@@ -71,11 +70,11 @@ unfolding all_pass all
 one_passes t n u = →and t true u tt
 
 -- ---- playing
-module _ (g : Game) (m : Move) (r : MoveResult) (h : Plays g m r) where
+module _ (g : Game) (m : Move) (r : Result Game MoveError) (h : Plays g m r) where
   abbrev p : Position
   p = position_of g
 
-  not_refused : answer_number r.answer ≡ 0 → T (accepts p m.bits)
+  not_refused : answer_number move_error_number r ≡ 0 → T (accepts p m.bits)
   not_refused e = nought_accepts p m.bits (sym h.number ∙ e)
 
   pub playing_holds : Playing g m r
@@ -171,7 +170,7 @@ module _ (m : Minimax) (g : Game) (c : Config) (words : List ℕ) where
   searching_holds r words' h = subst (Searching m g c words) (sym h) reported_holds
 
 -- ---- the evaluation alone
-pub evaluating_holds : (g : Game) (draws : DrawWinner) (w : Weights) (r : Evaluation) → Evaluates (scoring_with draws w) g r →
+pub evaluating_holds : (g : Game) (draws : Option Player) (w : Weights) (r : Result ℤ BadWeight) → Evaluates (scoring_with draws w) g r →
     Evaluating w r
 unfolding evaluated accepted_weights first_failed when◌then◌else◌
 evaluating_holds g draws w r h = by_test (accepted_weights w) refl
@@ -243,7 +242,7 @@ module _ (g : Game) where
   pub analysis_number_is : (analysis here).refusal ≡ first_failed (analysing g)
   analysis_number_is = analysed.number ∙ ap first_failed analysing_is
 
-  pub analysing_holds : (a : Analysis) → Analyses g a → Analysing g a
+  pub analysing_holds : (a : Result Analysis Unsound) → Analyses g a → Analysing g a
   analysing_holds a h = record {
     number = h.refusal ∙ analysis_number_is;
     refused = λ e. record {
@@ -258,11 +257,11 @@ module _ (g : Game) where
   }
 
   -- a move's status
-  module _ (m : Move) (r : MoveStatus) (h : Judges g m r) where
+  module _ (m : Move) (r : Result Status MoveStatusError) (h : Judges g m r) where
     abbrev judging : List (Bool × ℕ)
     judging = judging_checks here m.bits
 
-    judged_number : move_status_number r.answer ≡ first_failed judging
+    judged_number : answer_number move_status_number r ≡ first_failed judging
     unfolding evaluate_move
     judged_number = h.number
 
@@ -277,44 +276,37 @@ module _ (g : Game) where
     }
 
 -- ---- looking at a cell or a board, and building a move
-range_is : (t : Bool) → range_refusal t ≡ first_failed ((t, 9) ∷ [])
-unfolding range_refusal first_failed
-range_is t = refl
+-- what a refused call gives is the value for it
+pub refused_value : {A E : Type 0} (number_of : E → ℕ) (x : A) (r : Result A E) → (answer_number number_of r ≡ 0 → ⊥) →
+    result_unwrap_or r x ≡ x
+refused_value number_of x (Ok y) h = absurd (h refl)
+refused_value number_of x (Err e) h = refl
 
-module _ (t : Bool) (n : ℕ) (e : n ≡ range_refusal t) where
-  range_fails : (n ≡ 0 → ⊥) → T (not t)
-  range_fails h = not_T t (λ u. h (e ∙ range_is t ∙ all_pass_0 ((t, 9) ∷ []) (one_passes t 9 u)))
+within_number : {A : Type 0} (t : Bool) (x : A) → answer_number move_error_number (within t x) ≡ first_failed ((t, 9) ∷ [])
+unfolding within first_failed when◌then◌else◌
+within_number true x = refl
+within_number false x = refl
 
-  range_passes : n ≡ 0 → T t
-  unfolding all all_pass
-  range_passes z = (and→ t _ (0_all_pass ((t, 9) ∷ []) tt (sym (e ∙ range_is t) ∙ z))).0
+looked_number : {A : Type 0} (t : Bool) (x : A) (r : Result A MoveError) → r ≡ within t x →
+    answer_number move_error_number r ≡ first_failed ((t, 9) ∷ [])
+looked_number {A = A} t x r e = ap (λ (y : Result A MoveError). answer_number move_error_number y) e ∙ within_number t x
 
-module _ (b c : ℕ) where
-  cell_over : (l : LocalBoards) → T (not (in_range b c)) → cell_at l b c ≡ Empty
-  unfolding cell_at
-  cell_over l t = if_ind (λ (x : CellState). x ≡ Empty) (in_range b c) _ _ (λ u. absurd (T_not (in_range b c) t u)) (λ _. refl)
+pub looking_cell_holds : (b c : ℕ) (x : CellState) (r : Result CellState MoveError) → r ≡ within (in_range b c) x → LookingCell b c r
+looking_cell_holds b c x r e =
+    record { number = looked_number (in_range b c) x r e; refused = refused_value move_error_number Empty r }
 
-  pub looking_cell_holds : (g : Game) (r : CellAnswer) → LooksCell (position_of g) b c r → LookingCell b c r
-  looking_cell_holds g r h = record {
-    number = h.number ∙ range_is (in_range b c);
-    refused = λ e. h.cell_is ∙ cell_over g.local_boards (range_fails (in_range b c) _ h.number e);
-  }
+pub looking_board_holds : (b : ℕ) (x : GameState) (r : Result GameState MoveError) → r ≡ within (ltb b 9) x → LookingBoard b r
+looking_board_holds b x r e =
+    record { number = looked_number (ltb b 9) x r e; refused = refused_value move_error_number InPlay r }
 
-  pub building_holds : (r : Built) → Builds b c r → Building b c r
-  building_holds r h = record {
-    number = h.number ∙ range_is (in_range b c);
-    refused = λ e. h.built ∙ if_ind (λ (x : ℕ). x ≡ no_move) (in_range b c) _ _
-        (λ u. absurd (T_not (in_range b c) (range_fails (in_range b c) _ h.number e) u)) (λ _. refl);
-    accepted = λ e. h.built ∙ if_ind (λ (x : ℕ). x ≡ move_of b c) (in_range b c) _ _
-        (λ _. refl) (λ u. absurd (T_not (in_range b c) u (range_passes (in_range b c) _ h.number e)));
-  }
+built_is : (t : Bool) (m : Move) → IfOk (within t m) (λ x. x.bits ≡ m.bits)
+unfolding within when◌then◌else◌
+built_is true m = refl
+built_is false m = tt
 
-state_over : (s : GlobalStates) (b : ℕ) → T (not (ltb b 9)) → state_at s b ≡ InPlay
-unfolding state_at
-state_over s b t = if_ind (λ (x : GameState). x ≡ InPlay) (ltb b 9) _ _ (λ u. absurd (T_not (ltb b 9) t u)) (λ _. refl)
-
-pub looking_board_holds : (g : Game) (b : ℕ) (r : StateAnswer) → LooksState (position_of g) b r → LookingBoard b r
-looking_board_holds g b r h = record {
-  number = h.number ∙ range_is (ltb b 9);
-  refused = λ e. h.state_is ∙ state_over g.global_states b (range_fails (ltb b 9) _ h.number e);
+pub building_holds : (b c : ℕ) (r : Result Move MoveError) → r ≡ within (in_range b c) (record { bits = move_of b c }) → Building b c r
+building_holds b c r e = record {
+  number = looked_number (in_range b c) _ r e;
+  refused = refused_value move_error_number _ r;
+  accepted = subst (λ (y : Result Move MoveError). IfOk y (λ x. x.bits ≡ move_of b c)) (sym e) (built_is (in_range b c) _);
 }

@@ -1,8 +1,10 @@
 -- What the texts of a move and of a position are refused with: a reading that gives an answer has passed the checks before it.
+use Rattle.game.specs.Built.{new_game}
+use Rattle.demands.proofs.Demand1Calls.{refused_value}
+use Rattle.std.specs.Prelude.{Option, None, Some, Result, Ok, Err, IfOk}
 use mathlib.Core.Path.{◌≡◌, refl, sym, ap, ◌∙◌, subst}
 use mathlib.Core.Bool.{Bool, true, false, not, ◌||◌, ◌&&◌, or-false}
 use mathlib.Core.List.{List, [], ◌∷◌}
-use mathlib.Core.Option.{Option, none, some}
 use Prim.Native.Nat.{ℕ, suc, ◌+◌, ◌-◌, ◌%◌}
 use native.Mathlib.Omega.{arith}
 use lib.Dec.{T, eqb, leb, ltb, eqb→eq, leb→le, le→leb, not_T}
@@ -18,51 +20,46 @@ use Rattle.rules.specs.declared.Player.TheVariants.{X, O}
 use Rattle.rules.specs.declared.CellState.TheVariants.{Empty}
 use Rattle.rules.specs.declared.GameState.TheVariants.{InPlay, Drawn}
 use Rattle.rules.specs.Position.{Position}
-use Rattle.rules.specs.Play.{no_move, move_of}
+use Rattle.rules.specs.Play.{move_of}
 use Rattle.text.specs.Reading.{Reading, reads, refuses, side_of, won_mark, overall_mark, played_mark, cell_mark, known, sections, one_on}
 use Rattle.text.specs.Reading.{text_refusal, first_bad, fault_at, first_fault, lone_side, read}
 use Rattle.text.specs.MoveText.{MoveReading, reads_move, bad_length, bad_character, move_refusal, coordinate, read_letters, read_move}
 use Rattle.text.proofs.Reading.{Parted, Sided, Marked, Answer as Answered, too_long, not_three, bad_side, not_nine, bad_mark, bad_cells}
 use Rattle.text.proofs.Reading.{good, read_answers}
 use Rattle.game.specs.declared.Game.{Game}
-use Rattle.game.specs.Built.{new_game}
 use Rattle.notation.specs.declared.ParseError.{ParseError}
-use Rattle.notation.specs.declared.ParseAnswer.{ParseAnswer}
-use Rattle.notation.specs.declared.ParseAnswer.TheVariants.{Accepted, Refused}
-use Rattle.notation.specs.declared.Parsed.{Parsed}
-use Rattle.notation.specs.declared.MoveTextAnswer.{MoveTextAnswer}
-use Rattle.notation.specs.declared.MoveTextAnswer.TheVariants.{Read, BadLength, BadCharacter}
-use Rattle.notation.specs.declared.ParsedMove.{ParsedMove}
-use Rattle.notation.specs.Parsed.{parse_number, reading_of, game_for, Parses, move_reading_of, move_for, move_number, ParsesMove}
+use Rattle.notation.specs.Parsed.{parse_number, reading_of, Parses, move_reading_of, move_number, ParsesMove}
 use Rattle.demands.specs.Demand1.{letters, ReadingMove, side_letter, good_mark, good_cell, marks_from, cell_checks, text_checks}
 use Rattle.demands.specs.Demand1.{numbers, offsets, lengths, ReadingPosition}
+use Rattle.rules.specs.Refusal.{answer_number}
+use Rattle.boards.specs.declared.moves.Move.{Move}
+use Rattle.notation.specs.declared.ParseMoveError.{ParseMoveError}
+use Rattle.notation.specs.declared.ParseMoveError.TheVariants.{BadLength, BadCharacter}
 
 -- ---- reading a move
 -- what is claimed of a reading, by its checks and those that give the byte: its number, its byte, and its move
 record ReadsSo (cs bytes : List (Bool × ℕ)) (m : ℕ) (x : MoveReading) : Type 0 where
   number : move_refusal x ≡ first_failed cs
   byte_is : move_refusal x ≡ 8 → x ≡ bad_character (first_failed bytes)
-  none_read : (move_refusal x ≡ 0 → ⊥) → move_for x ≡ no_move
-  read_is : move_refusal x ≡ 0 → move_for x ≡ m
+  read_is : (k : ℕ) → x ≡ reads_move k → k ≡ m
 
 reads_length : (t : Bool) (cs bytes : List (Bool × ℕ)) (m : ℕ) → T (not t) → ReadsSo ((t, 7) ∷ cs) bytes m bad_length
 unfolding all_pass all
 reads_length t cs bytes m u = record {
   number = sym (failed_at [] cs t 7 tt u);
   byte_is = λ q. absurd (omega (arith, q));
-  none_read = λ _. refl;
-  read_is = λ q. absurd (omega (arith, q));
+  read_is = λ k q. absurd (omega (arith, ap move_refusal q));
 }
 
 reads_letters : (t u : Bool) (b c m : ℕ) → ReadsSo ((true, 7) ∷ (t, 8) ∷ (u, 8) ∷ []) ((t, b) ∷ (u, c) ∷ []) m
     (when t then (λ _. when u then (λ _. reads_move m) else λ _. bad_character c) else λ _. bad_character b)
 unfolding first_failed when◌then◌else◌
 reads_letters true true b c m =
-    record { number = refl; byte_is = λ q. absurd (omega (arith, q)); none_read = λ h. absurd (h refl); read_is = λ _. refl }
+    record { number = refl; byte_is = λ q. absurd (omega (arith, q)); read_is = λ k q. cc }
 reads_letters true false b c m =
-    record { number = refl; byte_is = λ _. refl; none_read = λ _. refl; read_is = λ q. absurd (omega (arith, q)) }
+    record { number = refl; byte_is = λ _. refl; read_is = λ k q. absurd (omega (arith, ap move_refusal q)) }
 reads_letters false u b c m =
-    record { number = refl; byte_is = λ _. refl; none_read = λ _. refl; read_is = λ q. absurd (omega (arith, q)) }
+    record { number = refl; byte_is = λ _. refl; read_is = λ k q. absurd (omega (arith, ap move_refusal q)) }
 
 reads_so : (text : List ℕ) → ReadsSo ((eqb (length text) 2, 7) ∷ letters text 8 8) (letters text (get_or text 0 0) (get_or text 1 0))
     (move_of (get_or text 0 0 - 0x61) (get_or text 1 0 - 0x61)) (read_move text)
@@ -73,34 +70,45 @@ reads_so (b ∷ c ∷ []) = reads_letters (coordinate b) (coordinate c) b c _
 reads_so (b ∷ c ∷ d ∷ cs) =
     let n = length (b ∷ c ∷ d ∷ cs) in reads_length _ _ _ _ (not_T (eqb n 2) (λ t. omega (arith, eqb→eq n 2 t)))
 
-answers_byte : (a : MoveTextAnswer) (m byte : ℕ) → move_number a ≡ 8 → move_reading_of a m ≡ bad_character byte →
-    a ≡ BadCharacter byte
-answers_byte Read m byte e q = absurd (omega (arith, e))
-answers_byte BadLength m byte e q = absurd (omega (arith, e))
-answers_byte (BadCharacter c) m byte e q = cc
+answers_number : (r : Result Move ParseMoveError) → answer_number move_number r ≡ move_refusal (move_reading_of r)
+answers_number (Ok m) = refl
+answers_number (Err BadLength) = refl
+answers_number (Err (BadCharacter c)) = refl
 
-pub reading_move_holds : (text : List ℕ) (r : ParsedMove) → ParsesMove text r → ReadingMove text r
-reading_move_holds text r h = let x = reads_so text in record {
-  number = h.number ∙ x.number;
-  byte = λ e. answers_byte r.answer r.m.bits _ e (h.says ∙ x.byte_is (sym h.number ∙ e));
-  refused = λ e. h.move_is ∙ x.none_read (λ q. e (h.number ∙ q));
-  accepted = λ e. h.move_is ∙ x.read_is (sym h.number ∙ e);
-}
+answers_byte : (r : Result Move ParseMoveError) (byte : ℕ) → move_reading_of r ≡ bad_character byte → r ≡ Err (BadCharacter byte)
+answers_byte (Ok m) byte q = absurd (omega (arith, ap move_refusal q))
+answers_byte (Err BadLength) byte q = absurd (omega (arith, ap move_refusal q))
+answers_byte (Err (BadCharacter c)) byte q = cc
+
+answers_move : (r : Result Move ParseMoveError) (m : ℕ) → ((k : ℕ) → move_reading_of r ≡ reads_move k → k ≡ m) →
+    IfOk r (λ x. x.bits ≡ m)
+answers_move (Ok x) m f = f x.bits refl
+answers_move (Err why) m f = tt
+
+pub reading_move_holds : (text : List ℕ) (r : Result Move ParseMoveError) → ParsesMove text r → ReadingMove text r
+reading_move_holds text r h =
+    let x = reads_so text in
+    let number_is = answers_number r ∙ ap move_refusal h in record {
+      number = number_is ∙ x.number;
+      byte = λ e. answers_byte r _ (h ∙ x.byte_is (sym number_is ∙ e));
+      refused = refused_value move_number _ r;
+      accepted = answers_move r _ (λ k q. x.read_is k (sym h ∙ q));
+    }
 
 -- ---- reading a position
 -- marks and cells: what is known passes the test, and nothing else
-known_or : {A : Type 0} (t : Bool) (a : A) (o : Option A) → known (when t then (λ _. some a) else λ _. o) ≡ (t || known o)
+known_or : {A : Type 0} (t : Bool) (a : A) (o : Option A) → known (when t then (λ _. Some a) else λ _. o) ≡ (t || known o)
 unfolding when◌then◌else◌
 known_or true a o = refl
 known_or false a o = refl
 
 side_is : (c : ℕ) → known (side_of c) ≡ side_letter c
 unfolding side_of
-side_is c = known_or (eqb c 0x58) X _ ∙ ap (λ (t : Bool). eqb c 0x58 || t) (known_or (eqb c 0x4f) O none ∙ or-false (eqb c 0x4f))
+side_is c = known_or (eqb c 0x58) X _ ∙ ap (λ (t : Bool). eqb c 0x58 || t) (known_or (eqb c 0x4f) O None ∙ or-false (eqb c 0x4f))
 
 known_won : (o : Option Player) → known (won_mark o) ≡ known o
-known_won none = refl
-known_won (some w) = refl
+known_won None = refl
+known_won (Some w) = refl
 
 mark_is : (c : ℕ) → known (overall_mark c) ≡ good_mark c
 unfolding overall_mark
@@ -109,8 +117,8 @@ mark_is c = let a = eqb c 0x2e || eqb c 0x40 in
     (known_or (eqb c 0x23) Drawn _ ∙ ap (λ (t : Bool). eqb c 0x23 || t) (known_won (side_of c) ∙ side_is c))
 
 known_played : (o : Option Player) → known (played_mark o) ≡ known o
-known_played none = refl
-known_played (some w) = refl
+known_played None = refl
+known_played (Some w) = refl
 
 cell_is : (c : ℕ) → known (cell_mark c) ≡ good_cell c
 unfolding cell_mark
@@ -124,20 +132,20 @@ lone_is (c ∷ d ∷ ds) = sym (ap (λ (t : Bool). t && side_letter c) (ne_eqb (
 
 -- the first bad mark fails its check, at its offset; where there is none all pass
 BadFrom : ℕ → List (Bool × ℕ) → Option ℕ → Type 0
-BadFrom o cs none = T (all_pass cs)
-BadFrom o cs (some i) = T (not (all_pass cs)) × (first_failed cs ≡ o + i)
+BadFrom o cs None = T (all_pass cs)
+BadFrom o cs (Some i) = T (not (all_pass cs)) × (first_failed cs ≡ o + i)
 
 bad_from : (o : ℕ) (os : List ℕ) → BadFrom o (marks_from o os) (first_bad os)
 unfolding BadFrom marks_from first_bad all_pass all first_failed when◌then◌else◌
 bad_from o [] = tt
 bad_from o (c ∷ os) = subst
-    (λ (t : Bool). BadFrom o ((good_mark c, o) ∷ marks_from (suc o) os) (when t then (λ _. one_on (first_bad os)) else λ _. some 0))
+    (λ (t : Bool). BadFrom o ((good_mark c, o) ∷ marks_from (suc o) os) (when t then (λ _. one_on (first_bad os)) else λ _. Some 0))
     (sym (mark_is c)) (by (good_mark c) (marks_from (suc o) os) (first_bad os) (bad_from (suc o) os))
   where
     by : (t : Bool) (cs : List (Bool × ℕ)) (b : Option ℕ) → BadFrom (suc o) cs b →
-        BadFrom o ((t, o) ∷ cs) (when t then (λ _. one_on b) else λ _. some 0)
-    by true cs none h = h
-    by true cs (some i) h = (h.0, omega (arith, h.1))
+        BadFrom o ((t, o) ∷ cs) (when t then (λ _. one_on b) else λ _. Some 0)
+    by true cs None h = h
+    by true cs (Some i) h = (h.0, omega (arith, h.1))
     by false cs b h = (tt, omega arith)
 
 -- the cells
@@ -183,7 +191,7 @@ all_passed : (p : Position) → Fits [] (reads p)
 unfolding Fits first_failed
 all_passed p = refl
 
-known_some : {A : Type 0} (o : Option A) (a : A) → o ≡ some a → T (known o)
+known_some : {A : Type 0} (o : Option A) (a : A) → o ≡ Some a → T (known o)
 known_some {A = A} o a e = subst (λ (x : Option A). T (known x)) (sym e) tt
 
 -- three sections, the first of them a side's letter, the second nine good marks
@@ -243,33 +251,26 @@ fits_number cs (refuses n o l) h = sym h.0
 pub refusal_is_first_failed : (text : List ℕ) → text_refusal (read text) ≡ first_failed (numbers (text_checks text (sections text)))
 refusal_is_first_failed text = fits_number _ (read text) (answer_fits (read_answers text))
 
-answer_said : (a : ParseAnswer) (g : Game) → parse_number a ≡ text_refusal (reading_of a g)
-answer_said Accepted g = refl
-answer_said (Refused e) g = refl
+answer_said : (r : Result Game ParseError) → answer_number parse_number r ≡ text_refusal (reading_of r)
+answer_said (Ok g) = refl
+answer_said (Err e) = refl
 
-refused_game : (x : Reading) → (text_refusal x ≡ 0 → ⊥) → game_for x ≡ new_game
-refused_game (reads p) h = absurd (h refl)
-refused_game (refuses n o l) h = refl
-
-module _ (text : List ℕ) (r : Parsed) (h : Parses text r) where
+module _ (text : List ℕ) (r : Result Game ParseError) (h : Parses text r) where
   abbrev asked : List (Bool × ℕ × ℕ × ℕ)
   asked = text_checks text (sections text)
 
-  fits : Fits asked (reading_of r.answer r.game)
+  fits : Fits asked (reading_of r)
   fits = subst (Fits asked) (sym h.says) (answer_fits (read_answers text))
 
-  said : parse_number r.answer ≡ text_refusal (read text)
-  said = answer_said r.answer r.game ∙ ap text_refusal h.says
-
-  error_placed : (e : ParseError) → r.answer ≡ Refused e →
+  error_placed : (e : ParseError) → r ≡ Err e →
       (e.offset ≡ first_failed (offsets asked)) × (e.length ≡ first_failed (lengths asked))
   unfolding Fits
-  error_placed e q = let f = subst (λ (a : ParseAnswer). Fits asked (reading_of a r.game)) q fits in (sym f.1, sym f.2)
+  error_placed e q = let f = subst (λ (a : Result Game ParseError). Fits asked (reading_of a)) q fits in (sym f.1, sym f.2)
 
   pub reading_position_holds : ReadingPosition text r
   reading_position_holds = record {
-    number = answer_said r.answer r.game ∙ fits_number asked _ fits;
+    number = answer_said r ∙ fits_number asked _ fits;
     offset_is = λ e q. (error_placed e q).0;
     length_is = λ e q. (error_placed e q).1;
-    refused = λ e. h.game_is ∙ refused_game (read text) (λ q. e (said ∙ q));
+    refused = refused_value parse_number new_game r;
   }

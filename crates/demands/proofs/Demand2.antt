@@ -5,8 +5,10 @@ use mathlib.Core.Bool.{not}
 use mathlib.Core.List.{List, [], ◌∷◌}
 use Prim.Native.Nat.{ℕ}
 use native.Mathlib.Omega.{arith}
-use lib.Dec.{T}
+use lib.Dec.{T, ltb}
 use lib.ListN.{length}
+use Rattle.std.specs.Prelude.{Result, Ok, Err, IfOk}
+use Rattle.std.specs.Result.{result_unwrap_or}
 use Rattle.rules.specs.Position.{Position, unfinished}
 use Rattle.rules.specs.Play.{no_move, play, tried, reached}
 use Rattle.rules.specs.Moves.{moves}
@@ -28,26 +30,25 @@ use Rattle.game.specs.declared.Game.{Game}
 use Rattle.game.specs.Meaning.{position_of}
 use Rattle.game.specs.Built.{new_game}
 use Rattle.game.specs.After.{refusal, game_after, games_after, Plays}
-use Rattle.game.specs.Look.{LooksCell, LooksState}
 use Rattle.game.specs.Neat.{neat, game_of}
 use Rattle.game.proofs.AfterHash.{Fresh, zobrist_fresh}
 use Rattle.game.proofs.AfterList.{played_neat, played_means, played_hash, new_played_neat, new_played_means, new_played_hash}
 use Rattle.game.proofs.MeaningMoves.{all_moves_listed}
 use Rattle.game.proofs.Neat.{neat_is_fixed}
-use Rattle.notation.specs.declared.ParseAnswer.{ParseAnswer}
-use Rattle.notation.specs.declared.ParseAnswer.TheVariants.{Accepted, Refused}
-use Rattle.notation.specs.declared.Parsed.{Parsed}
 use Rattle.notation.specs.Parsed.{reading_of, game_for, Parses, ParsesMove}
+use Rattle.notation.proofs.ParsedAnswers.{game_or_new}
 use Rattle.notation.proofs.ParsedGames.{read_gives_a_game}
 use Rattle.notation.proofs.ParsedRoundTrip.{render_reads_back}
 use Rattle.evaluation.specs.Values.{Evaluates}
-use Rattle.endgame.specs.Means.{Analyses, Judges}
+use Rattle.endgame.specs.Means.{Analyses, Judges, analysis_status}
 use Rattle.minimax.specs.declared.Minimax.{Minimax}
 use Rattle.minimax.specs.declared.Config.{Config}
 use Rattle.minimax.specs.Report.{bytes_of, responses_of, scoring_of, settings_of, report_of, reported_of}
 use Rattle.minimax.proofs.Structs.{reported_rules}
 use Rattle.demands.specs.declared.GameAnswers.{GameAnswers}
 use Rattle.demands.specs.Demand2.{begins_at, SameAs, Demand2, ReadAgain}
+use Rattle.boards.specs.Answers.{within, in_range}
+use Rattle.notation.specs.declared.ParseError.{ParseError}
 
 -- ---- a struct that means a position, is neat and has the fresh hash
 record Means (g : Game) (p : Position) : Type 0 where
@@ -83,13 +84,13 @@ module _ (text ms : List ℕ) (m : Move) (board cell : ℕ) (other : Game) (memo
     pub parsed : Parses text r.read
     pub move_parsed : ParsesMove text r.read_move
     pub move_rendered : r.move_text ≡ move_text m.bits
-    pub played : r.game ≡ games_after r.read.game ms
+    pub played : r.game ≡ games_after (result_unwrap_or r.read new_game) ms
     pub turn : r.player ≡ r.game.next_player
     pub next_board : r.board_to_play ≡ r.game.next_board
     pub state : r.game_state ≡ r.game.game_state
     pub over : r.game_over ≡ not (unfinished (position_of r.game))
-    pub looked_cell : LooksCell (position_of r.game) board cell r.cell
-    pub looked_board : LooksState (position_of r.game) board r.board_state
+    pub looked_cell : r.cell ≡ within (in_range board cell) ((position_of r.game).cells board cell)
+    pub looked_board : r.board_state ≡ within (ltb board 9) ((position_of r.game).states board)
     pub rendered : r.text ≡ text_of (position_of r.game)
     pub cursor : MoveIterator
     pub cursor_is : cursor ≡ cursor_over (moves (position_of r.game))
@@ -99,7 +100,7 @@ module _ (text ms : List ℕ) (m : Move) (board cell : ℕ) (other : Game) (memo
     pub keyed : r.key ≡ with_turn (position_of r.game) r.game.hash
     pub valued : Evaluates (scoring_of c) r.game r.evaluation
     pub analysed : Analyses r.game r.analysis
-    pub status_given : r.status ≡ r.analysis.proven
+    pub status_given : r.status ≡ analysis_status r.analysis
     pub judged : Judges r.game m r.move_status
     pub searched : report_of r.report words' ≡ reported_of memory r.game c words
     pub bounded : r.bound_depth ≡ bound_depth (position_of r.game)
@@ -120,10 +121,8 @@ module _ (text ms : List ℕ) (m : Move) (board cell : ℕ) (other : Game) (memo
       next_board_is = h.next_board ∙ ap (λ (q : Position). q.next_board) e;
       state_is = h.state ∙ ap (λ (q : Position). q.state) e;
       over_is = h.over ∙ ap (λ (q : Position). not (unfinished q)) e;
-      cell_refusal_is = h.looked_cell.number;
-      cell_is = h.looked_cell.cell_is ∙ ap (λ (q : Position). q.cells board cell) e;
-      board_refusal_is = h.looked_board.number;
-      board_state_is = h.looked_board.state_is ∙ ap (λ (q : Position). q.states board) e;
+      cell_is = h.looked_cell ∙ ap (λ (q : Position). within (in_range board cell) (q.cells board cell)) e;
+      board_state_is = h.looked_board ∙ ap (λ (q : Position). within (ltb board 9) (q.states board)) e;
       text_is = h.rendered ∙ ap text_of e;
       moves_are =
           h.listed ∙ ap (λ (it : MoveIterator). filled no_move (moves_left it)) h.cursor_is
@@ -154,27 +153,25 @@ module _ (text ms : List ℕ) (m : Move) (board cell : ℕ) (other : Game) (memo
     demand_2 =
         let p = begins_at (read text) in
         let k = played_on (game_for (read text)) p ms (begun text (read text) refl) in
-        let e = h.played ∙ ap (λ (g : Game). games_after g ms) h.parsed.game_is in
+        let begun_is = game_or_new text r.read h.parsed in
+        let e = h.played ∙ ap (λ (g : Game). games_after g ms) begun_is in
         record {
           reading_is = h.parsed.says;
-          read_game_is = h.parsed.game_is;
-          move_reading_is = h.move_parsed.says;
-          move_read_is = h.move_parsed.move_is;
+          read_game_is = begun_is;
+          move_reading_is = h.move_parsed;
           move_text_is = h.move_rendered;
           same = same_as (reached p ms) (subst (λ (g : Game). Means g (reached p ms)) (sym e) k);
         }
 
 -- ---- rendered and read again
-accepted_by : (a : ParseAnswer) (g : Game) (p : Position) → reading_of a g ≡ reads p → a ≡ Accepted
-accepted_by Accepted g p e = refl
-accepted_by (Refused w) g p e = absurd (let z : ◌≡◌ {A = ℕ} 0 1 = cc in omega arith)
+accepted_game : (r : Result Game ParseError) (p : Position) (k : Game) → reading_of r ≡ reads p → IfOk r (λ g. g ≡ k) → r ≡ Ok k
+accepted_game (Ok g) p k e h = ap Ok h
+accepted_game (Err why) p k e h = absurd (let z : ◌≡◌ {A = ℕ} 0 1 = cc in omega arith)
 
-pub reads_again : (ms : List ℕ) (g : Game) (text : List ℕ) (r : Parsed) → g ≡ games_after new_game ms →
+pub reads_again : (ms : List ℕ) (g : Game) (text : List ℕ) (r : Result Game ParseError) → g ≡ games_after new_game ms →
     text ≡ text_of (position_of g) → Parses text r → ReadAgain ms r
 reads_again ms g text r g_is text_is h =
     let q = games_after new_game ms in
     let e : read text ≡ read (text_of (position_of q)) = ap read (text_is ∙ ap (λ (x : Game). text_of (position_of x)) g_is) in
-    record {
-      accepted = accepted_by r.answer r.game (position_of q) (h.says ∙ e ∙ (render_reads_back ms).0);
-      game_is = h.game_is ∙ ap game_for e ∙ (render_reads_back ms).1;
-    }
+    accepted_game r (position_of q) q (h.says ∙ e ∙ (render_reads_back ms).0)
+    (subst (λ (k : Game). IfOk r (λ x. x ≡ k)) (ap game_for e ∙ (render_reads_back ms).1) h.game_is)

@@ -1,5 +1,5 @@
 -- What a cursor has given, and what it has left.
-use mathlib.Core.Path.{◌≡◌, refl, sym, ap, ap₂, ◌∙◌, subst}
+use mathlib.Core.Path.{◌≡◌, refl, sym, ap, ◌∙◌, subst}
 use mathlib.Core.List.{List, [], ◌∷◌, ◌++◌}
 use Prim.Native.Nat.{ℕ, zero, suc, ◌+◌, ◌-◌, ◌≤◌, ◌<◌}
 use native.Mathlib.Omega.{arith}
@@ -12,11 +12,8 @@ use Rattle.rules.specs.Play.{no_move}
 use Rattle.theory.specs.Reported.{filled}
 use Rattle.boards.specs.declared.moves.Move.{Move}
 use Rattle.boards.specs.declared.moves.MoveIterator.{MoveIterator}
-use Rattle.boards.specs.declared.moves.Listed.{Listed}
-use Rattle.boards.specs.declared.moves.Listed.TheVariants.{Next, End}
-use Rattle.boards.specs.Cursor.{move_at, row_moves, moves_left, cursor_over, listed}
-use Rattle.boards.proofs.CursorRest.{rest_left}
-use Rattle.minimax.specs.Report.{byte_of, bytes_of}
+use Rattle.boards.specs.Cursor.{move_at, row_moves, moves_left}
+use Rattle.minimax.specs.Report.{bytes_of}
 use Rattle.minimax.proofs.ReportAnswers.{bytes_empty}
 use Rattle.minimax.proofs.ReportPlaces.{bytes_set, drop_next, take_next, rest_next}
 
@@ -71,41 +68,34 @@ pub record Listing (ms : List ℕ) (i : ℕ) (list : List Move) (left : MoveIter
 pub listing_begins : (it : MoveIterator) → Listing (moves_left it) 0 (replicate 81 (record { bits = no_move })) it
 listing_begins it = record { most = omega arith; placed = bytes_empty 81; left_is = refl }
 
--- l is what it says next
-module _ (ms : List ℕ) (i : ℕ) (list : List Move) (left : MoveIterator) (h : Listing ms i list left) (more : i < 81) (l : Listed)
-    (l_is : l ≡ listed (moves_left left)) (j : ℕ) (j_is : j ≡ suc i) where
-  pub listing_next : (m : Move) (rest : MoveIterator) → l ≡ Next m rest → (list' : List Move) → list' ≡ set list i m →
-      (left' : MoveIterator) → left' ≡ rest → Listing ms j list' left'
-  listing_next m rest e list' o left' f = subst (λ (k : ℕ). Listing ms k list' left') (sym j_is)
-      (subst (λ (x : List Move). Listing ms (suc i) x left') (sym o) (subst (Listing ms (suc i) (set list i m)) (sym f)
-      (go (drop i ms) refl (sym e ∙ l_is ∙ ap listed h.left_is))))
-    where
-      go : (ns : List ℕ) → drop i ms ≡ ns → Next m rest ≡ listed ns → Listing ms (suc i) (set list i m) rest
-      go [] d f = absurd (let z : ◌≡◌ {A = ℕ} 0 1 = cc in omega arith)
-      go (n ∷ ns) d f =
-          let r : rest ≡ cursor_over ns = cc in
-          let s : m ≡ record { bits = n } = cc in
-          record {
-            most = omega arith;
-            placed =
-                bytes_set list i m ∙ ap₂ (λ (bs : List ℕ) (b : ℕ). set bs i b) h.placed (ap byte_of s)
-                ∙ set_filled (take i ms) i n (taken_length ms i n ns d) more ∙ ap (filled no_move) (sym (take_next i ms ns n d));
-            left_is = ap moves_left r ∙ rest_left left n ns (h.left_is ∙ d) ∙ sym (drop_next i ms ns n d);
-          }
+-- asked once more, it gives the first of the moves left, or nothing
+module _ (ms : List ℕ) (i : ℕ) (list : List Move) (left : MoveIterator) (h : Listing ms i list left) (more : i < 81) (j : ℕ)
+    (j_is : j ≡ suc i) where
+  pub listing_next : (m : Move) (rest : MoveIterator) → moves_left left ≡ m.bits ∷ moves_left rest → (list' : List Move) →
+      list' ≡ set list i m → Listing ms j list' rest
+  listing_next m rest e list' o = subst (λ (k : ℕ). Listing ms k list' rest) (sym j_is)
+      (subst (λ (x : List Move). Listing ms (suc i) x rest) (sym o) (
+      let d : drop i ms ≡ m.bits ∷ moves_left rest = sym h.left_is ∙ e in
+      record {
+        most = omega arith;
+        placed =
+            bytes_set list i m ∙ ap (λ (bs : List ℕ). set bs i m.bits) h.placed
+            ∙ set_filled (take i ms) i m.bits (taken_length ms i m.bits _ d) more
+            ∙ ap (filled no_move) (sym (take_next i ms _ m.bits d));
+        left_is = sym (drop_next i ms _ m.bits d);
+      }))
 
-  pub listing_ended : l ≡ End → (list' : List Move) → list' ≡ list → (left' : MoveIterator) → left' ≡ left →
+  pub listing_ended : moves_left left ≡ [] → (list' : List Move) → list' ≡ list → (left' : MoveIterator) → left' ≡ left →
       Listing ms j list' left'
   listing_ended e list' o left' f = subst (λ (k : ℕ). Listing ms k list' left') (sym j_is)
-      (subst (λ (x : List Move). Listing ms (suc i) x left') (sym o) (subst (Listing ms (suc i) list) (sym f)
-      (go (drop i ms) refl (sym e ∙ l_is ∙ ap listed h.left_is))))
-    where
-      go : (ns : List ℕ) → drop i ms ≡ ns → End ≡ listed ns → Listing ms (suc i) list left
-      go (n ∷ ns) d f = absurd (let z : ◌≡◌ {A = ℕ} 0 1 = cc in omega arith)
-      go [] d f = let p = all_given ms i d in record {
+      (subst (λ (x : List Move). Listing ms (suc i) x left') (sym o) (subst (Listing ms (suc i) list) (sym f) (
+      let d : drop i ms ≡ [] = sym h.left_is ∙ e in
+      let p = all_given ms i d in
+      record {
         most = omega arith;
         placed = h.placed ∙ ap (filled no_move) (sym p.1);
-        left_is = h.left_is ∙ d ∙ sym p.0;
-      }
+        left_is = e ∙ sym p.0;
+      })))
 
 pub listing_done : (it : MoveIterator) (i : ℕ) (list : List Move) (left : MoveIterator) → Listing (moves_left it) i list left →
     81 ≤ i → bytes_of list ≡ filled no_move (moves_left it)

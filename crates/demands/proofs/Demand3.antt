@@ -1,12 +1,13 @@
 -- After every list of tried moves the game means the position that the rules reach, with its fresh hash, so each answer is the rules' own
 -- there.
+use Rattle.std.specs.Prelude.{Option, Result}
 use mathlib.Core.Path.{◌≡◌, refl, sym, ap, ◌∙◌, subst}
 use mathlib.Core.List.{List, [], ◌∷◌}
 use Prim.Native.Nat.{ℕ}
 use native.Mathlib.Omega.{arith}
 use lib.Dec.{T}
 use lib.ListN.{length}
-use Rattle.rules.specs.declared.DrawWinner.{DrawWinner}
+use Rattle.rules.specs.declared.Player.{Player}
 use Rattle.rules.specs.Position.{Position, start}
 use Rattle.rules.specs.Play.{reached}
 use Rattle.rules.specs.Hash.{zobrist}
@@ -35,13 +36,14 @@ use Rattle.minimax.proofs.Structs.{reported_rules}
 use Rattle.demands.specs.Claims.{MarkSays, ReportsMinimax, StatusHolds}
 use Rattle.demands.specs.Demand3.{Demand3}
 use Rattle.demands.proofs.Claims.{reported_marks, reported_right, reported_holds}
+use Rattle.endgame.specs.declared.Unsound.{Unsound}
 
 pub none_long : (words : List ℕ) → length words ≡ 0 → words ≡ []
 none_long [] e = refl
 none_long (w ∷ words) e = absurd (omega arith)
 
-module _ (ms : List ℕ) (m : Minimax) (c : Config) (g : Game) (a : Analysis) (rep : Report) (g_is : g ≡ games_after new_game ms)
-    (a_is : Analyses g a) (rep_is : report_of rep [] ≡ reported_of m g c []) where
+module _ (ms : List ℕ) (m : Minimax) (c : Config) (g : Game) (a : Result Analysis Unsound) (rep : Report)
+    (g_is : g ≡ games_after new_game ms) (a_is : Analyses g a) (rep_is : report_of rep [] ≡ reported_of m g c []) where
   abbrev rs : Responses
   rs = responses_of m.responses
 
@@ -83,6 +85,6 @@ module _ (ms : List ℕ) (m : Minimax) (c : Config) (g : Game) (a : Analysis) (r
         (reported_right ms t c.draw_winner (settings_of c) rs n);
     status_holds =
         λ t e. subst (λ (x : Reported). StatusHolds (settings_of c) rs p x (analysis p).status)
-        (sym (report_is ∙ ap (λ (w : DrawWinner). reported (game (scoring_with w c.weights)) (settings_of c) p rs []) e))
+        (sym (report_is ∙ ap (λ (w : Option Player). reported (game (scoring_with w c.weights)) (settings_of c) p rs []) e))
         (reported_holds ms t (settings_of c) rs);
   }

@@ -1,4 +1,5 @@
 -- Of accepted weights the evaluation's laws; of others both values are 0.
+use Rattle.std.specs.Prelude.{Option, Result}
 use mathlib.Core.Path.{◌≡◌, refl, ap, sym, ◌∙◌, subst}
 use mathlib.Core.Bool.{Bool, true, false}
 use Prim.Native.Nat.{◌+◌, ◌*◌, ◌≤◌, max}
@@ -7,19 +8,19 @@ use lib.Dec.{T}
 use lib.IntN.{ℤ, neg_ℤ, nat_abs}
 use lib.Signed.{◌<ℤ◌}
 use denote.Floats.{passes}
+use Rattle.rules.specs.declared.Player.{Player}
 use Rattle.base.proofs.Integers.{hi, lo, zarith}
-use Rattle.rules.specs.declared.DrawWinner.{DrawWinner}
 use Rattle.rules.specs.declared.Weights.{Weights}
 use Rattle.rules.specs.Position.{Position, unfinished}
 use Rattle.rules.specs.Evaluation.{won, lost, accepted_weights, Scoring, scoring_with, evaluated}
 use Rattle.rules.proofs.Evaluation.{other_side_negates, unfinished_within, value_inside, evaluated_accepted, evaluated_refused}
 use Rattle.game.specs.declared.Game.{Game}
 use Rattle.game.specs.Meaning.{position_of}
-use Rattle.evaluation.specs.declared.Evaluation.{Evaluation}
 use Rattle.evaluation.specs.Values.{Evaluates}
 use Rattle.demands.specs.Evaluations.{other_to_move, EvaluationClaims}
+use Rattle.evaluation.specs.declared.BadWeight.{BadWeight}
 
-module _ (g : Game) (draws : DrawWinner) (w : Weights) (own others : Evaluation) where
+module _ (g : Game) (draws : Option Player) (w : Weights) (own others : Result ℤ BadWeight) where
   abbrev sc : Scoring
   sc = scoring_with draws w
 

@@ -1,8 +1,6 @@
 -- Demand 3: what is claimed of a search with the table off, and of the endgame status, at an unfinished position.
-use Rattle.std.specs.Prelude.{◌≡◌, not, [], ◌⊎◌, ◌-◌, ◌≤◌, T, neg_ℤ, get_or}
+use Rattle.std.specs.Prelude.{◌≡◌, not, [], ◌⊎◌, ◌-◌, ◌≤◌, T, neg_ℤ, get_or, Option, None}
 use Rattle.rules.specs.declared.Player.{Player}
-use Rattle.rules.specs.declared.DrawWinner.{DrawWinner}
-use Rattle.rules.specs.declared.DrawWinner.TheVariants.{Nobody}
 use Rattle.rules.specs.Position.{Position}
 use Rattle.rules.specs.Play.{no_move, accepts, tried}
 use Rattle.rules.specs.Status.{Status, allows, alone}
@@ -14,7 +12,7 @@ use Rattle.theory.specs.Variation.{play_out, ends_on}
 use Rattle.rules_game.specs.RulesGame.{game, plain_minimax, win_for}
 use Rattle.rules_game.specs.Answers.{entries}
 
-module _ (draws : DrawWinner) (c : Settings) (rs : Responses) (p : Position) where
+module _ (draws : Option Player) (c : Settings) (rs : Responses) (p : Position) where
   -- how positions are scored: under the weights of the settings
   abbrev pub sc : Scoring
   sc = scoring_with draws c.weights
@@ -52,6 +50,6 @@ module _ (draws : DrawWinner) (c : Settings) (rs : Responses) (p : Position) whe
 module _ (c : Settings) (rs : Responses) (p : Position) (x : Reported) (s : Status) where
   pub record StatusHolds : Type 0 where
     -- it leaves w alone, and no draw: a search that runs to its end, three deep or deeper, has w's win for its score
-    pub alone_wins : (w : Player) → T (alone s w) → NotStopped Nobody c rs p → 3 ≤ c.max_depth → x.score ≡ win_for w p
+    pub alone_wins : (w : Player) → T (alone s w) → NotStopped None c rs p → 3 ≤ c.max_depth → x.score ≡ win_for w p
     -- it leaves w out: w's win is the score of no search at all
     pub left_out_never : (w : Player) → T (not (allows s w)) → x.score ≡ win_for w p → ⊥

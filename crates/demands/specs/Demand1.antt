@@ -1,15 +1,16 @@
 -- Demand 1: what each entry point asks, as a list of checks with the refusals' numbers in their order, and what it returns where one fails.
 -- The number that it answers is that of the first that fails, 0 where all pass.
-use Rattle.std.specs.Prelude.{◌≡◌, Bool, false, not, ◌||◌, ◌&&◌, List, [], ◌∷◌, ◌++◌, map, ℕ, suc, ◌+◌, ◌*◌, ◌-◌, ◌%◌}
-use Rattle.std.specs.Prelude.{T, eqb, leb, ltb, pos, length, get_or, replicate}
+use Rattle.game.specs.Built.{new_game}
+use Rattle.rules.specs.declared.GameState.TheVariants.{InPlay}
+use Rattle.rules.specs.declared.CellState.TheVariants.{Empty}
+use Rattle.std.specs.Result.{result_unwrap_or}
+use Rattle.std.specs.Prelude.{◌≡◌, Bool, false, not, ◌||◌, ◌&&◌, List, [], ◌∷◌, ◌++◌, map, ℕ, suc, ◌+◌, ◌*◌, ◌-◌, ◌%◌, None, Result, Err}
+use Rattle.std.specs.Prelude.{T, eqb, leb, ltb, pos, length, get_or, replicate, IfOk, ℤ}
 use Rattle.base.specs.Lists.{any, elem, from}
 use Rattle.base.specs.Checks.{all_pass, first_failed}
 use Rattle.rules.specs.declared.Player.{Player}
 use Rattle.rules.specs.declared.Player.TheVariants.{X, O}
-use Rattle.rules.specs.declared.DrawWinner.TheVariants.{Nobody}
 use Rattle.rules.specs.declared.Weights.{Weights}
-use Rattle.rules.specs.declared.CellState.TheVariants.{Empty}
-use Rattle.rules.specs.declared.GameState.TheVariants.{InPlay}
 use Rattle.rules.specs.Board.{blank, mine, in_play, won_by, nine, has_line}
 use Rattle.rules.specs.Position.{Position}
 use Rattle.rules.specs.Play.{no_move, move_of, board_of, cell_of, checks, after}
@@ -26,28 +27,16 @@ use Rattle.theory.specs.OrderedSearch.{unlimited}
 use Rattle.theory.specs.Deepening.{analyze}
 use Rattle.theory.specs.Reported.{entry_checks, Reported, no_stats}
 use Rattle.boards.specs.declared.moves.Move.{Move}
-use Rattle.boards.specs.declared.moves.Built.{Built}
 use Rattle.boards.specs.Packed.{cell_at, state_at}
-use Rattle.boards.specs.Answers.{answer_number, in_range}
+use Rattle.boards.specs.Answers.{in_range, move_error_number}
 use Rattle.game.specs.declared.Game.{Game}
-use Rattle.game.specs.declared.MoveResult.{MoveResult}
-use Rattle.game.specs.declared.CellAnswer.{CellAnswer}
-use Rattle.game.specs.declared.StateAnswer.{StateAnswer}
 use Rattle.game.specs.Meaning.{position_of}
-use Rattle.game.specs.Built.{new_game}
-use Rattle.game.specs.After.{after_move}
+use Rattle.game.specs.After.{after_move, game_left}
 use Rattle.notation.specs.declared.ParseError.{ParseError}
-use Rattle.notation.specs.declared.ParseAnswer.TheVariants.{Refused}
-use Rattle.notation.specs.declared.Parsed.{Parsed}
-use Rattle.notation.specs.declared.MoveTextAnswer.TheVariants.{BadCharacter}
-use Rattle.notation.specs.declared.ParsedMove.{ParsedMove}
 use Rattle.notation.specs.Parsed.{parse_number, move_number, game_for}
 use Rattle.status.specs.Sets.{status_of}
-use Rattle.evaluation.specs.declared.Evaluation.{Evaluation}
-use Rattle.evaluation.specs.Values.{evaluation_number}
 use Rattle.endgame.specs.declared.Analysis.{Analysis}
-use Rattle.endgame.specs.declared.MoveStatus.{MoveStatus}
-use Rattle.endgame.specs.Means.{analysis_number, move_status_number, endgame_stats_of}
+use Rattle.endgame.specs.Means.{move_status_number, unsound_number, analysis_status, analysis_stats, move_status}
 use Rattle.minimax.specs.declared.Minimax.{Minimax}
 use Rattle.minimax.specs.declared.Config.{Config}
 use Rattle.minimax.specs.Structs.{structs}
@@ -55,15 +44,26 @@ use Rattle.minimax.specs.Report.{settings_of, report_of, answer_of, scoring_of, 
 use Rattle.answer_text.specs.AnswerBytes.{written_bytes}
 use Rattle.program_line.specs.Answered.{program_search}
 use Rattle.demands.specs.declared.EntryAnswers.{EntryAnswers}
+use Rattle.rules.specs.Refusal.{answer_number}
+use Rattle.boards.specs.declared.moves.MoveError.{MoveError}
+use Rattle.evaluation.specs.declared.BadWeight.{BadWeight}
+use Rattle.evaluation.specs.Values.{bad_weight_number, value_or_0}
+use Rattle.endgame.specs.declared.Unsound.{Unsound}
+use Rattle.endgame.specs.declared.MoveStatusError.{MoveStatusError}
+use Rattle.status.specs.declared.Status.{Status}
+use Rattle.notation.specs.declared.ParseMoveError.{ParseMoveError}
+use Rattle.notation.specs.declared.ParseMoveError.TheVariants.{BadCharacter}
+use Rattle.rules.specs.declared.CellState.{CellState}
+use Rattle.rules.specs.declared.GameState.{GameState}
 
 -- ---- playing: the rules' own checks
--- refused play returns the old game
-pub record Playing (g : Game) (m : Move) (r : MoveResult) : Type 0 where
-  pub number : answer_number r.answer ≡ first_failed (checks (position_of g) (board_of m.bits) (cell_of m.bits))
-  pub refused : (answer_number r.answer ≡ 0 → ⊥) → r.game ≡ g
-  pub accepted : answer_number r.answer ≡ 0 → r.game ≡ after_move g (board_of m.bits) (cell_of m.bits)
-  pub accepted_means : answer_number r.answer ≡ 0 →
-      position_of r.game ≡ after (position_of g) (board_of m.bits) (cell_of m.bits)
+-- refused play leaves the old game
+pub record Playing (g : Game) (m : Move) (r : Result Game MoveError) : Type 0 where
+  pub number : answer_number move_error_number r ≡ first_failed (checks (position_of g) (board_of m.bits) (cell_of m.bits))
+  pub refused : (answer_number move_error_number r ≡ 0 → ⊥) → game_left g r ≡ g
+  pub accepted : answer_number move_error_number r ≡ 0 → game_left g r ≡ after_move g (board_of m.bits) (cell_of m.bits)
+  pub accepted_means : answer_number move_error_number r ≡ 0 →
+      position_of (game_left g r) ≡ after (position_of g) (board_of m.bits) (cell_of m.bits)
 
 -- ---- searching
 module _ (m : Minimax) (g : Game) (c : Config) (words : List ℕ) where
@@ -110,9 +110,9 @@ module _ (m : Minimax) (g : Game) (c : Config) (words : List ℕ) where
 abbrev pub evaluating : Weights → List (Bool × ℕ)
 evaluating w = (leb w.one 1000 && (leb w.two 1000 && leb w.board 1000), 20) ∷ []
 
-pub record Evaluating (w : Weights) (r : Evaluation) : Type 0 where
-  pub number : evaluation_number r.answer ≡ first_failed (evaluating w)
-  pub refused : (evaluation_number r.answer ≡ 0 → ⊥) → r.value ≡ pos 0
+pub record Evaluating (w : Weights) (r : Result ℤ BadWeight) : Type 0 where
+  pub number : answer_number bad_weight_number r ≡ first_failed (evaluating w)
+  pub refused : (answer_number bad_weight_number r ≡ 0 → ⊥) → value_or_0 r ≡ pos 0
 
 -- ---- the endgame analysis
 -- a side has a line of boards
@@ -133,47 +133,52 @@ abbrev pub analysing : Game → List (Bool × ℕ)
 analysing g = (not (in_play g.game_state && unsound g), 14) ∷ []
 
 -- the full set and no counts
-pub record Unanswered (a : Analysis) : Type 0 where
-  pub full : a.proven ≡ status_of unproven
-  pub none_counted : endgame_stats_of a.stats ≡ no_counts
+pub record Unanswered (a : Result Analysis Unsound) : Type 0 where
+  pub full : analysis_status a ≡ status_of unproven
+  pub none_counted : analysis_stats a ≡ no_counts
 
-pub record Analysing (g : Game) (a : Analysis) : Type 0 where
-  pub number : analysis_number a.answer ≡ first_failed (analysing g)
-  pub refused : (analysis_number a.answer ≡ 0 → ⊥) → Unanswered a
-  pub finished_number : T (not (in_play g.game_state)) → analysis_number a.answer ≡ 0
+pub record Analysing (g : Game) (a : Result Analysis Unsound) : Type 0 where
+  pub number : answer_number unsound_number a ≡ first_failed (analysing g)
+  pub refused : (answer_number unsound_number a ≡ 0 → ⊥) → Unanswered a
+  pub finished_number : T (not (in_play g.game_state)) → answer_number unsound_number a ≡ 0
   pub finished : T (not (in_play g.game_state)) → Unanswered a
 
 -- a move's status: 14 first, then what playing refuses
-pub record JudgingMove (g : Game) (m : Move) (r : MoveStatus) : Type 0 where
-  pub number : move_status_number r.answer ≡ first_failed (analysing g ++
+pub record JudgingMove (g : Game) (m : Move) (r : Result Status MoveStatusError) : Type 0 where
+  pub number : answer_number move_status_number r ≡ first_failed (analysing g ++
       checks (position_of g) (board_of m.bits) (cell_of m.bits))
-  pub refused : (move_status_number r.answer ≡ 0 → ⊥) → r.status ≡ status_of unproven
+  pub refused : (answer_number move_status_number r ≡ 0 → ⊥) → move_status r ≡ status_of unproven
 
 -- ---- looking at a cell or a board, and building a move
-pub record LookingCell (b c : ℕ) (r : CellAnswer) : Type 0 where
-  pub number : answer_number r.answer ≡ first_failed ((in_range b c, 9) ∷ [])
-  pub refused : (answer_number r.answer ≡ 0 → ⊥) → r.cell ≡ Empty
+abbrev pub empty_move : Move
+empty_move = record { bits = no_move }
 
-pub record LookingBoard (b : ℕ) (r : StateAnswer) : Type 0 where
-  pub number : answer_number r.answer ≡ first_failed ((ltb b 9, 9) ∷ [])
-  pub refused : (answer_number r.answer ≡ 0 → ⊥) → r.state ≡ InPlay
+-- refused, an empty cell, an open board and the empty move
+pub record LookingCell (b c : ℕ) (r : Result CellState MoveError) : Type 0 where
+  pub number : answer_number move_error_number r ≡ first_failed ((in_range b c, 9) ∷ [])
+  pub refused : (answer_number move_error_number r ≡ 0 → ⊥) → result_unwrap_or r Empty ≡ Empty
 
-pub record Building (b c : ℕ) (r : Built) : Type 0 where
-  pub number : answer_number r.answer ≡ first_failed ((in_range b c, 9) ∷ [])
-  pub refused : (answer_number r.answer ≡ 0 → ⊥) → r.m.bits ≡ no_move
-  pub accepted : answer_number r.answer ≡ 0 → r.m.bits ≡ move_of b c
+pub record LookingBoard (b : ℕ) (r : Result GameState MoveError) : Type 0 where
+  pub number : answer_number move_error_number r ≡ first_failed ((ltb b 9, 9) ∷ [])
+  pub refused : (answer_number move_error_number r ≡ 0 → ⊥) → result_unwrap_or r InPlay ≡ InPlay
+
+pub record Building (b c : ℕ) (r : Result Move MoveError) : Type 0 where
+  pub number : answer_number move_error_number r ≡ first_failed ((in_range b c, 9) ∷ [])
+  pub refused : (answer_number move_error_number r ≡ 0 → ⊥) → result_unwrap_or r empty_move ≡ empty_move
+  pub accepted : IfOk r (λ m. m.bits ≡ move_of b c)
 
 -- ---- reading a move
 -- the first two bytes, each with what is said of it
 abbrev pub letters : List ℕ → ℕ → ℕ → List (Bool × ℕ)
 letters text m n = (coordinate (get_or text 0 0), m) ∷ (coordinate (get_or text 1 0), n) ∷ []
 
-pub record ReadingMove (text : List ℕ) (r : ParsedMove) : Type 0 where
-  pub number : move_number r.answer ≡ first_failed ((eqb (length text) 2, 7) ∷ letters text 8 8)
+pub record ReadingMove (text : List ℕ) (r : Result Move ParseMoveError) : Type 0 where
+  pub number : answer_number move_number r ≡ first_failed ((eqb (length text) 2, 7) ∷ letters text 8 8)
   -- 8 gives the byte, the first one first
-  pub byte : move_number r.answer ≡ 8 → r.answer ≡ BadCharacter (first_failed (letters text (get_or text 0 0) (get_or text 1 0)))
-  pub refused : (move_number r.answer ≡ 0 → ⊥) → r.m.bits ≡ no_move
-  pub accepted : move_number r.answer ≡ 0 → r.m.bits ≡ move_of (get_or text 0 0 - 0x61) (get_or text 1 0 - 0x61)
+  pub byte : answer_number move_number r ≡ 8 →
+      r ≡ Err (BadCharacter (first_failed (letters text (get_or text 0 0) (get_or text 1 0))))
+  pub refused : (answer_number move_number r ≡ 0 → ⊥) → result_unwrap_or r empty_move ≡ empty_move
+  pub accepted : IfOk r (λ m. m.bits ≡ move_of (get_or text 0 0 - 0x61) (get_or text 1 0 - 0x61))
 
 -- ---- reading a position
 -- `X` or `O`
@@ -227,11 +232,11 @@ offsets = map (λ (t : Bool × ℕ × ℕ × ℕ). (t.0, t.2))
 abbrev pub lengths : List (Bool × ℕ × ℕ × ℕ) → List (Bool × ℕ)
 lengths = map (λ (t : Bool × ℕ × ℕ × ℕ). (t.0, t.3))
 
-pub record ReadingPosition (text : List ℕ) (r : Parsed) : Type 0 where
-  pub number : parse_number r.answer ≡ first_failed (numbers (text_checks text (sections text)))
-  pub offset_is : (e : ParseError) → r.answer ≡ Refused e → e.offset ≡ first_failed (offsets (text_checks text (sections text)))
-  pub length_is : (e : ParseError) → r.answer ≡ Refused e → e.length ≡ first_failed (lengths (text_checks text (sections text)))
-  pub refused : (parse_number r.answer ≡ 0 → ⊥) → r.game ≡ new_game
+pub record ReadingPosition (text : List ℕ) (r : Result Game ParseError) : Type 0 where
+  pub number : answer_number parse_number r ≡ first_failed (numbers (text_checks text (sections text)))
+  pub offset_is : (e : ParseError) → r ≡ Err e → e.offset ≡ first_failed (offsets (text_checks text (sections text)))
+  pub length_is : (e : ParseError) → r ≡ Err e → e.length ≡ first_failed (lengths (text_checks text (sections text)))
+  pub refused : (answer_number parse_number r ≡ 0 → ⊥) → result_unwrap_or r new_game ≡ new_game
 
 -- ---- a line of the program
 abbrev pub digit : ℕ → Bool
@@ -251,7 +256,7 @@ digits_say (c ∷ d ∷ cs) = 10 * (c - 0x30) + (d - 0x30)
 
 -- the program's settings
 abbrev pub program_config : ℕ → Config
-program_config depth = record { max_depth = depth; allowance = 1000000; draw_winner = Nobody; weights = default_weights }
+program_config depth = record { max_depth = depth; allowance = 1000000; draw_winner = None; weights = default_weights }
 
 -- of what stands before the last blank and after it: the depth's form, the position's text, the endgame analysis, and a search from no
 -- responses with the table off

@@ -1,5 +1,6 @@
 -- Demand 2: of a text and of all play from it, each function answers what the rules, the hash and the search are defined to give.
-use Rattle.std.specs.Prelude.{◌≡◌, not, List, ℕ, ltb, length}
+use Rattle.std.specs.Prelude.{◌≡◌, not, List, ℕ, ltb, length, Result, Ok}
+use Rattle.std.specs.Result.{result_unwrap_or}
 use Rattle.rules.specs.Position.{Position, start, unfinished}
 use Rattle.rules.specs.Play.{no_move, play, tried, reached}
 use Rattle.rules.specs.Moves.{moves}
@@ -14,21 +15,21 @@ use Rattle.text.specs.Writing.{text_of}
 use Rattle.text.specs.MoveText.{read_move, move_text}
 use Rattle.status.specs.Sets.{status_of}
 use Rattle.boards.specs.declared.moves.Move.{Move}
-use Rattle.boards.specs.Answers.{answer_number, in_range, range_refusal}
+use Rattle.boards.specs.Answers.{in_range, within, move_error_number}
 use Rattle.game.specs.declared.Game.{Game}
 use Rattle.game.specs.Meaning.{position_of}
 use Rattle.game.specs.Built.{new_game}
-use Rattle.game.specs.After.{refusal, games_after}
+use Rattle.game.specs.After.{refusal, games_after, game_left}
 use Rattle.game.specs.Neat.{game_of}
-use Rattle.notation.specs.declared.Parsed.{Parsed}
-use Rattle.notation.specs.declared.ParseAnswer.TheVariants.{Accepted}
-use Rattle.notation.specs.Parsed.{reading_of, game_for, move_reading_of, move_for}
-use Rattle.evaluation.specs.Values.{evaluation_number}
-use Rattle.endgame.specs.Means.{analysis_number, move_status_number, endgame_stats_of}
+use Rattle.notation.specs.Parsed.{reading_of, game_for, move_reading_of}
+use Rattle.endgame.specs.Means.{move_status_number, unsound_number, analysis_status, analysis_stats, move_status}
 use Rattle.minimax.specs.declared.Minimax.{Minimax}
 use Rattle.minimax.specs.declared.Config.{Config}
 use Rattle.minimax.specs.Report.{bytes_of, responses_of, scoring_of, settings_of, report_of}
 use Rattle.demands.specs.declared.GameAnswers.{GameAnswers}
+use Rattle.rules.specs.Refusal.{answer_number}
+use Rattle.evaluation.specs.Values.{bad_weight_number, value_or_0}
+use Rattle.notation.specs.declared.ParseError.{ParseError}
 
 -- where play begins: at the position that was read, or, where the text is refused, on the empty board
 abbrev pub begins_at : Reading → Position
@@ -49,34 +50,32 @@ module _ (m : Move) (board cell : ℕ) (other : Game) (memory : Minimax) (c : Co
     pub next_board_is : r.board_to_play ≡ p.next_board
     pub state_is : r.game_state ≡ p.state
     pub over_is : r.game_over ≡ not (unfinished p)
-    -- `at` and `board_state`: over 8 the number is 9, and p has an empty cell and an open board
-    pub cell_refusal_is : answer_number r.cell.answer ≡ range_refusal (in_range board cell)
-    pub cell_is : r.cell.cell ≡ p.cells board cell
-    pub board_refusal_is : answer_number r.board_state.answer ≡ range_refusal (ltb board 9)
-    pub board_state_is : r.board_state.state ≡ p.states board
+    -- `at` and `board_state`: over 8 the refusal 9
+    pub cell_is : r.cell ≡ within (in_range board cell) (p.cells board cell)
+    pub board_state_is : r.board_state ≡ within (ltb board 9) (p.states board)
     -- `render`
     pub text_is : r.text ≡ text_of p
     -- `all_moves` and its cursor: the moves in their order, then empty places
     pub moves_are : bytes_of r.moves ≡ filled no_move (moves p)
     -- `legal_moves`
     pub legal_are : r.legal_moves ≡ length (moves p)
-    -- `make_move`, of one move more: its number, and the game after it
-    pub refusal_is : answer_number r.played.answer ≡ refusal (play p m.bits)
-    pub after_is : position_of r.played.game ≡ tried p m.bits
-    pub after_game_is : r.played.game ≡ game_of (tried p m.bits) (hash (tried p m.bits))
+    -- `make_move`, of one move more: its number, and the game that it leaves
+    pub refusal_is : answer_number move_error_number r.played ≡ refusal (play p m.bits)
+    pub after_is : position_of (game_left r.game r.played) ≡ tried p m.bits
+    pub after_game_is : game_left r.game r.played ≡ game_of (tried p m.bits) (hash (tried p m.bits))
     -- `zobrist`, which is the search's key
     pub key_is : r.key ≡ zobrist p
     -- `evaluate`: number and value
-    pub evaluation_refusal_is : evaluation_number r.evaluation.answer ≡ (evaluated (scoring_of c) p).refusal
-    pub value_is : r.evaluation.value ≡ (evaluated (scoring_of c) p).value
+    pub evaluation_refusal_is : answer_number bad_weight_number r.evaluation ≡ (evaluated (scoring_of c) p).refusal
+    pub value_is : value_or_0 r.evaluation ≡ (evaluated (scoring_of c) p).value
     -- `Analysis::new`: number, set and counts; `status` is the set
-    pub endgame_refusal_is : analysis_number r.analysis.answer ≡ (analysis p).refusal
-    pub proven_is : r.analysis.proven ≡ status_of (analysis p).status
+    pub endgame_refusal_is : answer_number unsound_number r.analysis ≡ (analysis p).refusal
+    pub proven_is : analysis_status r.analysis ≡ status_of (analysis p).status
     pub status_is : r.status ≡ status_of (analysis p).status
-    pub counts_are : endgame_stats_of r.analysis.stats ≡ (analysis p).stats
+    pub counts_are : analysis_stats r.analysis ≡ (analysis p).stats
     -- `evaluate_move`: number and set
-    pub move_refusal_is : move_status_number r.move_status.answer ≡ (evaluate_move p m.bits).refusal
-    pub move_status_is : r.move_status.status ≡ status_of (evaluate_move p m.bits).status
+    pub move_refusal_is : answer_number move_status_number r.move_status ≡ (evaluate_move p m.bits).refusal
+    pub move_status_is : move_status r.move_status ≡ status_of (evaluate_move p m.bits).status
     -- `analyze`: the ordered search of the written rules, with what it leaves in the response tables and in the words
     pub report_is : report_of r.report words'
         ≡ reported (game (scoring_of c)) (settings_of c) p (responses_of memory.responses) words
@@ -92,16 +91,14 @@ module _ (text ms : List ℕ) (m : Move) (board cell : ℕ) (other : Game) (memo
     (r : GameAnswers) where
   pub record Demand2 : Type 0 where
     -- `parse`: the position, or number, offset and length of the refusal
-    pub reading_is : reading_of r.read.answer r.read.game ≡ read text
-    pub read_game_is : r.read.game ≡ game_for (read text)
-    -- `parse_move`, of the same text: the move, or the refusal, which gives the empty move
-    pub move_reading_is : move_reading_of r.read_move.answer r.read_move.m.bits ≡ read_move text
-    pub move_read_is : r.read_move.m.bits ≡ move_for (read_move text)
+    pub reading_is : reading_of r.read ≡ read text
+    pub read_game_is : result_unwrap_or r.read new_game ≡ game_for (read text)
+    -- `parse_move`, of the same text: the move, or the refusal
+    pub move_reading_is : move_reading_of r.read_move ≡ read_move text
     -- `render_move`
     pub move_text_is : r.move_text ≡ move_text m.bits
     pub same : SameAs m board cell other memory c words words' r (reached (begins_at (read text)) ms)
 
 -- a game played from the empty board, rendered and read again: that struct, hash and all
-pub record ReadAgain (ms : List ℕ) (r : Parsed) : Type 0 where
-  pub accepted : r.answer ≡ Accepted
-  pub game_is : r.game ≡ games_after new_game ms
+abbrev pub ReadAgain : List ℕ → Result Game ParseError → Type 0
+ReadAgain ms r = r ≡ Ok (games_after new_game ms)

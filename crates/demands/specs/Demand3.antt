@@ -1,6 +1,5 @@
 -- Demand 3: moves are tried one after the other, beginning on the empty board; one that is refused changes nothing.
-use Rattle.std.specs.Prelude.{◌≡◌, List, [], ℕ, T}
-use Rattle.rules.specs.declared.DrawWinner.TheVariants.{Nobody}
+use Rattle.std.specs.Prelude.{◌≡◌, List, [], ℕ, T, None}
 use Rattle.rules.specs.Position.{Position, start, unfinished}
 use Rattle.rules.specs.Play.{reached}
 use Rattle.rules.specs.Sound.{sound}
@@ -13,12 +12,13 @@ use Rattle.game.specs.Meaning.{position_of}
 use Rattle.game.specs.Built.{new_game}
 use Rattle.game.specs.After.{games_after}
 use Rattle.status.specs.Sets.{status_of}
-use Rattle.endgame.specs.Means.{analysis_number, endgame_stats_of}
 use Rattle.minimax.specs.declared.Minimax.{Minimax}
 use Rattle.minimax.specs.declared.Config.{Config}
 use Rattle.minimax.specs.Report.{scoring_of, settings_of, report_of, responses_of}
 use Rattle.demands.specs.declared.AfterMoves.{AfterMoves}
 use Rattle.demands.specs.Claims.{NotStopped, MarkSays, ReportsMinimax, StatusHolds}
+use Rattle.rules.specs.Refusal.{answer_number}
+use Rattle.endgame.specs.Means.{unsound_number, analysis_status, analysis_stats}
 
 module _ (ms : List ℕ) (m : Minimax) (c : Config) (r : AfterMoves) where
   -- where the list leads by the rules alone
@@ -33,15 +33,15 @@ module _ (ms : List ℕ) (m : Minimax) (c : Config) (r : AfterMoves) where
     pub game_is : r.game ≡ games_after new_game ms
     pub position_is : position_of r.game ≡ p
     pub key_is : with_turn (position_of r.game) r.game.hash ≡ zobrist p
-    pub refusal_is : analysis_number r.analysis.answer ≡ (analysis p).refusal
-    pub status_is : r.analysis.proven ≡ status_of (analysis p).status
-    pub counts_are : endgame_stats_of r.analysis.stats ≡ (analysis p).stats
+    pub refusal_is : answer_number unsound_number r.analysis ≡ (analysis p).refusal
+    pub status_is : analysis_status r.analysis ≡ status_of (analysis p).status
+    pub counts_are : analysis_stats r.analysis ≡ (analysis p).stats
     pub report_is : report_of r.report [] ≡ reported (game (scoring_of c)) (settings_of c) p rs []
     -- and, where the game is unfinished, the claims: the position is sound, and the endgame question is answered
     pub sound_is : T (unfinished p) → T (sound p)
-    pub answered : T (unfinished p) → analysis_number r.analysis.answer ≡ 0
+    pub answered : T (unfinished p) → answer_number unsound_number r.analysis ≡ 0
     pub mark_says : T (unfinished p) → MarkSays c.draw_winner (settings_of c) rs p (report_of r.report [])
     pub right : T (unfinished p) → NotStopped c.draw_winner (settings_of c) rs p
         → ReportsMinimax c.draw_winner (settings_of c) rs p (report_of r.report [])
-    pub status_holds : T (unfinished p) → c.draw_winner ≡ Nobody
+    pub status_holds : T (unfinished p) → c.draw_winner ≡ None
         → StatusHolds (settings_of c) rs p (report_of r.report []) (analysis p).status

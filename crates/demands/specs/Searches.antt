@@ -1,6 +1,5 @@
 -- What is claimed of every search's report: the stats of its depths, what a stop leaves, and a position without a move.
-use Rattle.std.specs.Prelude.{◌≡◌, not, List, [], ℕ, suc, ◌≤◌, ◌<◌, T, neg_ℤ, pos, length, get_or, replicate}
-use Rattle.std.proofs.Math.Option.{none}
+use Rattle.std.specs.Prelude.{◌≡◌, not, List, [], ℕ, suc, ◌≤◌, ◌<◌, T, neg_ℤ, pos, length, get_or, replicate, None}
 use Rattle.rules.specs.Position.{unfinished}
 use Rattle.rules.specs.Play.{no_move}
 use Rattle.rules.specs.Moves.{moves}
@@ -54,7 +53,7 @@ module _ (m : Minimax) (g : Game) (c : Config) (words : List ℕ) where
     pub accepted : entry_refusal (settings_of c) (length words) ≡ 0
     pub goes_on : T (unfinished (position_of g))
     pub none_listed : moves (position_of g) ≡ []
-    pub no_entry : look_up words (with_turn (position_of g) g.hash) ≡ none
+    pub no_entry : look_up words (with_turn (position_of g) g.hash) ≡ None
 
   -- the lower edge of the root's window, -2^60 - 1, and no move
   pub record LowerEdge (x : Reported) : Type 0 where

@@ -13,28 +13,28 @@ ghost use Rattle.demands.specs.Searches.{SearchClaims};
 ghost use Rattle.demands.specs.Evaluations.{other_to_move, EvaluationClaims};
 
 use answer_text::AnswerText;
-use boards::{Built, Listed, Move, MoveIterator, PLACES};
-use endgame::{Analysis, MoveStatus};
-use evaluation::Evaluation;
-use game::{CellAnswer, Game, MoveResult, StateAnswer};
+use boards::{Move, MoveError, MoveIterator, PLACES};
+use endgame::{Analysis, MoveStatusError, Unsound};
+use evaluation::BadWeight;
+use game::Game;
 use line_buffer::LineBuffer;
 use minimax::{Config, Minimax, Report};
-use notation::{Parsed, ParsedMove};
-use rules::{DrawWinner, GameState, NextBoard, Player, Weights};
+use notation::{ParseError, ParseMoveError};
+use rules::{CellState, GameState, Player, Weights};
 use status::Status;
 
 // What each entry point that may refuse answers.
 #[derive(Clone, Copy)]
 pub struct EntryAnswers {
-    pub read: Parsed,
-    pub read_move: ParsedMove,
-    pub played: MoveResult,
-    pub cell: CellAnswer,
-    pub board_state: StateAnswer,
-    pub built: Built,
-    pub evaluation: Evaluation,
-    pub analysis: Analysis,
-    pub move_status: MoveStatus,
+    pub read: Result<Game, ParseError>,
+    pub read_move: Result<Move, ParseMoveError>,
+    pub played: Result<Game, MoveError>,
+    pub cell: Result<CellState, MoveError>,
+    pub board_state: Result<GameState, MoveError>,
+    pub built: Result<Move, MoveError>,
+    pub evaluation: Result<i64, BadWeight>,
+    pub analysis: Result<Analysis, Unsound>,
+    pub move_status: Result<Status, MoveStatusError>,
     pub report: Report,
     pub line: AnswerText,
 }
@@ -42,25 +42,25 @@ pub struct EntryAnswers {
 // What each function answers of a text and of a move, and of the game after a list of moves tried from where the text begins.
 #[derive(Clone, Copy)]
 pub struct GameAnswers {
-    pub read: Parsed,
-    pub read_move: ParsedMove,
+    pub read: Result<Game, ParseError>,
+    pub read_move: Result<Move, ParseMoveError>,
     pub move_text: [u8; 2],
     pub game: Game,
     pub player: Player,
-    pub board_to_play: NextBoard,
+    pub board_to_play: Option<u8>,
     pub game_state: GameState,
     pub game_over: bool,
-    pub cell: CellAnswer,
-    pub board_state: StateAnswer,
+    pub cell: Result<CellState, MoveError>,
+    pub board_state: Result<GameState, MoveError>,
     pub text: [u8; 101],
     pub moves: [Move; PLACES],
     pub legal_moves: usize,
-    pub played: MoveResult,
+    pub played: Result<Game, MoveError>,
     pub key: u64,
-    pub evaluation: Evaluation,
-    pub analysis: Analysis,
+    pub evaluation: Result<i64, BadWeight>,
+    pub analysis: Result<Analysis, Unsound>,
     pub status: Status,
-    pub move_status: MoveStatus,
+    pub move_status: Result<Status, MoveStatusError>,
     pub report: Report,
     pub bound_depth: usize,
     pub open_boards: u8,
@@ -71,15 +71,15 @@ pub struct GameAnswers {
 // The evaluation of a game as it is, and with the other side to move.
 #[derive(Clone, Copy)]
 pub struct SidesEvaluations {
-    pub own: Evaluation,
-    pub others: Evaluation,
+    pub own: Result<i64, BadWeight>,
+    pub others: Result<i64, BadWeight>,
 }
 
 // What is said after a list of tried moves: the game, the endgame analysis and the search with the table off.
 #[derive(Clone, Copy)]
 pub struct AfterMoves {
     pub game: Game,
-    pub analysis: Analysis,
+    pub analysis: Result<Analysis, Unsound>,
     pub report: Report,
 }
 
@@ -99,9 +99,8 @@ pub fn entry_answers(
     ensures { Demand1 text.now line.now game m board cell memory config
         words.old words.new result }
 {
-    let draw_winner = config.draw_winner;
-    let weights = config.weights;
-    let buffer = LineBuffer::new().push_all(line);
+    let mut held = LineBuffer::new();
+    held.push_all(line);
     EntryAnswers {
         read: notation::parse(text),
         read_move: notation::parse_move(text),
@@ -109,11 +108,11 @@ pub fn entry_answers(
         cell: game.at(board, cell),
         board_state: game.board_state(board),
         built: Move::from_coords(board, cell),
-        evaluation: evaluation::evaluate(game, draw_winner, weights),
+        evaluation: evaluation::evaluate(game, config.draw_winner, config.weights),
         analysis: Analysis::new(game),
         move_status: endgame::evaluate_move(game, m),
         report: memory.analyze(game, config, words),
-        line: program_line::answer(buffer),
+        line: program_line::answer(&held),
     }
 }
 
@@ -123,13 +122,9 @@ pub fn list_moves(cursor: MoveIterator) -> [Move; PLACES]
 {
     let mut list = [Move::NONE; PLACES];
     let mut left = cursor;
-    for i in 0..PLACES {
-        match left.next() {
-            Listed::Next(m, rest) => {
-                list[i] = m;
-                left = rest;
-            }
-            Listed::End => {}
+    for place in list.iter_mut() {
+        if let Some(m) = left.next() {
+            *place = m;
         }
     }
     list
@@ -151,10 +146,8 @@ pub fn answers_after(
     ensures { Demand2 text.now moves.now m board cell other memory config
         words.old words.new result }
 {
-    let draw_winner = config.draw_winner;
-    let weights = config.weights;
     let read = notation::parse(text);
-    let begun = read.game;
+    let begun = read.unwrap_or(Game::new());
     let game = begun.play_all(moves);
     let report = memory.analyze(game, config, words);
     let analysis = Analysis::new(game);
@@ -174,9 +167,9 @@ pub fn answers_after(
         legal_moves: game.legal_moves(),
         played: game.make_move(m),
         key: game.zobrist(),
-        evaluation: evaluation::evaluate(game, draw_winner, weights),
+        evaluation: evaluation::evaluate(game, config.draw_winner, config.weights),
         analysis,
-        status: analysis.status(),
+        status: Analysis::reported_status(analysis),
         move_status: endgame::evaluate_move(game, m),
         report,
         bound_depth: game.bound_depth(),
@@ -187,7 +180,7 @@ pub fn answers_after(
 }
 
 // A game played from the empty board, rendered and read again.
-pub fn read_again(moves: &[u8]) -> Parsed
+pub fn read_again(moves: &[u8]) -> Result<Game, ParseError>
     ensures { ReadAgain moves.now result }
 {
     let game = Game::new().play_all(moves);
@@ -205,23 +198,14 @@ pub fn search(memory: Minimax, game: Game, config: Config, words: &mut [u64]) ->
 fn other_to_move(game: Game) -> Game
     ensures { result ≡ other_to_move game }
 {
-    let who = game.next_player;
-    let next_board = game.next_board;
-    let local_boards = game.local_boards;
-    let global_states = game.global_states;
-    let game_state = game.game_state;
     Game {
-        next_player: who.other(),
-        next_board,
-        local_boards,
-        global_states,
-        game_state,
-        hash: game.hash,
+        next_player: game.next_player.other(),
+        ..game
     }
 }
 
 // The evaluation alone; its promise is every claim made of it.
-pub fn evaluate_sides(game: Game, draw_winner: DrawWinner, weights: Weights) -> SidesEvaluations
+pub fn evaluate_sides(game: Game, draw_winner: Option<Player>, weights: Weights) -> SidesEvaluations
     ensures { EvaluationClaims game draw_winner weights result }
 {
     SidesEvaluations {

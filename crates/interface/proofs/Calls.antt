@@ -1,16 +1,18 @@
 -- Each call, from what its parts give: asked wrongly it keeps all, asked rightly it leaves what was stored.
+use Rattle.std.specs.Prelude.{Option, Result, Ok, Err, pos}
 use mathlib.Core.Path.{◌≡◌, refl, sym, ap, ◌∙◌}
 use mathlib.Core.Bool.{Bool, true, false, ◌&&◌}
 use mathlib.Core.List.{List, [], ◌∷◌}
-use Prim.Native.Nat.{ℕ, ◌≤◌, ◌<◌, min}
+use Prim.Native.Nat.{ℕ, ◌≤◌, ◌<◌}
 use native.Mathlib.Omega.{arith}
 use lib.Dec.{leb}
 use lib.IntN.{ℤ}
-use lib.ListN.{length, get_or, take, length-take}
+use lib.ListN.{length, get_or}
 use lib.Seq.{sets}
 use borrow.Author.Tests.{le-leb, lt-leb}
+use Rattle.std.specs.Result.{result_unwrap_or}
+use Rattle.rules.specs.declared.Player.{Player}
 use Rattle.base.specs.Branch.{when◌then◌else◌}
-use Rattle.rules.specs.declared.DrawWinner.{DrawWinner}
 use Rattle.rules.specs.declared.Weights.{Weights}
 use Rattle.rules.specs.Endgame.{analysis}
 use Rattle.rules.specs.Status.{as_byte}
@@ -25,14 +27,11 @@ use Rattle.game.specs.declared.Game.{Game}
 use Rattle.game.specs.Meaning.{position_of}
 use Rattle.game.specs.Built.{new_game}
 use Rattle.game.specs.After.{games_after, answers_each}
-use Rattle.notation.specs.declared.ParseAnswer.{ParseAnswer}
-use Rattle.notation.specs.declared.ParseAnswer.TheVariants.{Accepted, Refused}
-use Rattle.notation.specs.declared.Parsed.{Parsed}
+use Rattle.notation.proofs.ParsedAnswers.{game_or_new}
 use Rattle.notation.specs.Parsed.{parse_number, reading_of, game_for, Parses}
-use Rattle.evaluation.specs.declared.Evaluation.{Evaluation}
-use Rattle.evaluation.specs.Values.{evaluation_number, Evaluates}
+use Rattle.evaluation.specs.Values.{Evaluates, bad_weight_number, value_or_0}
 use Rattle.endgame.specs.declared.Analysis.{Analysis}
-use Rattle.endgame.specs.Means.{analysis_number, Analyses}
+use Rattle.endgame.specs.Means.{Analyses, unsound_number, analysis_status}
 use Rattle.minimax.specs.declared.Config.{Config}
 use Rattle.minimax.specs.declared.Minimax.{Minimax}
 use Rattle.minimax.specs.declared.Report.{Report}
@@ -40,8 +39,7 @@ use Rattle.minimax.specs.Report.{ending_number, report_of, reported_of, response
 use Rattle.answer_text.specs.declared.AnswerText.{AnswerText}
 use Rattle.program_line.specs.Answered.{answer_line, asked_text}
 use Rattle.line_buffer.specs.Buffer.{new_buffer, pushed_all, buffer_asks}
-use Rattle.answer_text.specs.AnswerBytes.{text_of_bytes}
-use Rattle.text.proofs.Padded.{length_padded}
+use Rattle.answer_text.specs.AnswerBytes.{text_of_bytes, written_bytes}
 use Rattle.program_line.proofs.Answered.{line_is_answered}
 use Rattle.line_buffer.specs.declared.LineBuffer.{LineBuffer}
 use Rattle.interface.specs.Lent.{Puts}
@@ -53,6 +51,10 @@ use Rattle.interface.specs.Settings.{draws_from, weights_from, settings_ok, held
 use Rattle.interface.proofs.LentPlaces.{left_written, left_kept, returned_bad, returned_well}
 use Rattle.interface.proofs.CallsPlay.{answers_length}
 use Rattle.interface.proofs.SettingsHeld.{held_evaluated, settings_reported}
+use Rattle.rules.specs.Refusal.{answer_number}
+use Rattle.evaluation.specs.declared.BadWeight.{BadWeight}
+use Rattle.endgame.specs.declared.Unsound.{Unsound}
+use Rattle.notation.specs.declared.ParseError.{ParseError}
 
 -- ---- tests joined
 both : (a b : Bool) → a ≡ true → b ≡ true → (a && b) ≡ true
@@ -67,34 +69,26 @@ later_no a b p q = ap (λ (x : Bool). x && b) p ∙ q
 -- ---- answer
 module _ (line : List ℕ) (empty : LineBuffer) (empty_is : empty ≡ new_buffer) (held : LineBuffer) (held_is : held ≡ pushed_all empty line)
     (o : AnswerText) (o_is : o ≡ text_of_bytes (asked_text (buffer_asks held)))
-    (n : ℕ) (n_is : n ≡ min o.len 224) where
-  answered : take n o.bytes ≡ answer_line line
+    (bytes : List ℕ) (bytes_are : bytes ≡ written_bytes o) where
+  answered : bytes ≡ answer_line line
   answered =
-      ap (λ (k : ℕ). take k o.bytes) n_is
+      bytes_are
       ∙ (line_is_answered line o (o_is ∙ ap (λ (k : LineBuffer). text_of_bytes (asked_text (buffer_asks k)))
       (held_is ∙ ap (λ (k : LineBuffer). pushed_all k line) empty_is))).written_is
 
-  pub room : n ≤ length o.bytes
-  room = omega (arith, ap (λ (k : AnswerText). length k.bytes) o_is ∙ length_padded 224 (asked_text (buffer_asks held)))
-
-  pub taken_length : n ≡ length (take n o.bytes)
-  taken_length = let r : n ≤ length o.bytes = room in simp length-take (omega arith)
-
-  length_is : n ≡ length (answer_line line)
-  length_is = taken_length ∙ ap length answered
-
-  pub answers_written : (out m : List ℕ) → n ≤ length out → m ≡ sets out 0 (take n o.bytes) → Answers line out m n
+  pub answers_written : (out m : List ℕ) → length bytes ≤ length out → m ≡ sets out 0 bytes → Answers line out m (length bytes)
   answers_written out m r e = record {
-    returns = length_is;
+    returns = ap length answered;
     out_is =
-        let q : length (answer_line line) ≤ length out = omega (arith, length_is) in
+        let q : length (answer_line line) ≤ length out = omega (arith, ap length answered) in
         left_written (answer_line line) out m _ (le-leb _ _ q) q (e ∙ ap (sets out 0) answered);
   }
 
-  pub answers_kept : (out : List ℕ) → length out < n → Answers line out out n
+  pub answers_kept : (out : List ℕ) → length out < length bytes → Answers line out out (length bytes)
   answers_kept out r = record {
-    returns = length_is;
-    out_is = let q : length out < length (answer_line line) = omega (arith, length_is) in left_kept (answer_line line) out _ (lt-leb _ _ q);
+    returns = ap length answered;
+    out_is = let q : length out < length (answer_line line) = omega (arith, ap length answered) in
+        left_kept (answer_line line) out _ (lt-leb _ _ q);
   }
 
 -- ---- new
@@ -115,9 +109,9 @@ place_length (reads p) = refl
 place_length (refuses n offset size) = refl
 
 -- the number in the answer's code is the reading's
-answer_reads : (a : ParseAnswer) (g : Game) → parse_number a ≡ text_refusal (reading_of a g)
-answer_reads Accepted g = refl
-answer_reads (Refused e) g = refl
+answer_reads : (r : Result Game ParseError) → answer_number parse_number r ≡ text_refusal (reading_of r)
+answer_reads (Ok g) = refl
+answer_reads (Err e) = refl
 
 module _ (text p q : List ℕ) where
   reads_wrongly : (leb 12 (length p) && leb 2 (length q)) ≡ false → ReadsPosition text p q p q 255
@@ -129,18 +123,19 @@ module _ (text p q : List ℕ) where
   pub reads_no_place : 12 ≤ length p → length q < 2 → ReadsPosition text p q p q 255
   reads_no_place h k = reads_wrongly (later_no _ _ (le-leb 12 (length p) h) (lt-leb 2 (length q) k))
 
-  pub reads_well : (r : Parsed) (p_after q_after : List ℕ) (n : ℕ) → Parses text r → 12 ≤ length p → 2 ≤ length q
-      → Puts p (words_of r.game) 12 p_after → q_after ≡ sets q 0 (read_place (reading_of r.answer r.game))
-      → n ≡ parse_number r.answer → ReadsPosition text p q p_after q_after n
+  pub reads_well : (r : Result Game ParseError) (p_after q_after : List ℕ) (n : ℕ) → Parses text r → 12 ≤ length p → 2 ≤ length q
+      → Puts p (words_of (result_unwrap_or r new_game)) 12 p_after → q_after ≡ sets q 0 (read_place (reading_of r))
+      → n ≡ answer_number parse_number r → ReadsPosition text p q p_after q_after n
   reads_well r p_after q_after n is h k e f g =
       let ok = both _ _ (le-leb 12 (length p) h) (le-leb 2 (length q) k) in
+      let game_is = game_or_new text r is in
       record {
         returns =
-            returned_well n (text_refusal (read text)) _ ok (g ∙ answer_reads r.answer r.game ∙ ap text_refusal is.says);
+            returned_well n (text_refusal (read text)) _ ok (g ∙ answer_reads r ∙ ap text_refusal is.says);
         position_is =
             left_written (words_of (game_for (read text))) p p_after _ ok
-            (omega (arith, sym (ap (λ (x : Game). length (words_of x)) is.game_is) ∙ e.many))
-            (e.stored ∙ ap (λ (x : Game). sets p 0 (words_of x)) is.game_is);
+            (omega (arith, sym (ap (λ (x : Game). length (words_of x)) game_is) ∙ e.many))
+            (e.stored ∙ ap (λ (x : Game). sets p 0 (words_of x)) game_is);
         place_is =
             left_written (read_place (read text)) q q_after _ ok (omega (arith, place_length (read text)))
             (f ∙ ap (λ (x : Reading). sets q 0 (read_place x)) is.says);
@@ -257,12 +252,12 @@ module _ (p ms settings answers words report : List ℕ) where
             found_is : report_of r words_after ≡ x
             found_is = cc (settings_reported settings m here words)
 
-            module _ (s : Analysis) (s_is : Analyses g s) where
+            module _ (s : Result Analysis Unsound) (s_is : Analyses g s) where
               abbrev number : ℕ
-              number = analysis_number s.answer
+              number = answer_number unsound_number s
 
               abbrev byte : ℕ
-              byte = s.proven.bits
+              byte = (analysis_status s).bits
 
               number_is : number ≡ (analysis (position_of here)).refusal
               number_is = s_is.refusal ∙ ap (λ (k : Game). (analysis (position_of k)).refusal) g_is
@@ -298,6 +293,10 @@ module _ (p ms settings answers words report : List ℕ) where
                   }
 
 -- ---- evaluate
+pub value_given : (r : Result ℤ BadWeight) → result_unwrap_or r (pos 0) ≡ value_or_0 r
+value_given (Ok value) = refl
+value_given (Err why) = refl
+
 module _ (p : List ℕ) (draws : ℕ) (weights score : List ℕ) where
   evaluates_wrongly : evaluate_ok p draws weights score ≡ false → EvaluatesPosition p draws weights score score 255
   evaluates_wrongly bad = record { returns = returned_bad _ _ bad; score_is = left_kept _ score _ bad }
@@ -319,13 +318,14 @@ module _ (p : List ℕ) (draws : ℕ) (weights score : List ℕ) where
         evaluates_no_score h = evaluates_wrongly (later_no _ _ e (later_no _ _ (le-leb draws 2 d)
             (later_no _ _ (le-leb 3 (length weights) three) (lt-leb 1 (length score) h))))
 
-        module _ (one : 1 ≤ length score) (g : Game) (g_is : g ≡ game_from p) (w : DrawWinner) (w_is : w ≡ draws_from draws)
-            (v : Weights) (v_is : v ≡ held_weights (weights_from weights)) (r : Evaluation) (r_is : Evaluates (scoring_with w v) g r) where
+        module _ (one : 1 ≤ length score) (g : Game) (g_is : g ≡ game_from p) (w : Option Player) (w_is : w ≡ draws_from draws)
+            (v : Weights) (v_is : v ≡ held_weights (weights_from weights))
+            (r : Result ℤ BadWeight) (r_is : Evaluates (scoring_with w v) g r) where
           value_is : evaluated (scoring_with w v) (position_of g) ≡ valued p draws weights score
           value_is = cc (held_evaluated (draws_from draws) (weights_from weights) (position_of (game_from p)))
 
-          pub evaluates_well : (score_after : List ℕ) (n : ℕ) → score_after ≡ sets score 0 (to_word r.value ∷ [])
-              → n ≡ evaluation_number r.answer → EvaluatesPosition p draws weights score score_after n
+          pub evaluates_well : (score_after : List ℕ) (n : ℕ) → score_after ≡ sets score 0 (to_word (value_or_0 r) ∷ [])
+              → n ≡ answer_number bad_weight_number r → EvaluatesPosition p draws weights score score_after n
           evaluates_well score_after n u y =
               let all = both _ _ e (both _ _ (le-leb draws 2 d) (both _ _ (le-leb 3 (length weights) three)
               (le-leb 1 (length score) one))) in

@@ -1,12 +1,13 @@
 -- Demand 3 of a report with the table off: its list is what was tried by calls of ultimattt_play since the empty board, then the report's
 -- own moves.
+use Rattle.std.specs.Prelude.{Option, None, Some}
 use mathlib.Core.Path.{◌≡◌, sym, ap, ◌∙◌, subst}
 use mathlib.Core.List.{List, [], ◌++◌}
 use Prim.Native.Nat.{ℕ}
 use native.Mathlib.Omega.{arith}
 use lib.Dec.{T, ltb→lt}
 use lib.ListN.{get_or}
-use Rattle.rules.specs.declared.DrawWinner.{DrawWinner}
+use Rattle.rules.specs.declared.Player.{Player}
 use Rattle.rules.specs.Position.{Position, start, unfinished}
 use Rattle.rules.specs.Play.{reached}
 use Rattle.rules.specs.Endgame.{Analysis as Ends, analysis}
@@ -20,8 +21,6 @@ use Rattle.game.specs.declared.Game.{Game}
 use Rattle.game.specs.Meaning.{position_of}
 use Rattle.game.specs.Built.{new_game}
 use Rattle.game.specs.After.{games_after}
-use Rattle.rules.specs.declared.NextBoard.{NextBoard}
-use Rattle.rules.specs.declared.NextBoard.TheVariants.{Any, Only}
 use Rattle.game.specs.Neat.{neat_next}
 use Rattle.game.proofs.Neat.{neat→}
 use Rattle.game.proofs.AfterList.{games_joined, new_played_neat, new_played_means, new_played_hash}
@@ -45,7 +44,7 @@ module _ (p ns ms settings answers report : List ℕ) (from : game_from p ≡ ga
   abbrev q : Position
   q = reached start (ns ++ ms)
 
-  abbrev draws : DrawWinner
+  abbrev draws : Option Player
   draws = draws_from (get_or settings 2 0)
 
   abbrev c : Settings
@@ -86,9 +85,9 @@ module _ (p ns ms settings answers report : List ℕ) (from : game_from p ≡ ga
         (reported_holds (ns ++ ms) t c rs)
 
 -- ---- the words that calls since the empty board have left are such a position
-next_is_byte : (n : NextBoard) → T (neat_next n) → Byte n
-next_is_byte Any t = tt
-next_is_byte (Only b) t = let h = ltb→lt b 9 t in omega (arith, h)
+next_is_byte : (n : Option ℕ) → T (neat_next n) → Byte n
+next_is_byte None t = tt
+next_is_byte (Some b) t = let h = ltb→lt b 9 t in omega (arith, h)
 
 pub played_comes_back : (ns rest : List ℕ) → game_from (words_of (games_after new_game ns) ++ rest) ≡ games_after new_game ns
 played_comes_back ns rest = let n = neat→ (games_after new_game ns) (new_played_neat ns) in

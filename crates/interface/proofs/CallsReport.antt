@@ -1,67 +1,68 @@
--- The moves and stats of a report, place by place.
+-- The moves and stats of a report: what the array functions give, and the parts joined.
 use mathlib.Core.Path.{◌≡◌, refl, sym, ap, ◌∙◌, subst}
 use mathlib.Core.List.{List, [], ◌∷◌, ◌++◌, map}
-use Prim.Native.Nat.{ℕ, suc, ◌+◌, ◌*◌, ◌≤◌, ◌<◌}
+use Prim.Native.Nat.{ℕ, zero, suc, ◌+◌, ◌*◌, ◌≤◌, ◌<◌}
 use native.Mathlib.Omega.{arith}
-use native.Mathlib.Numerals.{add-one}
-use lib.ListN.{length, get_or, take, drop, set, drop_of_length-le, length-map, length-drop, length-append}
-use lib.Seq.{drop-cons, sets, take_all, take-suc-set, take-suc, get_or-drop}
+use native.Mathlib.Decide.{ℕ_discrete}
+use denote.Param.Members.{Mut}
+use Rattle.std.specs.Fn.{Called}
+use Rattle.std.specs.Array.{IsMapOf, IsFromFnResult, IsFromFnResultFrom}
+use Rattle.std.specs.List.{flat_map}
+use Rattle.std.proofs.Common.{get_or-take, get_or-drop, length-take-le, ext_get_or, length-drop, length-append}
+use Rattle.std.proofs.lemmas.List.{get_or-map, length-map}
+use lib.ListN.{length, get_or, take, drop}
+use lib.Seq.{sets}
 use Rattle.theory.specs.Deepening.{Stats as Meant}
 use Rattle.theory.specs.Reported.{Reported}
 use Rattle.boards.specs.declared.moves.Move.{Move}
 use Rattle.minimax.specs.declared.Stats.{Stats}
-use Rattle.minimax.specs.Report.{stats_of, bytes_of}
-use Rattle.minimax.proofs.ReportPlaces.{bytes_set}
+use Rattle.minimax.specs.Report.{stats_of, byte_of, bytes_of}
 use Rattle.interface.specs.Lent.{Puts}
 use Rattle.interface.specs.Calls.{stats_words, all_stats, head_words, report_words}
 use Rattle.interface.proofs.LentPlaces.{sets_join}
 
--- ---- moves read from bytes, one by one
-pub moves_next : (ms : List Move) (bs : List ℕ) (at i : ℕ) → i < length ms → at + i < length bs →
-    take i (bytes_of ms) ≡ take i (drop at bs) → take (i + 1) (bytes_of (set ms i (record { bits = get_or bs (at + i) 0 })))
-    ≡ take (i + 1) (drop at bs)
-moves_next ms bs at i h k e =
-    ap (λ (n : ℕ). take n (bytes_of (set ms i (record { bits = get_or bs (at + i) 0 })))) (add-one i)
-    ∙ ap (take (suc i)) (bytes_set ms i (record { bits = get_or bs (at + i) 0 }))
-    ∙ take-suc-set (bytes_of ms) i (get_or bs (at + i) 0) (simp length-map h)
-    ∙ ap (λ (l : List ℕ). l ++ (get_or bs (at + i) 0 ∷ [])) e
-    ∙ ap (λ (x : ℕ). take i (drop at bs) ++ (x ∷ [])) (sym (get_or-drop at bs i 0))
-    ∙ sym (take-suc (drop at bs) i 0 (simp length-drop (omega arith)))
-    ∙ ap (λ (n : ℕ). take n (drop at bs)) (sym (add-one i))
+-- ---- what the library's array functions give
+-- each element mapped, by a closure that gives the same at each call
+module _ {F A B : Type 0} (g : Mut F (A × Unit {0}) B) (h : A → B) (f : F) where
+  pub mapped : (xs : List A) (ys : List B) (n : ℕ) → length xs ≡ n → IsMapOf g f xs ys n →
+      ((p q : F) (x : A) (y : B) → Called g p (x, tt) y q → y ≡ h x) → ys ≡ map h xs
+  mapped [] [] n long m computes = refl
+  mapped [] (y ∷ ys) n long m computes = absurd (omega (arith, m.long))
+  mapped (x ∷ xs) [] n long m computes = absurd (omega (arith, m.long))
+  mapped (x ∷ xs) (y ∷ ys) n long m computes =
+      ext_get_or y (y ∷ ys) (map h (x ∷ xs)) (m.long ∙ sym long ∙ sym (length-map (x ∷ xs) h)) λ k lt.
+      computes _ _ _ _ (m.at k x y (omega (arith, m.long))).2 ∙ sym (get_or-map h (x ∷ xs) k x y (omega (arith, m.long)))
 
-pub moves_end : (ms : List Move) (l : List ℕ) (i : ℕ) → length ms ≡ 256 → i ≡ 256 → take i (bytes_of ms) ≡ take i l →
-    bytes_of ms ≡ take 256 l
-moves_end ms l i h e q =
-    sym (take_all 256 (bytes_of ms) (simp length-map (omega arith)))
-    ∙ subst (λ (n : ℕ). take n (bytes_of ms) ≡ take n l) e q
+-- moves from bytes
+module _ {F : Type 0} (g : Mut F (ℕ × Unit {0}) Move) (f : F) (h : ℕ → ℕ)
+    (computes : (i : ℕ) (y : Move) (q : F) → Called g f (i, tt) y q → (y.bits ≡ h i) × (q ≡ f)) where
+  made_at : (ms : List Move) (i n : ℕ) → IsFromFnResultFrom g f ms i n → (k : ℕ) → i ≤ k → k < i + n →
+      (get_or ms k (record { bits = 0 })).bits ≡ h k
+  made_at ms i zero r k l m = absurd (omega arith)
+  made_at ms i (suc n) r k l m =
+      let c = computes i r.1 r.0 r.3 in
+      elim (ℕ_discrete k i) [
+        | yes e ↦ rw e (ap (λ (x : Move). x.bits) (r.2.1 (record { bits = 0 })) ∙ c.0)
+        | no e ↦ made_at ms (i + 1) n (subst (λ (q : F). IsFromFnResultFrom g q ms (i + 1) n) c.1 r.4) k (omega arith) (omega arith)
+      ]
 
--- ---- the stats of each depth, seven words at a time
-pub stats_start : (l : List ℕ) (at : ℕ) (ss : List Stats) → sets l (at + 7 * 0) (all_stats (map stats_of (drop 0 ss)))
-    ≡ sets l at (all_stats (map stats_of ss))
-stats_start l at ss = ap (λ (k : ℕ). sets l k (all_stats (map stats_of ss))) (omega arith)
+  pub moves_made : (ms : List Move) (bs : List ℕ) (at n : ℕ) → at + n ≤ length bs → IsFromFnResult g f ms n →
+      ((k : ℕ) → k < n → h k ≡ get_or bs (at + k) 0) → bytes_of ms ≡ take n (drop at bs)
+  moves_made ms bs at n fit r reads =
+      ext_get_or 0 (bytes_of ms) (take n (drop at bs))
+      (length-map ms byte_of ∙ r.long ∙ sym (length-take-le n (drop at bs) (simp length-drop (omega arith)))) λ k lt.
+      let l : k < n = omega (arith, length-map ms byte_of, r.long) in
+      get_or-map byte_of ms k (record { bits = 0 }) 0 (omega (arith, r.long)) ∙ made_at ms 0 n r.each k (omega arith) (omega arith)
+      ∙ reads k l ∙ sym (get_or-take n (drop at bs) k 0 l ∙ get_or-drop at bs k 0)
 
-pub stats_next : (l m : List ℕ) (at i : ℕ) (ss : List Stats) (d : Stats) → i < length ss →
-    m ≡ sets l (at + 7 * i) (stats_words (stats_of (get_or ss i d))) → sets m (at + 7 * (i + 1))
-    (all_stats (map stats_of (drop (i + 1) ss))) ≡ sets l (at + 7 * i) (all_stats (map stats_of (drop i ss)))
+-- the stats of each depth, seven words at a time
+pub stats_flat : (ss : List Stats) → flat_map (λ (ws : List ℕ). ws) (map (λ (s : Stats). stats_words (stats_of s)) ss)
+    ≡ all_stats (map stats_of ss)
 unfolding all_stats
-stats_next l m at i ss d h e =
-    ap (λ (k : ℕ). sets m k (all_stats (map stats_of (drop (i + 1) ss)))) (omega arith)
-    ∙ ap (λ (k : ℕ). sets m (at + 7 * i + 7) (all_stats (map stats_of (drop k ss)))) (add-one i)
-    ∙ ap (λ (k : List ℕ). sets k (at + 7 * i + 7) (all_stats (map stats_of (drop (suc i) ss)))) e
-    ∙ sets_join (stats_words (stats_of (get_or ss i d))) (all_stats (map stats_of (drop (suc i) ss))) l (at + 7 * i)
-    ∙ sym (ap (λ (k : List Stats). sets l (at + 7 * i) (all_stats (map stats_of k))) (drop-cons ss i d h))
-
-pub stats_end : (l m : List ℕ) (k i : ℕ) (ss : List Stats) → length ss ≤ i →
-    sets l k (all_stats (map stats_of (drop i ss))) ≡ m → l ≡ m
-unfolding all_stats
-stats_end l m k i ss h e = sym (ap (λ (q : List Stats). sets l k (all_stats (map stats_of q))) (drop_of_length-le ss h)) ∙ e
+stats_flat [] = refl
+stats_flat (s ∷ ss) = ap (λ (l : List ℕ). stats_words (stats_of s) ++ l) (stats_flat ss)
 
 -- ---- lists of the parts
-pub seven : (number stopped depth score count made bits n s z m b : ℕ) → number ≡ n → stopped ≡ s → score ≡ z →
-    made ≡ m → bits ≡ b → number ∷ stopped ∷ depth ∷ score ∷ count ∷ made ∷ bits ∷ [] ≡ n ∷ s ∷ depth ∷ z ∷
-    count ∷ m ∷ b ∷ []
-seven number stopped depth score count made bits n s z m b p q r t u = cc
-
 -- the responses to X's moves, then those to O's
 pub both_put : (l l₁ l₂ : List ℕ) (xs os : List Move) → length xs ≡ 256 → length os ≡ 256 →
     l₁ ≡ sets l 0 (bytes_of xs) → l₂ ≡ sets l₁ 256 (bytes_of os) → Puts l (bytes_of xs ++ bytes_of os) 512 l₂

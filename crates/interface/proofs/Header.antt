@@ -1,5 +1,6 @@
 -- A report's words stand where the header says: of every report, of what a call of ultimattt_analyze leaves, and of one whose words are
 -- all written out; the words of a position and of settings; and the other numbers that the header names or tells.
+use Rattle.std.specs.Prelude.{None, Some}
 use mathlib.Core.Path.{◌≡◌, refl, sym, ap, ◌∙◌, subst}
 use mathlib.Core.Bool.{Bool, true, false}
 use mathlib.Core.List.{List, [], ◌∷◌, ◌++◌, append_assoc}
@@ -13,8 +14,6 @@ use Rattle.base.specs.Bits.{bit}
 use Rattle.base.specs.Integers.{sum}
 use Rattle.boards.specs.Packed.{cell_at, state_at}
 use Rattle.rules.specs.declared.Player.TheVariants.{X, O}
-use Rattle.rules.specs.declared.DrawWinner.TheVariants.{Nobody, Side}
-use Rattle.rules.specs.declared.NextBoard.TheVariants.{Any, Only}
 use Rattle.rules.specs.declared.GameState.TheVariants.{Won}
 use Rattle.rules.specs.Position.{start}
 use Rattle.rules.specs.Play.{no_move}
@@ -149,7 +148,7 @@ sample_words = refl
 abbrev sample_game : Game
 sample_game = record {
   next_player = O;
-  next_board = Only 8;
+  next_board = Some 8;
   local_boards = record { rows = record { x = 10; o = 11 } ∷ record { x = 12; o = 13 } ∷ record { x = 14; o = 15 } ∷ [] };
   global_states = record { x = 16; o = 17 };
   game_state = Won O;
@@ -172,7 +171,7 @@ sample_weights = 13 ∷ 14 ∷ 15 ∷ []
 pub record SettingsLayout : Type 0 where
   pub settings_are : settings_from sample_settings
       ≡ record { max_depth = 10; allowance = 11; weights = record { one = 13; two = 14; board = 15 } }
-  pub scoring_is : scoring_from sample_settings ≡ record { draws = Side O; weights = record { one = 13; two = 14; board = 15 } }
+  pub scoring_is : scoring_from sample_settings ≡ record { draws = Some O; weights = record { one = 13; two = 14; board = 15 } }
   pub depth_is : get_or sample_settings SETTINGS_DEPTH 0 ≡ 10
   pub allowance_is : get_or sample_settings SETTINGS_ALLOWANCE 0 ≡ 11
   pub draw_winner_is : get_or sample_settings SETTINGS_DRAW_WINNER 0 ≡ 2
@@ -239,7 +238,7 @@ unfolding game_from evaluated accepted_weights evaluate score board_score sum pl
 sample_evaluations = (refl, refl, refl, refl, refl)
 
 -- ---- the header's numbers are the definitions'
-pub header_numbers : (bad_argument ≡ BAD_ARGUMENT) × (length (words_of sample_game) ≡ POSITION) × (next_board_word Any ≡ FREE)
+pub header_numbers : (bad_argument ≡ BAD_ARGUMENT) × (length (words_of sample_game) ≡ POSITION) × (next_board_word None ≡ FREE)
     × (no_move ≡ NO_MOVE) × (length (text_of start) ≡ TEXT) × (length (responses_bytes no_responses) ≡ RESPONSES)
     × (length sample_settings ≡ SETTINGS) × (length (drop SETTINGS_WEIGHTS sample_settings) ≡ WEIGHTS)
     × (length (report_words sample 14 5) ≡ REPORT)
@@ -248,7 +247,7 @@ header_numbers = (refl, refl, refl, refl, text_has_101_bytes start, refl, refl, 
 
 -- ---- what the header tells of arguments
 -- for whom a drawn game counts as won
-pub draw_winners : (draws_from 0 ≡ Nobody) × (draws_from 1 ≡ Side X) × (draws_from 2 ≡ Side O)
+pub draw_winners : (draws_from 0 ≡ None) × (draws_from 1 ≡ Some X) × (draws_from 2 ≡ Some O)
 draw_winners = (refl, refl, refl)
 
 -- offset, then length

@@ -1,31 +1,19 @@
--- Places written one after the other, by what is still to be written.
+-- Places written one after the other, and what a call leaves of them.
 use mathlib.Core.Path.{◌≡◌, sym, ap, ◌∙◌}
 use mathlib.Core.Bool.{Bool, true, false}
-use mathlib.Core.List.{List, [], ◌∷◌, ◌++◌}
-use Prim.Native.Nat.{ℕ, suc, ◌+◌, ◌≤◌, ◌<◌}
+use mathlib.Core.List.{List, [], ◌∷◌, ◌++◌, append_assoc}
+use Prim.Native.Nat.{ℕ, suc, ◌+◌, ◌≤◌}
 use native.Mathlib.Omega.{arith}
-use native.Mathlib.Numerals.{add-one}
-use lib.ListN.{length, get_or, drop, set, drop_of_length-le}
-use lib.Seq.{drop-cons, sets, sets-eq}
+use lib.ListN.{length, take, drop, set}
+use lib.Seq.{drop-drop, sets, sets-eq}
 use Rattle.base.specs.Branch.{when◌then◌else◌}
 use Rattle.interface.specs.Lent.{returned, left}
 
--- none written yet
-pub sets_start : (l : List ℕ) (at : ℕ) (ws : List ℕ) → sets l (at + 0) (drop 0 ws) ≡ sets l at ws
-sets_start l at ws = ap (λ (k : ℕ). sets l k ws) (omega arith)
-
--- one more
-pub sets_next : (l : List ℕ) (at i : ℕ) (ws : List ℕ) (x : ℕ) → i < length ws → x ≡ get_or ws i 0 →
-    sets (set l (at + i) x) (at + (i + 1)) (drop (i + 1) ws) ≡ sets l (at + i) (drop i ws)
-sets_next l at i ws x h e =
-    ap (λ (k : ℕ). sets (set l (at + i) x) k (drop (i + 1) ws)) (omega arith)
-    ∙ ap (λ (k : ℕ). sets (set l (at + i) x) (suc (at + i)) (drop k ws)) (add-one i)
-    ∙ ap (λ (y : ℕ). sets (set l (at + i) y) (suc (at + i)) (drop (suc i) ws)) e
-    ∙ sym (ap (sets l (at + i)) (drop-cons ws i 0 h))
-
--- no more
-pub sets_end : (l : List ℕ) (k i : ℕ) (ws m : List ℕ) → length ws ≤ i → sets l k (drop i ws) ≡ m → l ≡ m
-sets_end l k i ws m h e = sym (ap (sets l k) (drop_of_length-le ws h)) ∙ e
+-- what is written stands between what was before and after it
+pub sets_between : {A : Type 0} (vs l : List A) (i n : ℕ) → n ≡ length vs → i + length vs ≤ length l →
+    take i l ++ (vs ++ drop n (drop i l)) ≡ sets l i vs
+sets_between vs l i n e h =
+    rw (e, drop-drop (length vs) i l) (sym (append_assoc (take i l) vs (drop (i + length vs) l)) ∙ sym (sets-eq vs l i h))
 
 pub sets_join : (xs ys l : List ℕ) (k : ℕ) → sets (sets l k xs) (k + length xs) ys ≡ sets l k (xs ++ ys)
 sets_join [] ys l k = ap (λ (n : ℕ). sets l n ys) (omega arith)

@@ -1,28 +1,26 @@
 -- Words within their bounds, word by word; a game comes back from its words.
-use mathlib.Core.Path.{◌≡◌, refl, sym, ap, ◌∙◌}
+use Rattle.std.specs.Prelude.{Option, None, Some}
+use mathlib.Core.Path.{◌≡◌, refl, ap}
 use mathlib.Core.Bool.{Bool, true, false, ◌&&◌}
 use mathlib.Core.List.{List, [], ◌∷◌, ◌++◌}
-use Prim.Native.Nat.{ℕ, zero, suc, ◌+◌, ◌^◌, ◌≤◌, ◌<◌}
+use Prim.Native.Nat.{ℕ, zero, suc, ◌^◌, ◌≤◌, ◌<◌}
 use native.Mathlib.Omega.{arith}
-use native.Mathlib.Numerals.{add-one}
 use lib.Dec.{T, leb, ltb, leb→le, le→leb, ltb→lt}
-use lib.ListN.{length, get_or, drop, drop_of_length-le}
-use lib.Seq.{drop-cons}
+use lib.ListN.{length, get_or}
+use Rattle.std.specs.List.{list_all, zip}
 use Rattle.base.specs.Lists.{all}
 use Rattle.base.proofs.Bool.{and→, →and}
 use Rattle.game.specs.Neat.{neat_row, neat_next, neat}
 use Rattle.game.proofs.Neat.{neat→}
-use borrow.Author.Tests.{le-leb, lt-leb, ne_eqb}
+use borrow.Author.Tests.{ne_eqb}
 use Rattle.rules.specs.declared.Player.{Player}
 use Rattle.rules.specs.declared.Player.TheVariants.{X, O}
 use Rattle.rules.specs.declared.GameState.{GameState}
 use Rattle.rules.specs.declared.GameState.TheVariants.{InPlay, Drawn, Won}
-use Rattle.rules.specs.Board.{side_number, side_from, state_number}
+use Rattle.rules.specs.Board.{side_number, side_from, state_number, state_from}
 use Rattle.boards.specs.declared.local.Row.{Row}
-use Rattle.rules.specs.declared.NextBoard.{NextBoard}
-use Rattle.rules.specs.declared.NextBoard.TheVariants.{Any, Only}
 use Rattle.game.specs.declared.Game.{Game}
-use Rattle.interface.specs.Position.{next_board_word, row_words, words_of, next_board_from, state_from, row_from}
+use Rattle.interface.specs.Position.{next_board_word, words_of, next_board_from, row_from}
 use Rattle.interface.specs.Position.{game_from, most, all_within, is_position}
 
 pub within_short : (bs ws : List ℕ) → length ws < length bs → false ≡ all_within bs ws
@@ -35,30 +33,13 @@ within_short (b ∷ bs) (w ∷ ws) h = rest (leb w b) (all_within bs ws) (within
     rest true t e = e
     rest false t e = refl
 
--- one place on
-within_step : (bs ws : List ℕ) (i : ℕ) → i < length bs → i < length ws →
-    all_within (drop i bs) (drop i ws) ≡ (leb (get_or ws i 0) (get_or bs i 0) && all_within (drop (suc i) bs) (drop (suc i) ws))
+-- each word beside its bound
+pub within_zip : (bs ws : List ℕ) → length bs ≤ length ws → list_all (λ (p : ℕ × ℕ). leb p.0 p.1) (zip ws bs) ≡ all_within bs ws
 unfolding all_within
-within_step bs ws i h k =
-    ap (λ (l : List ℕ). all_within l (drop i ws)) (drop-cons bs i 0 h) ∙ ap (all_within (get_or bs i 0 ∷ drop (suc i) bs))
-    (drop-cons ws i 0 k)
-
-pub within_over : (bs ws : List ℕ) (i : ℕ) → i < length bs → i < length ws → get_or bs i 0 < get_or ws i 0 →
-    all_within (drop i bs) (drop i ws) ≡ false
-within_over bs ws i h k o =
-    within_step bs ws i h k ∙ ap (λ (t : Bool). t && all_within (drop (suc i) bs) (drop (suc i) ws))
-    (lt-leb (get_or ws i 0) (get_or bs i 0) o)
-
-pub within_under : (bs ws : List ℕ) (i : ℕ) → i < length bs → i < length ws → get_or ws i 0 ≤ get_or bs i 0 →
-    all_within (drop i bs) (drop i ws) ≡ all_within (drop (i + 1) bs) (drop (i + 1) ws)
-within_under bs ws i h k o =
-    within_step bs ws i h k ∙ ap (λ (t : Bool). t && all_within (drop (suc i) bs) (drop (suc i) ws))
-    (le-leb (get_or ws i 0) (get_or bs i 0) o)
-    ∙ sym (ap (λ (n : ℕ). all_within (drop n bs) (drop n ws)) (add-one i))
-
-pub within_end : (bs ws : List ℕ) (i : ℕ) → length bs ≤ i → all_within (drop i bs) (drop i ws) ≡ true
-unfolding all_within
-within_end bs ws i h = ap (λ (l : List ℕ). all_within l (drop i ws)) (drop_of_length-le bs h)
+within_zip [] [] h = refl
+within_zip [] (w ∷ ws) h = refl
+within_zip (b ∷ bs) [] h = absurd (omega arith)
+within_zip (b ∷ bs) (w ∷ ws) h = ap (λ (t : Bool). leb w b && t) (within_zip bs ws (omega arith))
 
 -- each word is within its bound
 pub within_at : (bs ws : List ℕ) → T (all_within bs ws) → (k : ℕ) → k < length bs → get_or ws k 0 ≤ get_or bs k 0
@@ -91,41 +72,8 @@ module _ (ws : List ℕ) (t : T (is_position ws)) where
   pub word_most : (k : ℕ) → k < 12 → get_or ws k 0 ≤ get_or most k 0
   word_most = within_at most ws t
 
--- ---- the words of a game, and a game of words, from their parts
-abbrev row_at : List Row → ℕ → Row
-row_at rs k = get_or rs k (record { x = 0; o = 0 })
-
-six_words : (rs : List Row) (ws : List ℕ) (a b c d e f : ℕ) → length rs ≡ 3
-    → a ≡ (row_at rs 0).x → b ≡ (row_at rs 0).o → c ≡ (row_at rs 1).x → d ≡ (row_at rs 1).o → e ≡ (row_at rs 2).x →
-    f ≡ (row_at rs 2).o
-    → a ∷ b ∷ c ∷ d ∷ e ∷ f ∷ ws ≡ row_words rs ++ ws
-six_words [] ws a b c d e f n p q r s t u = absurd (omega arith)
-six_words (x ∷ []) ws a b c d e f n p q r s t u = absurd (omega arith)
-six_words (x ∷ y ∷ []) ws a b c d e f n p q r s t u = absurd (omega arith)
-six_words (x ∷ y ∷ z ∷ []) ws a b c d e f n p q r s t u = cc
-six_words (x ∷ y ∷ z ∷ v ∷ rs) ws a b c d e f n p q r s t u = absurd (omega arith)
-
-module _ (g : Game) where
-  abbrev rs : List Row
-  rs = g.local_boards.rows
-
-  -- the last six words, by those of side, due board and state
-  abbrev last : ℕ → ℕ → ℕ → List ℕ
-  last who due state = g.global_states.x ∷ g.global_states.o ∷ who ∷ due ∷ state ∷ g.hash ∷ []
-
-  pub words_made : (a b c d e f who due state : ℕ) → length rs ≡ 3
-      → a ≡ (row_at rs 0).x → b ≡ (row_at rs 0).o → c ≡ (row_at rs 1).x → d ≡ (row_at rs 1).o → e ≡ (row_at rs 2).x →
-      f ≡ (row_at rs 2).o
-      → who ≡ side_number g.next_player → due ≡ next_board_word g.next_board →
-      state ≡ state_number g.game_state
-      → a ∷ b ∷ c ∷ d ∷ e ∷ f ∷ last who due state ≡ words_of g
-  words_made a b c d e f who due state n p q r s t u v w x =
-      six_words rs (last who due state) a b c d e f n p q r s t u
-      ∙ ap (λ (k : ℕ). row_words rs ++ last k due state) v
-      ∙ ap (λ (k : ℕ). row_words rs ++ last (side_number g.next_player) k state) w
-      ∙ ap (λ (k : ℕ). row_words rs ++ last (side_number g.next_player) (next_board_word g.next_board) k) x
-
-pub game_made : (ws : List ℕ) (who : Player) (next : NextBoard) (a b c : Row) (state : GameState)
+-- ---- a game of words, from its parts
+pub game_made : (ws : List ℕ) (who : Player) (next : Option ℕ) (a b c : Row) (state : GameState)
     → who ≡ side_from (get_or ws 8 0) → next ≡ next_board_from (get_or ws 9 0) → state ≡ state_from (get_or ws 10 0)
     → a ≡ row_from ws 0 → b ≡ row_from ws 2 → c ≡ row_from ws 4
     → ◌≡◌ {A = Game} (record {
@@ -150,15 +98,15 @@ state_back Drawn = refl
 state_back (Won X) = refl
 state_back (Won O) = refl
 
-abbrev pub Byte : NextBoard → Type 0
-Byte Any = Unit {0}
-Byte (Only b) = b < 256
+abbrev pub Byte : Option ℕ → Type 0
+Byte None = Unit {0}
+Byte (Some b) = b < 256
 
-due_back : (n : NextBoard) → Byte n → next_board_from (next_board_word n) ≡ n
-due_back Any h = refl
-due_back (Only b) h = simp (ne_eqb b 256 (λ e. omega arith))
+due_back : (n : Option ℕ) → Byte n → next_board_from (next_board_word n) ≡ n
+due_back None h = refl
+due_back (Some b) h = simp (ne_eqb b 256 (λ e. omega arith))
 
-slice_back : (who : Player) (next : NextBoard) (rs : List Row) (x o : ℕ) (state : GameState) (h : ℕ) (rest : List ℕ) →
+slice_back : (who : Player) (next : Option ℕ) (rs : List Row) (x o : ℕ) (state : GameState) (h : ℕ) (rest : List ℕ) →
     length rs ≡ 3 → Byte next
     → game_from (words_of
     (record {
@@ -203,9 +151,9 @@ side_fits : (w : Player) → T (leb (side_number w) 1)
 side_fits X = tt
 side_fits O = tt
 
-due_fits : (n : NextBoard) → T (neat_next n) → T (leb (next_board_word n) 256)
-due_fits Any t = tt
-due_fits (Only b) t = le→leb b 256 (let h = ltb→lt b 9 t in omega (arith, h))
+due_fits : (n : Option ℕ) → T (neat_next n) → T (leb (next_board_word n) 256)
+due_fits None t = tt
+due_fits (Some b) t = le→leb b 256 (let h = ltb→lt b 9 t in omega (arith, h))
 
 state_fits : (s : GameState) → T (leb (state_number s) 3)
 state_fits InPlay = tt
@@ -213,7 +161,7 @@ state_fits Drawn = tt
 state_fits (Won X) = tt
 state_fits (Won O) = tt
 
-fits : (who : Player) (next : NextBoard) (rs : List Row) (x o : ℕ) (state : GameState) (h : ℕ) (rest : List ℕ)
+fits : (who : Player) (next : Option ℕ) (rs : List Row) (x o : ℕ) (state : GameState) (h : ℕ) (rest : List ℕ)
     → T (neat_next next) → length rs ≡ 3 → T (all neat_row rs) → x < 2 ^ 9 → o < 2 ^ 9 → h ≤ 0xffff_ffff_ffff_ffff
     → T (is_position (words_of
     (record {

@@ -1,16 +1,16 @@
 -- The weights that the engine's struct holds do for the words: accepted ones are held as they are, and the others are refused alike.
+use Rattle.std.specs.Prelude.{Option}
 use mathlib.Core.Path.{◌≡◌, refl, sym, ap, ◌∙◌, subst}
 use mathlib.Core.Bool.{Bool, true, false}
 use mathlib.Core.List.{List}
-use Prim.Native.Nat.{ℕ, ◌+◌, ◌≤◌, min}
+use Prim.Native.Nat.{ℕ, ◌≤◌, min}
 use native.Mathlib.Omega.{arith}
 use lib.Dec.{T, leb, leb→le, le→leb}
 use lib.ListN.{length, get_or, drop}
-use lib.Seq.{get_or-drop}
 use denote.Floats.{passes}
 use borrow.Author.Tests.{ne_eqb}
+use Rattle.rules.specs.declared.Player.{Player}
 use Rattle.base.proofs.ListsAgree.{same_by}
-use Rattle.rules.specs.declared.DrawWinner.{DrawWinner}
 use Rattle.rules.specs.declared.Weights.{Weights}
 use Rattle.rules.specs.Position.{Position}
 use Rattle.rules.specs.Evaluation.{accepted_weights, scoring_with, evaluated}
@@ -51,13 +51,13 @@ held_same f w refused = by (accepted_weights w) refl
     by false e = refused e
 
 -- ---- the evaluation
-pub held_evaluated : (d : DrawWinner) (w : Weights) (p : Position) →
+pub held_evaluated : (d : Option Player) (w : Weights) (p : Position) →
     evaluated (scoring_with d (held_weights w)) p ≡ evaluated (scoring_with d w) p
 held_evaluated d w p = held_same (λ v. evaluated (scoring_with d v) p) w λ e.
     evaluated_refused (scoring_with d (held_weights w)) p (held_accepted w ∙ e) ∙ sym (evaluated_refused (scoring_with d w) p e)
 
 -- ---- the search: refused by one number, since 15, 16 and 17 do not look at the weights
-module _ (d : DrawWinner) (depth allowance : ℕ) (g : Game) (rs : Responses) (words : List ℕ) where
+module _ (d : Option Player) (depth allowance : ℕ) (g : Game) (rs : Responses) (words : List ℕ) where
   abbrev asked : Weights → Settings
   asked w = record { max_depth = depth; allowance = allowance; weights = w }
 
@@ -79,12 +79,6 @@ module _ (d : DrawWinner) (depth allowance : ℕ) (g : Game) (rs : Responses) (w
       ∙ sym (not_begun w e)
 
 -- ---- words, read and held
-pub weights_made : (ws : List ℕ) (at : ℕ) {one two board : ℕ} → one ≡ min (get_or ws at 0) 65535 →
-    two ≡ min (get_or ws (at + 1) 0) 65535 → board ≡ min (get_or ws (at + 2) 0) 65535 →
-    record { one = one; two = two; board = board } ≡ held_weights (weights_from (drop at ws))
-weights_made ws at e f g =
-    let z : at + 0 ≡ at = omega arith in cc (get_or-drop at ws 0 0, get_or-drop at ws 1 0, get_or-drop at ws 2 0)
-
 pub settings_reported : (ws : List ℕ) (m : Minimax) (g : Game) (words : List ℕ) →
     reported_of m g (config_from ws) words
     ≡ reported (structs (scoring_from ws)) (settings_from ws) g (responses_of m.responses) words

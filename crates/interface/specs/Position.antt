@@ -1,17 +1,13 @@
 -- A position as twelve words, and back.
-use Rattle.std.specs.Prelude.{Bool, true, false, cond, ◌&&◌, List, [], ◌∷◌, ◌++◌, ℕ, ◌+◌, ◌-◌, eqb, leb, get_or}
-use Rattle.rules.specs.declared.GameState.{GameState}
-use Rattle.rules.specs.declared.GameState.TheVariants.{InPlay, Drawn, Won}
-use Rattle.rules.specs.Board.{side_number, side_from, state_number}
+use Rattle.std.specs.Prelude.{Bool, true, false, cond, ◌&&◌, List, [], ◌∷◌, ◌++◌, ℕ, ◌+◌, eqb, leb, get_or, Option, None, Some}
+use Rattle.rules.specs.Board.{side_number, side_from, state_number, state_from}
 use Rattle.boards.specs.declared.local.Row.{Row}
-use Rattle.rules.specs.declared.NextBoard.{NextBoard}
-use Rattle.rules.specs.declared.NextBoard.TheVariants.{Any, Only}
 use Rattle.game.specs.declared.Game.{Game}
 
 -- 256, which is no byte, for free choice
-abbrev pub next_board_word : NextBoard → ℕ
-next_board_word Any = 256
-next_board_word (Only b) = b
+abbrev pub next_board_word : Option ℕ → ℕ
+next_board_word None = 256
+next_board_word (Some b) = b
 
 abbrev pub row_words : List Row → List ℕ
 row_words [] = []
@@ -25,11 +21,8 @@ words_of g =
     side_number g.next_player ∷ next_board_word g.next_board ∷ state_number g.game_state ∷ g.hash ∷ [])
 
 -- ---- back
-abbrev pub next_board_from : ℕ → NextBoard
-next_board_from w = cond (eqb w 256) Any (Only w)
-
-abbrev pub state_from : ℕ → GameState
-state_from w = cond (eqb w 0) InPlay (cond (eqb w 1) Drawn (Won (side_from (w - 2))))
+abbrev pub next_board_from : ℕ → Option ℕ
+next_board_from w = cond (eqb w 256) None (Some w)
 
 abbrev pub row_from : List ℕ → ℕ → Row
 row_from ws k = record { x = get_or ws k 0; o = get_or ws (k + 1) 0 }

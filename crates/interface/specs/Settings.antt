@@ -1,7 +1,6 @@
 -- Settings and weights as words.
-use Rattle.std.specs.Prelude.{Bool, cond, ◌&&◌, List, ℕ, ◌-◌, min, eqb, leb, length, get_or, drop}
-use Rattle.rules.specs.declared.DrawWinner.{DrawWinner}
-use Rattle.rules.specs.declared.DrawWinner.TheVariants.{Nobody, Side}
+use Rattle.std.specs.Prelude.{Bool, cond, ◌&&◌, List, ℕ, ◌-◌, min, eqb, leb, length, get_or, drop, Option, None, Some}
+use Rattle.rules.specs.declared.Player.{Player}
 use Rattle.rules.specs.declared.Weights.{Weights}
 use Rattle.rules.specs.Board.{side_from}
 use Rattle.rules.specs.Evaluation.{Scoring, scoring_with}
@@ -9,8 +8,8 @@ use Rattle.theory.specs.Reported.{Settings}
 use Rattle.minimax.specs.declared.Config.{Config}
 
 -- 0 nobody, 1 X, 2 O
-abbrev pub draws_from : ℕ → DrawWinner
-draws_from n = cond (eqb n 0) Nobody (Side (side_from (n - 1)))
+abbrev pub draws_from : ℕ → Option Player
+draws_from n = cond (eqb n 0) None (Some (side_from (n - 1)))
 
 -- of one place of a board's line, of two places, of a won board
 abbrev pub weights_from : List ℕ → Weights

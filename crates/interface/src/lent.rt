@@ -2,22 +2,9 @@
 ghost use Rattle.std.specs.Prelude.{◌≡◌, ◌+◌, ◌≤◌, length};
 ghost use Rattle.std.proofs.lemmas.List.Edits.{sets};
 
-// Words, from a place on.
-pub(crate) fn put(out: &mut [u64], at: usize, words: &[u64])
-    requires { at + length words.now ≤ length out.old }
-    ensures { out.new ≡ sets out.old at words.now }
+pub(crate) fn put<T: Copy>(out: &mut [T], at: usize, values: &[T])
+    requires { at + length values.now ≤ length out.old }
+    ensures { out.new ≡ sets out.old at values.now }
 {
-    for i in 0..words.len() {
-        out[at + i] = words[i];
-    }
-}
-
-// Bytes, from a place on.
-pub(crate) fn put_bytes(out: &mut [u8], at: usize, bytes: &[u8])
-    requires { at + length bytes.now ≤ length out.old }
-    ensures { out.new ≡ sets out.old at bytes.now }
-{
-    for i in 0..bytes.len() {
-        out[at + i] = bytes[i];
-    }
+    out[at..at + values.len()].copy_from_slice(values);
 }

@@ -15,19 +15,21 @@ use game::Game;
 use line_buffer::LineBuffer;
 
 // A slice is too short, words are no position, or a draw winner is over 2. Document 01's numbers are below 32.
+// It and the other answers stay numbers, and are no enums: the C interface has them so.
 pub const BAD_ARGUMENT: u64 = 255;
 
 // The program's answer to a line without its line feed: how many bytes it has. They are written only if there is room for all.
 pub fn ultimattt_answer(line: &[u8], out: &mut [u8]) -> usize
     ensures { Answers line.now out.old out.new result }
 {
-    let answer = program_line::answer(LineBuffer::new().push_all(line));
-    let n = answer.written();
-    let bytes = answer.bytes;
-    if n <= out.len() {
-        lent::put_bytes(out, 0, &bytes[..n]);
+    let mut held = LineBuffer::new();
+    held.push_all(line);
+    let answer = program_line::answer(&held);
+    let bytes = answer.as_slice();
+    if bytes.len() <= out.len() {
+        lent::put(out, 0, bytes);
     }
-    n
+    bytes.len()
 }
 
 // The empty board.
@@ -53,10 +55,9 @@ pub fn ultimattt_read(text: &[u8], position: &mut [u64], place: &mut [u64]) -> u
         return BAD_ARGUMENT;
     }
     let parsed = notation::parse(text);
-    position::put(position, parsed.game);
+    position::put(position, parsed.unwrap_or(Game::new()));
     lent::put(place, 0, &position::place(parsed));
-    let answer = parsed.answer;
-    answer.number()
+    rules::number(parsed)
 }
 
 // A position's text of 101 bytes.
@@ -69,7 +70,7 @@ pub fn ultimattt_render(position: &[u64], out: &mut [u8]) -> u64
     if out.len() < 101 {
         return BAD_ARGUMENT;
     }
-    lent::put_bytes(out, 0, &notation::render(position::game_from(position)));
+    lent::put(out, 0, &notation::render(position::game_from(position)));
     0
 }
 
@@ -124,8 +125,7 @@ pub fn ultimattt_analyze(
     let found = report::memory(responses).analyze(game, config, words);
     report::put_memory(responses, found.state);
     report::put(report, found, Analysis::new(game));
-    let ending = found.ending;
-    ending.number()
+    found.ending.number()
 }
 
 // The evaluation of a position by three weights, into one word: 0, or refusal 20 with a score of 0.
@@ -155,7 +155,6 @@ pub fn ultimattt_evaluate(
         settings::draws_from(draw_winner),
         settings::weights_from(weights, 0),
     );
-    lent::put(score, 0, &[table::to_word(found.value)]);
-    let answer = found.answer;
-    answer.number()
+    lent::put(score, 0, &[table::to_word(found.unwrap_or(0))]);
+    rules::number(found)
 }

@@ -4,16 +4,15 @@ ghost use Rattle.std.proofs.lemmas.List.Edits.{sets};
 ghost use Rattle.game.specs.After.{games_after, answers_each};
 ghost use Rattle.notation.specs.Parsed.{reading_of};
 ghost use Rattle.interface.specs.Lent.{Puts};
-ghost use Rattle.rules.specs.Board.{side_from};
-ghost use Rattle.interface.specs.Position.{next_board_word, words_of, next_board_from, state_from, game_from};
+ghost use Rattle.interface.specs.Position.{next_board_word, words_of, next_board_from, game_from};
 ghost use Rattle.interface.specs.Position.{is_position};
 ghost use Rattle.interface.specs.Calls.{read_place};
 
 use crate::lent;
 use boards::{GlobalStates, LocalBoards, Move, Row};
 use game::Game;
-use notation::{ParseAnswer, ParseError, Parsed};
-use rules::{GameState, NextBoard, Player};
+use notation::ParseError;
+use rules::{GameState, Player};
 
 // The most that each word may be.
 const MOST: [u64; 12] = [
@@ -31,42 +30,29 @@ const MOST: [u64; 12] = [
     0xffff_ffff_ffff_ffff,
 ];
 
-fn next_board_word(next: NextBoard) -> u64
+fn next_board_word(next: Option<u8>) -> u64
     ensures { result ≡ next_board_word next }
 {
-    match next {
-        NextBoard::Any => 256,
-        NextBoard::Only(b) => b as u64,
-    }
-}
-
-fn wide(x: u32) -> u64
-    ensures { result ≡ x }
-{
-    x as u64
+    next.map_or(256, u64::from)
 }
 
 fn words_of(game: Game) -> [u64; 12]
     ensures { result ≡ words_of game }
 {
-    let boards = game.local_boards;
-    let rows = boards.rows;
+    let rows = game.local_boards.rows;
     let states = game.global_states;
-    let who = game.next_player;
-    let next = game.next_board;
-    let state = game.game_state;
     [
-        wide(rows[0].x),
-        wide(rows[0].o),
-        wide(rows[1].x),
-        wide(rows[1].o),
-        wide(rows[2].x),
-        wide(rows[2].o),
-        states.x as u64,
-        states.o as u64,
-        who.as_bit() as u64,
-        next_board_word(next),
-        state.number(),
+        u64::from(rows[0].x),
+        u64::from(rows[0].o),
+        u64::from(rows[1].x),
+        u64::from(rows[1].o),
+        u64::from(rows[2].x),
+        u64::from(rows[2].o),
+        u64::from(states.x),
+        u64::from(states.o),
+        game.next_player.as_bit() as u64,
+        next_board_word(game.next_board),
+        u64::from(game.game_state),
         game.hash,
     ]
 }
@@ -82,44 +68,14 @@ pub(crate) fn put(out: &mut [u64], game: Game)
 pub(crate) fn is_position(words: &[u64]) -> bool
     ensures { result ≡ is_position words.now }
 {
-    if words.len() < 12 {
-        return false;
-    }
-    for i in 0..12 {
-        if words[i] > MOST[i] {
-            return false;
-        }
-    }
-    true
+    words.len() >= MOST.len() && words.iter().zip(&MOST).all(|(word, most)| word <= most)
 }
 
-pub(crate) fn side_from(w: u64) -> Player
-    ensures { result ≡ side_from w }
-{
-    if w == 0 { Player::X } else { Player::O }
-}
-
-fn next_board_from(w: u64) -> NextBoard
+fn next_board_from(w: u64) -> Option<u8>
     requires { w ≤ 256 }
     ensures { result ≡ next_board_from w }
 {
-    if w == 256 {
-        NextBoard::Any
-    } else {
-        NextBoard::Only(w as u8)
-    }
-}
-
-fn state_from(w: u64) -> GameState
-    ensures { result ≡ state_from w }
-{
-    if w == 0 {
-        return GameState::InPlay;
-    }
-    if w == 1 {
-        return GameState::Drawn;
-    }
-    GameState::Won(side_from(w - 2))
+    u8::try_from(w).ok()
 }
 
 fn row(x: u64, o: u64) -> Row
@@ -132,12 +88,13 @@ fn row(x: u64, o: u64) -> Row
     }
 }
 
+// By index: the places of the words are the C interface's.
 pub(crate) fn game_from(words: &[u64]) -> Game
     requires { T (is_position words.now) }
     ensures { result ≡ game_from words.now }
 {
     Game {
-        next_player: side_from(words[8]),
+        next_player: Player::from_number(words[8]),
         next_board: next_board_from(words[9]),
         local_boards: LocalBoards {
             rows: [
@@ -150,7 +107,7 @@ pub(crate) fn game_from(words: &[u64]) -> Game
             x: words[6] as u16,
             o: words[7] as u16,
         },
-        game_state: state_from(words[10]),
+        game_state: GameState::from_number(words[10]),
         hash: words[11],
     }
 }
@@ -162,14 +119,10 @@ fn error_place(error: ParseError) -> [u64; 2]
 }
 
 // Offset and length of the part that is refused.
-pub(crate) fn place(parsed: Parsed) -> [u64; 2]
-    ensures { result ≡ read_place (reading_of parsed.answer parsed.game) }
+pub(crate) fn place(parsed: Result<Game, ParseError>) -> [u64; 2]
+    ensures { result ≡ read_place (reading_of parsed) }
 {
-    let answer = parsed.answer;
-    match answer {
-        ParseAnswer::Accepted => [0, 0],
-        ParseAnswer::Refused(error) => error_place(error),
-    }
+    parsed.err().map_or([0, 0], error_place)
 }
 
 // The game after moves, and what each is answered.
@@ -179,11 +132,11 @@ pub(crate) fn play(game: Game, moves: &[u8], answers: &mut [u8]) -> Game
         × (answers.new ≡ sets answers.old 0 (answers_each game moves.now)) }
 {
     let mut game = game;
-    for i in 0..moves.len() {
-        let made = game.make_move(Move { bits: moves[i] });
-        let answer = made.answer;
-        answers[i] = answer.number() as u8;
-        game = made.game;
+    // by index: of what a `zip` with `iter_mut` leaves, the library says nothing
+    for (i, &bits) in moves.iter().enumerate() {
+        let made = game.make_move(Move { bits });
+        answers[i] = rules::number(made) as u8;
+        game = made.unwrap_or(game);
     }
     game
 }

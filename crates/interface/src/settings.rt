@@ -2,27 +2,20 @@
 ghost use Rattle.std.specs.Prelude.{◌≡◌, ◌+◌, ◌≤◌, min, length, drop};
 ghost use Rattle.interface.specs.Settings.{draws_from, weights_from, held_weights, config_from};
 
-use crate::position::side_from;
 use minimax::Config;
-use rules::{DrawWinner, Weights};
+use rules::{Player, Weights};
 
-pub(crate) fn draws_from(w: u64) -> DrawWinner
+pub(crate) fn draws_from(w: u64) -> Option<Player>
     ensures { result ≡ draws_from w }
 {
-    if w == 0 {
-        return DrawWinner::Nobody;
-    }
-    DrawWinner::Side(side_from(w - 1))
+    w.checked_sub(1).map(Player::from_number)
 }
 
 // A weight over 65,535 is refused as 65,535 is.
 fn weight_from(w: u64) -> u16
     ensures { result ≡ min w 65535 }
 {
-    if w > 65535 {
-        return 65535;
-    }
-    w as u16
+    u16::try_from(w).unwrap_or(u16::MAX)
 }
 
 // Three weights, from a place on.

@@ -2,26 +2,24 @@
 use mathlib.Core.Path.{◌≡◌, refl, sym, ap, ◌∙◌, subst}
 use mathlib.Core.Bool.{Bool, true, false, cond}
 use mathlib.Core.List.{List, [], ◌∷◌, ◌++◌, append-nil, append_assoc}
-use mathlib.Core.Option.{Option, none, some}
-use Prim.Native.Nat.{ℕ, ◌+◌, min, ◌≤◌, ◌<◌}
+use Prim.Native.Nat.{ℕ, min, ◌≤◌}
 use native.Mathlib.Decide.{dec_le}
-use native.Mathlib.Numerals.{add-one}
 use native.Mathlib.Omega.{arith}
 use lib.Dec.{eqb}
-use lib.ListN.{length, take, drop, get_or, set, length-append, length-take, drop_of_length-le}
-use lib.Seq.{take_all, take-append-le, drop-cons}
+use lib.ListN.{length, take, length-take}
+use lib.Seq.{take_all, take-append-le}
 use borrow.Author.Tests.{eqb-true}
+use Rattle.std.specs.Prelude.{Option, Some, None}
+use Rattle.std.proofs.lemmas.List.{take-take}
 use Rattle.text.specs.Bytes.{space}
 use Rattle.text.specs.Reading.{read}
 use Rattle.text.specs.ProgramLine.{Parted, no_blank, around, parted, depth_of, asks_with, asked_by, asked}
 use Rattle.text.proofs.ProgramLine.{Parts, parted_parts, parted_blank, followed, parted_other}
-use Rattle.line_buffer.specs.declared.AfterBlank.{AfterBlank}
 use Rattle.line_buffer.specs.declared.AfterBlank.TheVariants.{Nothing}
 use Rattle.line_buffer.specs.declared.LineBuffer.{LineBuffer}
-use Rattle.text.specs.Padded.{padded}
-use Rattle.line_buffer.specs.Buffer.{after_with, after_byte, depth_after, new_buffer, pushed, pushed_all, buffer_asks}
+use Rattle.line_buffer.specs.Buffer.{after_with, depth_after, new_buffer, pushed, pushed_all, buffer_asks}
 use Rattle.line_buffer.specs.Buffer.{SameQuestion, tail_of, before_blank, behind_blank, buffer_of}
-use Rattle.text.proofs.Padded.{set_padded, take_padded}
+use Rattle.text.proofs.Padded.{first_of_first}
 use Rattle.text.proofs.Reading.{too_long_is_1}
 
 -- ---- one byte more
@@ -39,46 +37,26 @@ longer_behind : (p : Parted) (b : ℕ) → after_with (behind_blank p) b ≡ beh
 longer_behind no_blank b = refl
 longer_behind (around text rest) b = tail_longer rest b
 
-one_longer : (line : List ℕ) (b : ℕ) → min (min (length line) 257 + 1) 257 ≡ min (length (line ++ (b ∷ []))) 257
-one_longer line b = omega (arith, length-append line (b ∷ []))
-
 pub pushed_held : (line : List ℕ) (b : ℕ) → pushed (buffer_of line) b ≡ buffer_of (line ++ (b ∷ []))
 unfolding pushed
 pushed_held line b = go (eqb b space) refl
   where
     made : (t : Bool) (q : Parted) → parted (line ++ (b ∷ [])) ≡ q → eqb b space ≡ t →
-        cond t (min (length line) 257) (before_blank (parted line)) ≡ before_blank q →
+        cond t (length (take 257 line)) (before_blank (parted line)) ≡ before_blank q →
         cond t Nothing (after_with (behind_blank (parted line)) b) ≡ behind_blank q →
         pushed (buffer_of line) b ≡ buffer_of (line ++ (b ∷ []))
     made t q e f x y = λ i. record {
-      bytes = set_padded 257 line b i;
-      len = one_longer line b i;
-      text = (ap (λ (t : Bool). cond t (min (length line) 257) (before_blank (parted line))) f ∙ x ∙ ap before_blank (sym e)) i;
+      kept = first_of_first 257 line (b ∷ []) i;
+      text = (ap (λ (t : Bool). cond t (length (take 257 line)) (before_blank (parted line))) f ∙ x ∙ ap before_blank (sym e)) i;
       after = (ap (λ (t : Bool). cond t Nothing (after_with (behind_blank (parted line)) b)) f ∙ y ∙ ap behind_blank (sym e)) i;
     }
 
     go : (t : Bool) → eqb b space ≡ t → pushed (buffer_of line) b ≡ buffer_of (line ++ (b ∷ []))
     go true e =
-        made true (around line []) (ap (λ (c : ℕ). parted (line ++ (c ∷ []))) (eqb-true b space e) ∙ parted_blank line) e refl refl
+        made true (around line []) (ap (λ (c : ℕ). parted (line ++ (c ∷ []))) (eqb-true b space e) ∙ parted_blank line) e
+        (length-take 257 line ∙ omega arith) refl
     go false e =
         made false (followed b (parted line)) (parted_other line b e) e (same_before (parted line) b) (longer_behind (parted line) b)
-
--- part by part
-pub pushed_parts : (h : LineBuffer) (b : ℕ) (bytes : List ℕ) (len text : ℕ) (after : AfterBlank) →
-    bytes ≡ set h.bytes h.len b →
-    len ≡ min (h.len + 1) 257 → text ≡ cond (eqb b space) h.len h.text → after ≡ after_byte h.after b →
-    record { bytes = bytes; len = len; text = text; after = after } ≡ pushed h b
-unfolding pushed
-pushed_parts h b bytes len text after d e f g = rw (d, e, f, g)
-
--- by the bytes still to be pushed
-pub pushed_next : (h : LineBuffer) (bs : List ℕ) (i d : ℕ) → i < length bs →
-    pushed_all (pushed h (get_or bs i d)) (drop (i + 1) bs) ≡ pushed_all h (drop i bs)
-pushed_next h bs i d q =
-    ap (λ (k : ℕ). pushed_all (pushed h (get_or bs i d)) (drop k bs)) (add-one i) ∙ sym (ap (pushed_all h) (drop-cons bs i d q))
-
-pub pushed_end : (h : LineBuffer) (bs : List ℕ) (i : ℕ) → length bs ≤ i → pushed_all h (drop i bs) ≡ h
-pushed_end h bs i q = ap (pushed_all h) (drop_of_length-le bs q)
 
 pub pushed_all_held : (line bs : List ℕ) → pushed_all (buffer_of line) bs ≡ buffer_of (line ++ bs)
 pushed_all_held line [] = ap buffer_of (sym (append-nil line))
@@ -101,19 +79,17 @@ read_first_257 t = go (dec_le (length t) 256)
     go (no h) = too_long_is_1 (take 257 t) (omega (arith, length-take 257 t)) ∙ sym (too_long_is_1 t (omega arith))
 
 -- the held bytes of a text
-held_first : (text rest : List ℕ) → take (min (min (length text) 257) 257) (padded 257 (text ++ rest)) ≡ take 257 text
+held_first : (text rest : List ℕ) → take (min (length text) 257) (take 257 (text ++ rest)) ≡ take 257 text
 held_first text rest = go (dec_le (length text) 257)
   where
-    go : Dec (length text ≤ 257) → take (min (min (length text) 257) 257) (padded 257 (text ++ rest)) ≡ take 257 text
+    go : Dec (length text ≤ 257) → take (min (length text) 257) (take 257 (text ++ rest)) ≡ take 257 text
     go (yes h) =
-        let n : min (min (length text) 257) 257 ≡ length text = omega arith in
-        rw n (take_padded (length text) 257 (text ++ rest) h (omega (arith, length-append text rest))
-        ∙ take-append-le (length text) text rest (omega arith) ∙ take_all (length text) text (omega arith)
-        ∙ sym (take_all 257 text h))
+        let n : min (length text) 257 ≡ length text = omega arith in
+        rw n (take-take (length text) 257 (text ++ rest) h ∙ take-append-le (length text) text rest (omega arith)
+        ∙ take_all (length text) text (omega arith) ∙ sym (take_all 257 text h))
     go (no h) =
-        let n : min (min (length text) 257) 257 ≡ 257 = omega arith in
-        rw n (take_padded 257 257 (text ++ rest) (omega arith) (omega (arith, length-append text rest))
-        ∙ take-append-le 257 text rest (omega arith))
+        let n : min (length text) 257 ≡ 257 = omega arith in
+        rw n (take-take 257 257 (text ++ rest) (omega arith) ∙ take-append-le 257 text rest (omega arith))
 
 depth_tail : (rest : List ℕ) → depth_after (tail_of rest) ≡ depth_of rest
 unfolding depth_of
@@ -123,16 +99,16 @@ depth_tail (a ∷ b ∷ []) = refl
 depth_tail (a ∷ b ∷ c ∷ cs) = refl
 
 same_asks : (t u : List ℕ) (d : Option ℕ) → read t ≡ read u → SameQuestion (asks_with t d) (asks_with u d)
-same_asks t u none e = tt
-same_asks t u (some n) e = (refl, e)
+same_asks t u None e = tt
+same_asks t u (Some n) e = (refl, e)
 
 asks_parted : (line : List ℕ) (p : Parted) → Parts line p → SameQuestion
-    (asks_with (take (min (before_blank p) 257) (padded 257 line)) (depth_after (behind_blank p))) (asked_by p)
+    (asks_with (take (before_blank p) (take 257 line)) (depth_after (behind_blank p))) (asked_by p)
 asks_parted line no_blank h = tt
 asks_parted line (around text rest) h =
-    subst (λ (l : List ℕ). SameQuestion (asks_with (take (min (min (length text) 257) 257) (padded 257 l)) (depth_after (tail_of rest)))
+    subst (λ (l : List ℕ). SameQuestion (asks_with (take (min (length text) 257) (take 257 l)) (depth_after (tail_of rest)))
     (asks_with text (depth_of rest))) (sym h.0)
-    (subst (λ (d : Option ℕ). SameQuestion (asks_with (take (min (min (length text) 257) 257) (padded 257 (text ++ (space ∷ rest))))
+    (subst (λ (d : Option ℕ). SameQuestion (asks_with (take (min (length text) 257) (take 257 (text ++ (space ∷ rest))))
     d) (asks_with text (depth_of rest))) (sym (depth_tail rest))
     (same_asks _ text (depth_of rest) (ap read (held_first text (space ∷ rest)) ∙ read_first_257 text)))
 

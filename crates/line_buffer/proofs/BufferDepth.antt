@@ -1,65 +1,53 @@
--- The case of what follows the blank, and the tests of its bytes, choose the arm of the definition.
+-- One digit, and two by what each says.
 use mathlib.Core.Path.{◌≡◌, refl, sym, ◌∙◌}
-use mathlib.Core.Bool.{Bool, true, false, not, and-eq-true_iff}
-use mathlib.Core.Option.{Option, none, some}
-use Prim.Native.Nat.{ℕ, ◌+◌, ◌-◌, ◌*◌, ◌≤◌}
-use native.Mathlib.Omega.{arith}
-use lib.Dec.{leb}
-use mir.Syntax.{w8}
-use mir.Val.{Fits}
-use borrow.Author.Tests.{leb-true, not-true, not-false}
+use mathlib.Core.Bool.{Bool, true, false, ◌&&◌}
+use mathlib.Core.List.{[], ◌∷◌}
+use Prim.Native.Nat.{ℕ, ◌+◌, ◌-◌, ◌*◌}
+use Rattle.std.specs.Prelude.{Option, Some, None}
 use Rattle.base.specs.Branch.{when◌then◌else◌}
 use Rattle.text.specs.ProgramLine.{is_digit, depth_of}
 use Rattle.line_buffer.specs.declared.AfterBlank.{AfterBlank}
-use Rattle.line_buffer.specs.declared.AfterBlank.TheVariants.{Nothing, One, Two, Other}
-use Rattle.line_buffer.specs.declared.Depth.TheVariants.{Of, Lacking}
-use Rattle.line_buffer.specs.Buffer.{depth_after, DepthIs}
+use Rattle.line_buffer.specs.declared.AfterBlank.TheVariants.{Two}
+use Rattle.line_buffer.specs.Buffer.{depth_after}
 
-pub lacks : (d : Option ℕ) → d ≡ none → DepthIs d Lacking
-lacks d e = rw e (record { number = refl; says = refl })
+pub digit_says : (b : ℕ) → is_digit b ≡ true → depth_of (b ∷ []) ≡ Some (b - 48)
+unfolding depth_of when◌then◌else◌
+digit_says b e = rw e
 
-pub tells : (d : Option ℕ) (n : ℕ) → d ≡ some n → DepthIs d (Of n)
-tells d n e = rw e (record { number = refl; says = refl })
+pub no_digit : (b : ℕ) → is_digit b ≡ false → depth_of (b ∷ []) ≡ None
+unfolding depth_of when◌then◌else◌
+no_digit b e = rw e
 
--- a test that was passed bounds its byte
-pub digit_bounds : (a : ℕ) (r : Bool) → r ≡ is_digit a → r ≡ true → (48 ≤ a) × (a ≤ 57)
-digit_bounds a r e t = let d = (and-eq-true_iff (leb 48 a) (leb a 57)).0 (sym e ∙ t) in (leb-true 48 a d.0, leb-true a 57 d.1)
+abbrev pub tens : Option ℕ → Option ℕ → Option ℕ
+tens None d = None
+tens (Some m) None = None
+tens (Some m) (Some n) = Some (10 * m + n)
 
--- so two digits make a byte
-pub tens_fit : (a : ℕ) (r : Bool) → r ≡ is_digit a → not r ≡ false → Fits w8 (10 * (a - 48))
-tens_fit a r e t = let d = digit_bounds a r e (not-false r t) in record { fits = omega arith }
+two_digits : (a b : ℕ) → depth_of (a ∷ b ∷ []) ≡ tens (depth_of (a ∷ [])) (depth_of (b ∷ []))
+unfolding depth_of when◌then◌else◌
+two_digits a b = go (is_digit a) (is_digit b)
+  where
+    said : Bool → ℕ → Option ℕ
+    said c n = when c then (λ _. Some (n - 48)) else λ _. None
 
-pub sum_fits : (a b : ℕ) (r q : Bool) → r ≡ is_digit a → not r ≡ false → q ≡ is_digit b → q ≡ true →
-    Fits w8 (10 * (a - 48) + (b - 48))
-sum_fits a b r q e t f u = let d = digit_bounds a r e (not-false r t) in let g = digit_bounds b q f u in record { fits = omega arith }
+    go : (c d : Bool) → (when c && d then (λ _. Some (10 * (a - 48) + (b - 48))) else λ _. None) ≡ tens (said c a) (said d b)
+    go true true = refl
+    go true false = refl
+    go false true = refl
+    go false false = refl
 
-module _ (s : AfterBlank) where
-  pub after_nothing : s ≡ Nothing → DepthIs (depth_after s) Lacking
-  unfolding depth_of
-  after_nothing e = rw e (lacks none refl)
+-- of two bytes, by what each says
+module _ (s : AfterBlank) (a b : ℕ) (e : s ≡ Two a b) (m : Option ℕ) (f : m ≡ depth_of (a ∷ [])) where
+  pub first_none : m ≡ None → None ≡ depth_after s
+  first_none g = rw (e, two_digits a b, sym f ∙ g)
 
-  pub after_other : s ≡ Other → DepthIs (depth_after s) Lacking
-  after_other e = rw e (lacks none refl)
+  module _ (n : Option ℕ) (g : n ≡ depth_of (b ∷ [])) where
+    pub second_none : n ≡ None → None ≡ depth_after s
+    second_none h = rw (e, two_digits a b, sym g ∙ h) (no_second (depth_of (a ∷ [])))
+      where
+        no_second : (m : Option ℕ) → None ≡ tens m None
+        no_second None = refl
+        no_second (Some k) = refl
 
-  module _ (a : ℕ) (e : s ≡ One a) (r : Bool) (d : r ≡ is_digit a) where
-    pub one_digit : r ≡ true → DepthIs (depth_after s) (Of (a - 48))
-    unfolding depth_of when◌then◌else◌
-    one_digit t = rw e (tells _ _ (rw (sym d ∙ t)))
-
-    pub one_other : r ≡ false → DepthIs (depth_after s) Lacking
-    unfolding depth_of when◌then◌else◌
-    one_other t = rw e (lacks _ (rw (sym d ∙ t)))
-
-  module _ (a b : ℕ) (e : s ≡ Two a b) (r : Bool) (d : r ≡ is_digit a) where
-    pub two_first_other : not r ≡ true → DepthIs (depth_after s) Lacking
-    unfolding depth_of when◌then◌else◌
-    two_first_other t = rw e (lacks _ (rw (sym d ∙ not-true r t)))
-
-    pub two_digits : not r ≡ false → (q : Bool) → q ≡ is_digit b → q ≡ true →
-        DepthIs (depth_after s) (Of (10 * (a - 48) + (b - 48)))
-    unfolding depth_of when◌then◌else◌
-    two_digits t q f u = rw e (tells _ _ (rw (sym d ∙ not-false r t, sym f ∙ u)))
-
-    pub two_second_other : not r ≡ false → (q : Bool) → q ≡ is_digit b → q ≡ false → DepthIs (depth_after s) Lacking
-    unfolding depth_of when◌then◌else◌
-    two_second_other t q f u = rw e (lacks _ (rw (sym d ∙ not-false r t, sym f ∙ u)))
+    pub both_some : (k l : ℕ) → m ≡ Some k → n ≡ Some l → Some (10 * k + l) ≡ depth_after s
+    both_some k l h i = rw (e, two_digits a b, sym f ∙ h, sym g ∙ i)

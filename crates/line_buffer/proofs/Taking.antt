@@ -1,31 +1,30 @@
--- What was taken, by its parts; and lines that line feeds part.
+-- One byte taken, and lines that line feeds part.
 use mathlib.Core.Path.{◌≡◌, refl, ◌∙◌}
 use mathlib.Core.Bool.{true, not}
 use mathlib.Core.List.{List, [], ◌∷◌, ◌++◌}
 use Prim.Native.Nat.{ℕ, ◌+◌, ◌-◌, ◌<◌}
+use native.Mathlib.Omega.{arith}
 use lib.Dec.{T, eqb}
 use lib.ListN.{length, get_or, drop}
 use borrow.Author.Tests.{eq-eqb}
 use Rattle.base.specs.Lists.{all}
 use Rattle.base.specs.LineFeed.{line_feed, UpToFeed}
 use Rattle.base.proofs.Bool.{and→}
-use Rattle.base.proofs.LineFeed.{byte_taken, feed_found, byte_taken_at}
+use Rattle.base.proofs.LineFeed.{byte_taken, feed_found, byte_taken_at, rises_at}
 use Rattle.line_buffer.specs.declared.LineBuffer.{LineBuffer}
-use Rattle.line_buffer.specs.declared.TakenLine.{TakenLine}
 use Rattle.line_buffer.specs.Buffer.{pushed, pushed_all}
-use Rattle.line_buffer.specs.Taking.{buffered, BuffersLine}
-
--- what was taken, by parts
-pub takes : (h : LineBuffer) (bytes : List ℕ) (from : ℕ) (r : TakenLine) (t : UpToFeed LineBuffer) →
-    buffered h (drop from bytes) ≡ t →
-    r.line ≡ t.line → r.found ≡ t.found → r.at ≡ from + (length (drop from bytes) - length t.left) → BuffersLine h bytes from r
-takes h bytes from r t e line_is found_is at_is = record { line_is = rw e line_is; found_is = rw e found_is; at_is = rw e at_is }
+use Rattle.line_buffer.specs.Taking.{buffered}
 
 -- one byte more
 pub byte_pushed : (t : UpToFeed LineBuffer) (h g : LineBuffer) (bytes : List ℕ) (i : ℕ) → i < length bytes →
     (get_or bytes i 0 ≡ line_feed → ⊥) → t ≡ buffered h (drop i bytes) → g ≡ pushed h (get_or bytes i 0) →
     t ≡ buffered g (drop (i + 1) bytes)
 byte_pushed t h g bytes i l n e f = rw f (e ∙ byte_taken_at pushed bytes h i l n)
+
+-- where a line feed was met, fewer bytes are left
+pub left_shorter : (h : LineBuffer) (bytes : List ℕ) → (buffered h bytes).found ≡ true →
+    length (buffered h bytes).left < length bytes
+left_shorter h bytes e = omega (arith, rises_at pushed bytes h 0 (length bytes - length (buffered h bytes).left) (omega arith) e)
 
 -- ---- lines
 abbrev pub Plain : List ℕ → Type 0

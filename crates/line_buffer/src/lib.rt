@@ -1,16 +1,15 @@
 // A line of any length, held in bounded memory: its first 257 bytes, where its last blank stands, and what follows that blank.
 #![tactic(auto)]
 
-ghost use Rattle.std.specs.Prelude.{◌≡◌, cond, ◌+◌, min, eqb, set};
-ghost use Rattle.text.specs.Bytes.{space};
-ghost use Rattle.text.specs.ProgramLine.{is_digit};
-ghost use Rattle.line_buffer.specs.Buffer.{after_with, after_byte, depth_after, DepthIs, new_buffer, pushed, pushed_all};
-ghost use Rattle.line_buffer.specs.Taking.{BuffersLine};
+ghost use Rattle.std.specs.Prelude.{◌≡◌, [], ◌∷◌, ◌<◌, IfSome, eqb, length};
+ghost use Rattle.text.specs.ProgramLine.{depth_of};
+ghost use Rattle.line_buffer.specs.Buffer.{after_with, after_byte, depth_after, new_buffer, pushed, pushed_all, buffer_text};
+ghost use Rattle.line_buffer.specs.Taking.{TakesLine};
 
-// One more than the longest text that is read: a longer one is refused by its first 257 bytes.
-pub const KEPT: usize = 257;
+use byte_row::ByteRow;
 
-// What follows the last blank. `Other`: more than two bytes, or there is no blank.
+// What follows the last blank. `Other`: more than two bytes, or there is no blank. It stands beside the kept bytes: those of a text that
+// is too long to be read end before the depth does.
 #[derive(Clone, Copy)]
 pub enum AfterBlank {
     Nothing,
@@ -19,39 +18,16 @@ pub enum AfterBlank {
     Other,
 }
 
-// What a line's depth is, or that it has none: 19.
-#[derive(Clone, Copy)]
-pub enum Depth {
-    Of(u8),
-    Lacking,
-}
-
-fn is_digit(b: u8) -> bool
-    ensures { result ≡ is_digit b }
+// What one digit says.
+fn digit(b: u8) -> Option<u8>
+    ensures value { result ≡ depth_of (b ∷ []) }
+    ensures bound { IfSome result (λ n. n < 10) }
 {
-    if b < b'0' { false } else { b <= b'9' }
-}
-
-// One byte more is kept, where there is room.
-fn keep(bytes: &mut [u8], at: usize, b: u8)
-    ensures { bytes.new ≡ set bytes.old at b }
-{
-    if at < bytes.len() {
-        bytes[at] = b;
+    if b.is_ascii_digit() {
+        Some(b - b'0')
+    } else {
+        None
     }
-}
-
-fn one_more_kept(len: usize) -> usize
-    ensures { result ≡ min (len + 1) 257 }
-{
-    if len < KEPT { len + 1 } else { KEPT }
-}
-
-// How many bytes stand before the last blank, after a byte at a place.
-fn before_blank(text: usize, at: usize, b: u8) -> usize
-    ensures { result ≡ cond (eqb b space) at text }
-{
-    if b == b' ' { at } else { text }
 }
 
 impl AfterBlank {
@@ -78,48 +54,24 @@ impl AfterBlank {
         }
     }
 
-    pub fn depth(self) -> Depth
-        ensures { DepthIs (depth_after self) result }
+    pub fn depth(self) -> Option<u8>
+        ensures { result ≡ depth_after self }
     {
         match self {
-            AfterBlank::Nothing => Depth::Lacking,
-            AfterBlank::One(a) => {
-                if is_digit(a) {
-                    Depth::Of(a - b'0')
-                } else {
-                    Depth::Lacking
-                }
-            }
-            AfterBlank::Two(a, b) => {
-                if !is_digit(a) {
-                    return Depth::Lacking;
-                }
-                if is_digit(b) {
-                    Depth::Of(10 * (a - b'0') + (b - b'0'))
-                } else {
-                    Depth::Lacking
-                }
-            }
-            AfterBlank::Other => Depth::Lacking,
+            AfterBlank::One(a) => digit(a),
+            AfterBlank::Two(a, b) => Some(10 * digit(a)? + digit(b)?),
+            AfterBlank::Nothing | AfterBlank::Other => None,
         }
     }
 }
 
-// `len` bytes are kept; `text` of the line's bytes, up to 257, stand before the last blank.
+// The first 257 bytes are kept, one more than the longest text that is read: a longer one is refused by them. `text` of these stand before
+// the last blank.
 #[derive(Clone, Copy)]
 pub struct LineBuffer {
-    pub bytes: [u8; 257],
-    pub len: usize,
-    pub text: usize,
-    pub after: AfterBlank,
-}
-
-// A line as far as its bytes came, where the next bytes are, and whether its end was met.
-#[derive(Clone, Copy)]
-pub struct TakenLine {
-    pub line: LineBuffer,
-    pub at: usize,
-    pub found: bool,
+    kept: ByteRow<257>,
+    text: usize,
+    after: AfterBlank,
 }
 
 impl LineBuffer {
@@ -128,102 +80,62 @@ impl LineBuffer {
         ensures { result ≡ new_buffer }
     {
         LineBuffer {
-            bytes: [0; 257],
-            len: 0,
+            kept: ByteRow::new(),
             text: 0,
             after: AfterBlank::Other,
         }
     }
 
-    // The line with one byte more.
-    pub fn push(self, b: u8) -> LineBuffer
-        ensures { result ≡ pushed self b }
+    // One byte more.
+    pub fn push(&mut self, b: u8)
+        ensures { self.new ≡ pushed self.old b }
     {
-        let len = self.len;
-        let text = self.text;
-        let after = self.after;
-        let mut bytes = self.bytes;
-        keep(&mut bytes, len, b);
-        LineBuffer {
-            bytes,
-            len: one_more_kept(len),
-            text: before_blank(text, len, b),
-            after: after.push(b),
+        if b == b' ' {
+            self.text = self.kept.len();
         }
+        self.after = self.after.push(b);
+        self.kept.push(b);
     }
 
     // Some bytes more, line feeds as any other.
-    pub fn push_all(self, bytes: &[u8]) -> LineBuffer
-        ensures { result ≡ pushed_all self bytes.now }
+    pub fn push_all(&mut self, bytes: &[u8])
+        ensures { self.new ≡ pushed_all self.old bytes.now }
     {
-        let mut line = self;
-        for i in 0..bytes.len() {
-            line = line.push(bytes[i]);
+        for &b in bytes {
+            self.push(b);
         }
-        line
     }
 
-    pub fn is_empty(self) -> bool
-        ensures { result ≡ eqb self.len 0 }
+    pub fn is_empty(&self) -> bool
+        ensures { result ≡ eqb (length self.now.kept) 0 }
     {
-        self.len == 0
+        self.kept.is_empty()
     }
 
-    // Takes the bytes from a place on, up to a line feed, or all.
-    pub fn take(self, bytes: &[u8], from: usize) -> TakenLine
-        ensures { BuffersLine self bytes.now from result }
+    // Takes the bytes up to a line feed, and answers what follows it; or all, and the line goes on.
+    pub fn take<'a>(&mut self, bytes: &'a [u8]) -> Option<&'a [u8]>
+        ensures { TakesLine self.old bytes.now self.new result }
     {
-        let mut kept = self.bytes;
-        let mut len = self.len;
-        let mut text = self.text;
-        let mut after = self.after;
-        let mut i = from;
-        while i < bytes.len() {
-            let b = bytes[i];
-            i += 1;
+        for (i, &b) in bytes.iter().enumerate() {
             if b == b'\n' {
-                let line = LineBuffer {
-                    bytes: kept,
-                    len,
-                    text,
-                    after,
-                };
-                return TakenLine {
-                    line,
-                    at: i,
-                    found: true,
-                };
+                return Some(&bytes[i + 1..]);
             }
-            keep(&mut kept, len, b);
-            text = before_blank(text, len, b);
-            after = after.push(b);
-            len = one_more_kept(len);
+            self.push(b);
         }
-        let line = LineBuffer {
-            bytes: kept,
-            len,
-            text,
-            after,
-        };
-        TakenLine {
-            line,
-            at: i,
-            found: false,
-        }
+        None
     }
 
-    pub fn depth(self) -> Depth
-        ensures { DepthIs (depth_after self.after) result }
+    pub fn depth(&self) -> Option<u8>
+        ensures { result ≡ depth_after self.now.after }
     {
-        let after = self.after;
-        after.depth()
+        self.after.depth()
     }
 
-    // How many bytes of the position's text are held: they are the first ones.
-    pub fn text_len(self) -> usize
-        ensures { result ≡ min self.text 257 }
+    // What is held of the position's text.
+    pub fn text(&self) -> &[u8]
+        ensures { result.now ≡ buffer_text self.now }
     {
-        let text = self.text;
-        if text < KEPT { text } else { KEPT }
+        let kept = self.kept.as_slice();
+        &kept[..self.text.min(kept.len())]
     }
 }

@@ -1,18 +1,18 @@
 -- The code's arms are the definition's; what is held of a line is answered as the line is, and no byte of an answer is dropped.
+use Rattle.std.specs.Prelude.{None}
 use mathlib.Core.Path.{◌≡◌, refl, sym, ap, ◌∙◌, subst}
 use mathlib.Core.Bool.{Bool, true, false}
 use mathlib.Core.List.{List, [], ◌∷◌}
-use mathlib.Core.Option.{Option}
 use Prim.Native.Nat.{ℕ, ◌≤◌}
 use native.Mathlib.Omega.{arith}
 use lib.Dec.{T, eqb}
 use lib.IntN.{ℤ}
 use lib.ListN.{length}
 use borrow.Author.Tests.{eq-eqb, ne_eqb}
+use Rattle.std.specs.Prelude.{None, Ok, Err}
 use Rattle.base.specs.Bits.{bit}
 use Rattle.base.specs.Branch.{when◌then◌else◌}
 use Rattle.base.proofs.Branch.{if_ind}
-use Rattle.rules.specs.declared.DrawWinner.TheVariants.{Nobody}
 use Rattle.rules.specs.Position.{Position}
 use Rattle.rules.specs.Moves.{moves}
 use Rattle.rules.specs.Hash.{hash}
@@ -23,7 +23,7 @@ use Rattle.rules.proofs.Endgame.{analysis_cases}
 use Rattle.theory.specs.Memory.{no_responses}
 use Rattle.theory.specs.Reported.{Reported, reported}
 use Rattle.text.specs.Reading.{Reading, reads, refuses, read}
-use Rattle.text.specs.ProgramLine.{Question, no_depth, asks, asks_with, asked, answer_text, refusal_text}
+use Rattle.text.specs.ProgramLine.{Question, no_depth, asks, asked, answer_text, refusal_text}
 use Rattle.text.proofs.Reading.{refusal_is_1_to_6}
 use Rattle.text.proofs.ProgramLine.{decimal_short, answer_short}
 use Rattle.status.specs.declared.Status.{Status}
@@ -31,23 +31,20 @@ use Rattle.status.specs.Sets.{set_of, status_of}
 use Rattle.game.specs.declared.Game.{Game}
 use Rattle.game.specs.Meaning.{position_of}
 use Rattle.game.specs.Neat.{neat}
-use Rattle.notation.specs.declared.ParseAnswer.{ParseAnswer}
-use Rattle.notation.specs.declared.ParseAnswer.TheVariants.{Accepted, Refused}
 use Rattle.notation.specs.declared.ParseError.{ParseError}
-use Rattle.notation.specs.declared.Parsed.{Parsed}
-use Rattle.notation.specs.Parsed.{kind_number, reading_of, game_for, Parses}
+use Rattle.notation.specs.Parsed.{parse_number, game_for, Parses}
 use Rattle.notation.proofs.ParsedGames.{read_gives_a_game}
 use Rattle.minimax.specs.declared.Minimax.{Minimax}
 use Rattle.minimax.specs.declared.Config.{Config}
 use Rattle.minimax.specs.declared.Report.{Report}
-use Rattle.minimax.specs.Report.{empty_responses, report_of, reported_of}
+use Rattle.minimax.specs.declared.SearchError.{SearchError}
+use Rattle.minimax.specs.declared.SearchError.TheVariants.{Depth, Allowance, Words, Weights, Spent}
+use Rattle.minimax.specs.Report.{search_error_number, empty_responses, report_of, reported_of}
 use Rattle.minimax.specs.Structs.{structs}
 use Rattle.minimax.proofs.ReportAnswers.{bytes_empty}
 use Rattle.minimax.proofs.Structs.{reported_rules}
-use Rattle.line_buffer.specs.declared.Depth.{Depth}
-use Rattle.line_buffer.specs.declared.Depth.TheVariants.{Of, Lacking}
 use Rattle.answer_text.specs.declared.AnswerText.{AnswerText}
-use Rattle.line_buffer.specs.Buffer.{DepthIs, new_buffer, pushed_all, buffer_asks, SameQuestion}
+use Rattle.line_buffer.specs.Buffer.{new_buffer, pushed_all, buffer_asks, SameQuestion}
 use Rattle.answer_text.specs.AnswerBytes.{text_of_bytes, written_bytes}
 use Rattle.program_line.specs.Answered.{settings, program_scoring, program_search, report_text, position_text, reading_text}
 use Rattle.program_line.specs.Answered.{asked_text, answer_line}
@@ -57,7 +54,7 @@ use Rattle.program_line.proofs.AnsweredBounds.{moves_short, Small, searched_smal
 
 -- ---- the search, from fresh memory and with no words
 abbrev config : ℕ → Config
-config depth = record { max_depth = depth; allowance = 1000000; draw_winner = Nobody; weights = default_weights }
+config depth = record { max_depth = depth; allowance = 1000000; draw_winner = None; weights = default_weights }
 
 pub search_searched : (r : Report) (m : Minimax) (g : Game) (depth : ℕ) (words : List ℕ) → T (neat g) →
     g.hash ≡ hash (position_of g) → m ≡ empty_responses → length words ≡ 0 →
@@ -71,9 +68,17 @@ search_searched r m g depth (w ∷ ws) n f e l h = absurd (omega arith)
 
 -- ---- its report
 module _ (s : Set) (legal : ℕ) (r : Reported) where
-  pub report_refused : (r.number ≡ 0 → ⊥) → refusal_text r.number ≡ report_text s legal r
+  pub report_refused : (why : SearchError) (n : ℕ) → n ≡ search_error_number why → search_error_number why ≡ r.number →
+      refusal_text n ≡ report_text s legal r
   unfolding report_text when◌then◌else◌
-  report_refused n = rw (ne_eqb r.number 0 n)
+  report_refused why n e f = rw (e, f, ne_eqb r.number 0 (λ z. not_0 why (f ∙ z)))
+    where
+      not_0 : (why : SearchError) → search_error_number why ≡ 0 → ⊥
+      not_0 Depth z = omega arith
+      not_0 Allowance z = omega arith
+      not_0 Words z = omega arith
+      not_0 Weights z = omega arith
+      not_0 Spent z = omega arith
 
   pub report_answered : (o : AnswerText) (n : ℕ) (z : ℤ) → n ≡ legal → z ≡ r.score → r.number ≡ 0 →
       o ≡ text_of_bytes (answer_text s n r.depth z r.count r.pv) → o ≡ text_of_bytes (report_text s legal r)
@@ -110,34 +115,21 @@ module _ (p : Position) (depth : ℕ) where
   position_searched s r e f g = rw (sym e, f, g, set_again (analysis p).status)
 
 -- ---- the text
-module _ (text : List ℕ) (r : Parsed) (h : Parses text r) where
-  pub text_refused : (e : ParseError) → r.answer ≡ Refused e → (depth : ℕ) →
-      refusal_text (kind_number e.why) ≡ reading_text (read text) depth
-  text_refused e a depth =
-      ap (λ (z : Reading). reading_text z depth) (sym (ap (λ (z : ParseAnswer). reading_of z r.game) a) ∙ h.says)
+module _ (text : List ℕ) where
+  pub text_refused : (e : ParseError) → Parses text (Err e) → (depth : ℕ) → refusal_text (parse_number e) ≡ reading_text (read text) depth
+  text_refused e h depth = ap (λ (z : Reading). reading_text z depth) h.says
 
-  module _ (a : r.answer ≡ Accepted) where
-    text_reads : read text ≡ reads (position_of r.game)
-    text_reads = sym h.says ∙ ap (λ (z : ParseAnswer). reading_of z r.game) a
-
-    pub text_accepted : (depth : ℕ) → position_text (position_of r.game) depth ≡ reading_text (read text) depth
-    text_accepted depth = sym (ap (λ (z : Reading). reading_text z depth) text_reads)
+  module _ (g : Game) (h : Parses text (Ok g)) where
+    pub text_accepted : (depth : ℕ) → position_text (position_of g) depth ≡ reading_text (read text) depth
+    text_accepted depth = ap (λ (z : Reading). reading_text z depth) h.says
 
     -- the game is neat, and its hash the fresh one
-    pub text_game : T (neat r.game) × (r.game.hash ≡ hash (position_of r.game))
+    pub text_game : T (neat g) × (g.hash ≡ hash (position_of g))
     text_game =
-        let e = h.game_is ∙ ap game_for text_reads in (
-          subst (λ (g : Game). T (neat g)) (sym e) (read_gives_a_game text (position_of r.game) text_reads).is_neat,
+        let e = h.game_is ∙ ap game_for (sym h.says) in (
+          subst (λ (g : Game). T (neat g)) (sym e) (read_gives_a_game text (position_of g) (sym h.says)).is_neat,
           ap (λ (g : Game). g.hash) e,
         )
-
--- ---- the line
-module _ (text : List ℕ) (d : Option ℕ) (r : Depth) (h : DepthIs d r) where
-  pub no_depth_text : r ≡ Lacking → refusal_text 19 ≡ asked_text (asks_with text d)
-  no_depth_text e = rw (sym h.says, e)
-
-  pub depth_text : (n : ℕ) → r ≡ Of n → reading_text (read text) n ≡ asked_text (asks_with text d)
-  depth_text n e = rw (sym h.says, e)
 
 same_text : (a b : Question) → SameQuestion a b → asked_text a ≡ asked_text b
 same_text no_depth no_depth h = refl

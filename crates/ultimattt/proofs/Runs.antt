@@ -2,59 +2,54 @@
 use mathlib.Core.Path.{◌≡◌, refl, sym, ap, ◌∙◌, subst}
 use mathlib.Core.Bool.{Bool, true, false, cond, ◌&&◌, ◌||◌, true≢false, or-true}
 use mathlib.Core.List.{List, [], ◌∷◌, map}
-use Prim.Native.Nat.{ℕ, ◌-◌, ◌<◌, ◌≤◌, min}
+use Prim.Native.Nat.{ℕ, ◌-◌, ◌<◌, ◌≤◌}
 use native.Mathlib.Omega.{arith}
 use lib.Dec.{eqb, ltb}
-use lib.IntN.{ℤ, pos, negsuc}
 use lib.ListN.{length, take}
-use lib.Signed.{lt_z}
-use borrow.Author.Tests.{ltb-true, ltb-false, le-ltb, eq-eqb}
-use Rattle.io.specs.Counts.{clamp_len}
+use borrow.Author.Tests.{ltb-true, ltb-false, eq-eqb}
+use Rattle.std.specs.Prelude.{Option, Some, None, IsSome}
 use Rattle.text.specs.Bytes.{quoted}
 use Rattle.line_buffer.specs.Buffer.{buffer_of}
 use Rattle.line_buffer.specs.Taking.{buffered}
 use Rattle.answer_text.specs.declared.AnswerText.{AnswerText}
 use Rattle.answer_text.specs.AnswerBytes.{no_text, text_of_bytes, written_bytes}
-use Rattle.answer_text.proofs.AnswerBytes.{text_room}
 use Rattle.program_reads.specs.declared.Program.{Program}
 use Rattle.program_reads.specs.Lines.{Split, split, with_byte, split_bytes, last_line, answers, input_of}
 use Rattle.program_reads.specs.Promises.{fed}
 use Rattle.program_reads.proofs.Lines.{split_append}
 use Rattle.program_reads.proofs.Promises.{Holds, new_holds, last_written, fed_holds}
-use Rattle.program_reads.proofs.Feeding.{last_room}
 use Rattle.ultimattt.specs.declared.ProgramRun.{ProgramRun}
 use Rattle.ultimattt.specs.declared.Progress.{Progress}
 use Rattle.ultimattt.specs.declared.Progress.TheVariants.{Reading, InputEnded, ReadFailed, WriteFailed}
-use Rattle.ultimattt.specs.Runs.{ReadStep, read_bytes, new_run, after_feeding, after_bytes, after_read, AfterFeeding, AfterRead}
+use Rattle.ultimattt.specs.Runs.{ReadStep, read_bytes, new_run, after_feeding, after_bytes, after_got, after_read, AfterFeeding, AfterRead}
 use Rattle.ultimattt.specs.Runs.{is_reading, goes_on, RunsTo, stops, reads, SomeRun, last_of_run, told_of_run, Concluded}
 
 -- ---- one read
-pub fed_whole : (p q : Program) (bytes : List ℕ) → q ≡ fed p bytes → AfterFeeding p bytes (record { program = q; progress = Reading })
-fed_whole p q bytes e = (true, rw e, λ _. refl)
-
 pub not_fed : (p : Program) (bytes : List ℕ) → (buffered p.line bytes).found ≡ true →
     AfterFeeding p bytes (record { program = p; progress = WriteFailed })
 not_fed p bytes f = (false, refl, λ e. absurd (true≢false (sym f ∙ e)))
 
--- z is the number that the code tests
-module _ (p : Program) (buffer : List ℕ) (got z : ℤ) (same : z ≡ got) where
-  pub read_failed : lt_z z (pos 0) ≡ true → AfterRead p buffer got (record { program = p; progress = ReadFailed })
+pub all_fed : (p q : Program) (bytes : List ℕ) → q ≡ fed p bytes → AfterFeeding p bytes (record { program = q; progress = Reading })
+all_fed p q bytes e = (true, rw e, λ _. refl)
+
+module _ (p : Program) (buffer : List ℕ) (got : Option ℕ) where
+  pub read_failed : got ≡ None → AfterRead p got buffer (record { program = p; progress = ReadFailed })
   unfolding after_read
-  read_failed e = (true, rw (← same, e), λ _. refl)
+  read_failed e = (true, rw e, λ _. refl)
 
-  module _ (good : lt_z z (pos 0) ≡ false) (n : ℕ) (counted : n ≡ clamp_len z (length buffer)) where
-    pub input_ended : n ≡ 0 → AfterRead p buffer got (record { program = p; progress = InputEnded })
-    unfolding after_read
-    input_ended e = (true, rw (← same, good, ← counted, e), λ _. refl)
+  pub input_ended : got ≡ Some 0 → AfterRead p got buffer (record { program = p; progress = InputEnded })
+  unfolding after_read
+  input_ended e = (true, rw e, λ _. refl)
 
-    by_bytes : (bytes : List ℕ) (r : ProgramRun) (written : Bool) → 0 < length bytes → r ≡ after_feeding p bytes written →
-        r ≡ after_bytes p bytes written
-    by_bytes [] r written h e = absurd (omega arith)
-    by_bytes (b ∷ bs) r written h e = e
+  by_bytes : (bytes : List ℕ) (r : ProgramRun) (written : Bool) → 0 < length bytes → r ≡ after_feeding p bytes written →
+      r ≡ after_bytes p bytes written
+  by_bytes [] r written h e = absurd (omega arith)
+  by_bytes (b ∷ bs) r written h e = e
 
-    pub bytes_fed : (r : ProgramRun) → 0 < length (take n buffer) → AfterFeeding p (take n buffer) r → AfterRead p buffer got r
-    unfolding after_read
-    bytes_fed r h f = (f.0, rw (← same, good, ← counted) (by_bytes (take n buffer) r f.0 h f.1), rw (← same, ← counted) f.2)
+  pub bytes_fed : (n : ℕ) (r : ProgramRun) → got ≡ Some n → 0 < length (take n buffer) → AfterFeeding p (take n buffer) r →
+      AfterRead p got buffer r
+  unfolding after_read
+  bytes_fed n r e h f = (f.0, rw e (by_bytes (take n buffer) r f.0 h f.1), rw e f.2)
 
 -- ---- all reads
 -- however a run goes on from r, it is one from b
@@ -65,8 +60,8 @@ module _ (b : ProgramRun) where
   pub leads_from_itself : LeadsFrom b b
   leads_from_itself steps s h = (steps, h)
 
-  pub one_read_more : (r s : ProgramRun) (buffer : List ℕ) (got : ℤ) (go : Bool) → go ≡ goes_on r → go ≡ true →
-      AfterRead r.program buffer got s → LeadsFrom b r → LeadsFrom b s
+  pub one_read_more : (r s : ProgramRun) (buffer : List ℕ) (got : Option ℕ) (go : Bool) → go ≡ goes_on r → go ≡ true →
+      AfterRead r.program got buffer s → LeadsFrom b r → LeadsFrom b s
   one_read_more r s buffer got go e f a way steps t h = way (_ ∷ steps) t (reads (sym e ∙ f) a.2 (rw a.1 at h))
 
   pub at_its_end : (r : ProgramRun) (go : Bool) → go ≡ goes_on r → go ≡ false → LeadsFrom b r → SomeRun b r
@@ -85,14 +80,13 @@ at_most false n = omega arith
 
 one_turn_less : (p : Program) (a : ReadStep) → turns_left (after_read p a) ≤ p.reads - 1
 unfolding after_read
-one_turn_less p a = go (lt_z a.got (pos 0)) (read_bytes a) a.written
+one_turn_less p a = go a.got (read_bytes a) a.written
   where
-    go : (failed : Bool) (bytes : List ℕ) (written : Bool) →
-        turns_left (cond failed (record { program = p; progress = ReadFailed }) (after_bytes p bytes written)) ≤ p.reads - 1
-    go true bytes written = omega arith
-    go false [] written = omega arith
-    go false (b ∷ bs) true = at_most (ltb 0 (p.reads - 1)) (p.reads - 1)
-    go false (b ∷ bs) false = omega arith
+    go : (got : Option ℕ) (bytes : List ℕ) (written : Bool) → turns_left (after_got p got bytes written) ≤ p.reads - 1
+    go None bytes written = omega arith
+    go (Some n) [] written = omega arith
+    go (Some n) (b ∷ bs) true = at_most (ltb 0 (p.reads - 1)) (p.reads - 1)
+    go (Some n) (b ∷ bs) false = omega arith
 
 reads_left : (r : ProgramRun) → goes_on r ≡ true → 0 < r.program.reads
 reads_left r e = ltb-true 0 r.program.reads (go (is_reading r.progress) e)
@@ -101,41 +95,39 @@ reads_left r e = ltb-true 0 r.program.reads (go (is_reading r.progress) e)
     go true f = f
     go false f = absurd (true≢false (sym f))
 
-pub turns_fall : (r s : ProgramRun) (buffer : List ℕ) (got : ℤ) (go : Bool) → go ≡ goes_on r → go ≡ true →
-    AfterRead r.program buffer got s → turns_left s < turns_left r
+pub turns_fall : (r s : ProgramRun) (buffer : List ℕ) (got : Option ℕ) (go : Bool) → go ≡ goes_on r → go ≡ true →
+    AfterRead r.program got buffer s → turns_left s < turns_left r
 turns_fall r s buffer got go e f a =
     let on : goes_on r ≡ true = sym e ∙ f in
     rw (a.1, on) (omega (arith, one_turn_less r.program (record { got = got; buffer = buffer; written = a.0 }), reads_left r on))
 
 -- ---- how a read leaves a run, by what was returned
 abbrev pub ReturnedFor : Progress → ReadStep → Type 0
-ReturnedFor InputEnded a = (lt_z a.got (pos 0) ≡ false) × (read_bytes a ≡ [])
-ReturnedFor ReadFailed a = lt_z a.got (pos 0) ≡ true
-ReturnedFor WriteFailed a = (lt_z a.got (pos 0) ≡ false) × (read_bytes a ≡ [] → ⊥) × (a.written ≡ false)
-ReturnedFor Reading a = (lt_z a.got (pos 0) ≡ false) × (read_bytes a ≡ [] → ⊥) × (a.written ≡ true)
+ReturnedFor InputEnded a = IsSome a.got × (read_bytes a ≡ [])
+ReturnedFor ReadFailed a = a.got ≡ None
+ReturnedFor WriteFailed a = IsSome a.got × (read_bytes a ≡ [] → ⊥) × (a.written ≡ false)
+ReturnedFor Reading a = IsSome a.got × (read_bytes a ≡ [] → ⊥) × (a.written ≡ true)
 
 pub returned_for : (p : Program) (a : ReadStep) → ReturnedFor (after_read p a).progress a
 unfolding after_read
-returned_for p a = go (lt_z a.got (pos 0)) refl (read_bytes a) refl a.written refl
+returned_for p a = go a.got refl (read_bytes a) refl a.written refl
   where
     cons : (b : ℕ) (bs : List ℕ) → read_bytes a ≡ b ∷ bs → read_bytes a ≡ [] → ⊥
     cons b bs e f = let z : 1 ≤ 0 = subst (λ (l : List ℕ). 1 ≤ length l) (sym e ∙ f) (omega arith) in omega arith
 
-    go : (c : Bool) → lt_z a.got (pos 0) ≡ c → (bs : List ℕ) → read_bytes a ≡ bs → (w : Bool) → a.written ≡ w →
-        ReturnedFor (cond c (record { program = p; progress = ReadFailed }) (after_bytes p bs w)).progress a
-    go true e bs f w g = e
-    go false e [] f w g = (e, f)
-    go false e (b ∷ bs) f true g = (e, cons b bs f, g)
-    go false e (b ∷ bs) f false g = (e, cons b bs f, g)
+    go : (got : Option ℕ) → a.got ≡ got → (bs : List ℕ) → read_bytes a ≡ bs → (w : Bool) → a.written ≡ w →
+        ReturnedFor (after_got p got bs w).progress a
+    go None e bs f w g = e
+    go (Some n) e [] f w g = (rw e, f)
+    go (Some n) e (b ∷ bs) f true g = (rw e, cons b bs f, g)
+    go (Some n) e (b ∷ bs) f false g = (rw e, cons b bs f, g)
 
 -- the bytes of a read are as many as it returned, the first of the buffer; a failed one gave none
-module _ (a : ReadStep) (n : ℕ) where
-  pub bytes_returned : a.got ≡ pos n → n ≤ length a.buffer → read_bytes a ≡ take n a.buffer
-  bytes_returned e h =
-      let all : clamp_len (pos n) (length a.buffer) ≡ n = omega arith in rw e (ap (λ (k : ℕ). take k a.buffer) all)
+pub bytes_returned : (a : ReadStep) (n : ℕ) → a.got ≡ Some n → read_bytes a ≡ take n a.buffer
+bytes_returned a n e = rw e
 
-  pub none_returned : a.got ≡ negsuc n → read_bytes a ≡ []
-  none_returned e = rw e
+pub none_returned : (a : ReadStep) → a.got ≡ None → read_bytes a ≡ []
+none_returned a e = rw e
 
 -- a run has read at least once
 pub not_at_once : (s : ProgramRun) → RunsTo new_run [] s → ⊥
@@ -152,33 +144,28 @@ line_held : (p : Program) (line : List ℕ) (a : ReadStep) (s : ProgramRun) (mor
     RunsTo (after_read p a) more s → (s.progress ≡ WriteFailed → ⊥) →
     Holds (after_read p a).program (split_bytes line (read_bytes a)).rest
 unfolding after_read split
-line_held p line a s more h = go a.got (read_bytes a) a.written refl
+line_held p line a s more h = go a.got (read_bytes a) a.written (λ e. none_returned a e)
   where
-    go : (got : ℤ) (bytes : List ℕ) (written : Bool) → bytes ≡ take (clamp_len got (length a.buffer)) a.buffer →
-        RunsTo (cond (lt_z got (pos 0)) (record { program = p; progress = ReadFailed }) (after_bytes p bytes written)) more s →
-        (s.progress ≡ WriteFailed → ⊥) →
-        Holds (cond (lt_z got (pos 0)) (record { program = p; progress = ReadFailed }) (after_bytes p bytes written)).program
-        (split_bytes line bytes).rest
-    go (negsuc n) bytes written e w k = rw e h
-    go (pos n) [] written e w k = rw (le-ltb n 0 (omega arith)) h
-    go (pos n) (b ∷ bs) true e w k = rw (le-ltb n 0 (omega arith)) (fed_holds p (b ∷ bs) line h)
-    go (pos n) (b ∷ bs) false e w k =
-        let v = rw (le-ltb n 0 (omega arith)) at w in
-        absurd (k (ap (λ (r : ProgramRun). r.progress) (stays _ s more refl v)))
+    go : (got : Option ℕ) (bytes : List ℕ) (written : Bool) → (got ≡ None → bytes ≡ []) →
+        RunsTo (after_got p got bytes written) more s → (s.progress ≡ WriteFailed → ⊥) →
+        Holds (after_got p got bytes written).program (split_bytes line bytes).rest
+    go None bytes written e w k = rw (e refl) h
+    go (Some n) [] written e w k = h
+    go (Some n) (b ∷ bs) true e w k = fed_holds p (b ∷ bs) line h
+    go (Some n) (b ∷ bs) false e w k = absurd (k (ap (λ (r : ProgramRun). r.progress) (stays _ s more refl w)))
 
 -- where a run still reads at its end, a read before it was fed
 one_read_fewer : (p : Program) (a : ReadStep) (s : ProgramRun) (more : List ReadStep) → RunsTo (after_read p a) more s →
     s.progress ≡ Reading → (after_read p a).program.reads ≡ p.reads - 1
 unfolding after_read
-one_read_fewer p a s more w q = go (lt_z a.got (pos 0)) (read_bytes a) a.written w
+one_read_fewer p a s more w q = go a.got (read_bytes a) a.written w
   where
-    go : (failed : Bool) (bytes : List ℕ) (written : Bool) →
-        RunsTo (cond failed (record { program = p; progress = ReadFailed }) (after_bytes p bytes written)) more s →
-        (cond failed (record { program = p; progress = ReadFailed }) (after_bytes p bytes written)).program.reads ≡ p.reads - 1
-    go true bytes written w = absurd (true≢false (cc (sym q ∙ ap (λ (r : ProgramRun). r.progress) (stays _ s more refl w))))
-    go false [] written w = absurd (true≢false (cc (sym q ∙ ap (λ (r : ProgramRun). r.progress) (stays _ s more refl w))))
-    go false (b ∷ bs) true w = refl
-    go false (b ∷ bs) false w = absurd (true≢false (cc (sym q ∙ ap (λ (r : ProgramRun). r.progress) (stays _ s more refl w))))
+    go : (got : Option ℕ) (bytes : List ℕ) (written : Bool) → RunsTo (after_got p got bytes written) more s →
+        (after_got p got bytes written).program.reads ≡ p.reads - 1
+    go None bytes written w = absurd (true≢false (cc (sym q ∙ ap (λ (r : ProgramRun). r.progress) (stays _ s more refl w))))
+    go (Some n) [] written w = absurd (true≢false (cc (sym q ∙ ap (λ (r : ProgramRun). r.progress) (stays _ s more refl w))))
+    go (Some n) (b ∷ bs) true w = refl
+    go (Some n) (b ∷ bs) false w = absurd (true≢false (cc (sym q ∙ ap (λ (r : ProgramRun). r.progress) (stays _ s more refl w))))
 
 module _ (s : ProgramRun) (good : s.progress ≡ WriteFailed → ⊥) where
   -- the same, with the run before the line that is held
@@ -216,7 +203,7 @@ no_last_text ReadFailed p n = refl
 no_last_text WriteFailed p n = refl
 
 -- an input without a byte
-pub empty_run : RunsTo new_run (record { got = pos 0; buffer = []; written = true } ∷ [])
+pub empty_run : RunsTo new_run (record { got = Some 0; buffer = []; written = true } ∷ [])
     (record { program = new_run.program; progress = InputEnded })
 unfolding after_read
 empty_run = reads refl (λ _. refl) (stops refl)
@@ -259,13 +246,6 @@ reads_used_up s steps w q = sym (reads_counted new_run s steps w q)
 
 -- ---- what is written and told at the end
 pub concluded : (r : ProgramRun) (x y : AnswerText) (n : ℕ) (w : Bool) → x ≡ last_of_run r.progress r.program →
-    n ≡ min x.len 224 → y ≡ text_of_bytes (told_of_run r.progress (w || eqb n 0)) → Concluded r (record { text = x; told = y })
-concluded r x y n w e k f =
-    (w || eqb n 0, λ i. record { text = e i; told = f i }, λ z. rw (eq-eqb n 0 (omega (arith, k, z))) (or-true w))
-
--- the last text stands in a row of 224 bytes
-pub last_of_run_room : (x : Progress) (p : Program) (o : AnswerText) → o ≡ last_of_run x p → length o.bytes ≡ 224
-last_of_run_room InputEnded p o e = last_room p.line o e
-last_of_run_room Reading p o e = text_room o [] e
-last_of_run_room ReadFailed p o e = text_room o [] e
-last_of_run_room WriteFailed p o e = text_room o [] e
+    n ≡ length (written_bytes x) → y ≡ text_of_bytes (told_of_run r.progress (w || eqb n 0)) →
+    Concluded r (record { text = x; told = y })
+concluded r x y n w e k f = (w || eqb n 0, λ i. record { text = e i; told = f i }, λ z. rw (eq-eqb n 0 (k ∙ z)) (or-true w))

@@ -1,10 +1,8 @@
 -- A run of the program: what it comes to, whatever `read` and the writes return.
-use Rattle.std.specs.Prelude.{◌≡◌, Bool, true, false, cond, ◌&&◌, List, [], ◌∷◌, ℕ, ltb, ℤ, pos, length, take}
-use Rattle.std.specs.Int.Signed.{lt_z}
-use Rattle.io.specs.Counts.{clamp_len}
+use Rattle.std.specs.Prelude.{◌≡◌, Option, Some, None, unwrap_or, Bool, true, false, ◌&&◌, List, [], ◌∷◌, ℕ, ltb, length, take}
 use Rattle.text.specs.Bytes.{message}
 use Rattle.answer_text.specs.declared.AnswerText.{AnswerText}
-use Rattle.answer_text.specs.AnswerBytes.{no_text, text_of_bytes}
+use Rattle.answer_text.specs.AnswerBytes.{no_text, text_of_bytes, written_bytes}
 use Rattle.line_buffer.specs.Taking.{buffered}
 use Rattle.program_reads.specs.declared.Program.{Program}
 use Rattle.program_reads.specs.Promises.{new_program, last_answer, fed}
@@ -13,16 +11,16 @@ use Rattle.ultimattt.specs.declared.RunEnd.{RunEnd}
 use Rattle.ultimattt.specs.declared.Progress.{Progress}
 use Rattle.ultimattt.specs.declared.Progress.TheVariants.{Reading, InputEnded, ReadFailed, WriteFailed}
 
--- one read: what `read` returned, the number of bytes that came into the buffer or a negative one if it failed; and whether the answers to
--- the lines that end in them could all be written
+-- one read: how many bytes came into the buffer, none if `read` failed; and whether the answers to the lines that end in them could all
+-- be written
 pub record ReadStep : Type 0 where
-  pub got : ℤ
+  pub got : Option ℕ
   pub buffer : List ℕ
   pub written : Bool
 
 -- the bytes that came
 abbrev pub read_bytes : ReadStep → List ℕ
-read_bytes a = take (clamp_len a.got (length a.buffer)) a.buffer
+read_bytes a = take (unwrap_or a.got 0) a.buffer
 
 -- ---- a read
 abbrev pub new_run : ProgramRun
@@ -38,10 +36,13 @@ abbrev pub after_bytes : Program → List ℕ → Bool → ProgramRun
 after_bytes p [] written = record { program = p; progress = InputEnded }
 after_bytes p (b ∷ bs) written = after_feeding p (b ∷ bs) written
 
+abbrev pub after_got : Program → Option ℕ → List ℕ → Bool → ProgramRun
+after_got p None bytes written = record { program = p; progress = ReadFailed }
+after_got p (Some n) bytes written = after_bytes p bytes written
+
 -- the run after one read more
 unfoldable pub after_read : Program → ReadStep → ProgramRun
-after_read p a =
-    cond (lt_z a.got (pos 0)) (record { program = p; progress = ReadFailed }) (after_bytes p (read_bytes a) a.written)
+after_read p a = after_got p a.got (read_bytes a) a.written
 
 -- where no line ends nothing is to be written, so no write fails
 abbrev pub WrittenIfNoLineEnds : Program → List ℕ → Bool → Type 0
@@ -51,8 +52,8 @@ WrittenIfNoLineEnds p bytes written = (buffered p.line bytes).found ≡ false �
 abbrev pub AfterFeeding : Program → List ℕ → ProgramRun → Type 0
 AfterFeeding p bytes r = (written : Bool) × (r ≡ after_feeding p bytes written) × WrittenIfNoLineEnds p bytes written
 
-abbrev pub AfterRead : Program → List ℕ → ℤ → ProgramRun → Type 0
-AfterRead p buffer got r = (written : Bool) × (r ≡ after_read p (record { got = got; buffer = buffer; written = written })) ×
+abbrev pub AfterRead : Program → Option ℕ → List ℕ → ProgramRun → Type 0
+AfterRead p got buffer r = (written : Bool) × (r ≡ after_read p (record { got = got; buffer = buffer; written = written })) ×
     WrittenIfNoLineEnds p (read_bytes (record { got = got; buffer = buffer; written = written })) written
 
 -- ---- all reads
@@ -101,4 +102,4 @@ run_end r written = record {
 
 -- for some return of the write, if there is anything to write
 abbrev pub Concluded : ProgramRun → RunEnd → Type 0
-Concluded r e = (written : Bool) × (e ≡ run_end r written) × (e.text.len ≡ 0 → written ≡ true)
+Concluded r e = (written : Bool) × (e ≡ run_end r written) × (length (written_bytes e.text) ≡ 0 → written ≡ true)

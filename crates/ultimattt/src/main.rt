@@ -1,7 +1,9 @@
 // For each line `position depth` of standard input a line with its answer. There may be any number of lines, of any length.
 #![tactic(auto)]
 
-ghost use Rattle.std.specs.Prelude.{◌≡◌, ◌≤ℤ◌, pos, negsuc, length};
+ghost use Rattle.std.specs.Prelude.{◌≡◌};
+ghost use Rattle.std.specs.Result.{result_ok};
+ghost use Rattle.std.specs.Io.{ReadsAtMost};
 ghost use Rattle.answer_text.specs.AnswerBytes.{text_of_bytes};
 ghost use Rattle.ultimattt.specs.Runs.{new_run, goes_on, AfterFeeding, AfterRead, SomeRun, last_of_run, told_of_run, Concluded};
 
@@ -41,21 +43,17 @@ struct RunEnd {
 fn feed(begun: Program, bytes: &[u8]) -> ProgramRun
     ensures { AfterFeeding begun bytes.now result }
 {
-    let mut next = begun.next(bytes, 0);
-    while next.found {
-        let text = next.text;
-        let answer = text.bytes;
-        let n = text.written();
-        if !io::write_all(STDOUT_FILENO, &answer[..n]) {
+    let mut program = begun;
+    let mut left = bytes;
+    while let Some((text, rest)) = program.next(left) {
+        if !io::write_all(STDOUT_FILENO, text.as_slice()) {
             return ProgramRun {
                 program: begun,
                 progress: Progress::WriteFailed,
             };
         }
-        let program = next.program;
-        next = program.next(bytes, next.at);
+        left = rest;
     }
-    let program = next.program;
     ProgramRun {
         program,
         progress: Progress::Reading,
@@ -66,59 +64,48 @@ impl ProgramRun {
     fn new() -> ProgramRun
         ensures { result ≡ new_run }
     {
-        let program = Program::new();
         ProgramRun {
-            program,
+            program: Program::new(),
             progress: Progress::Reading,
         }
     }
 
     // Whether one more read comes.
-    fn goes_on(self) -> bool
-        ensures { result ≡ goes_on self }
+    fn goes_on(&self) -> bool
+        ensures { result ≡ goes_on self.now }
     {
-        let program = self.program;
-        let progress = self.progress;
-        match progress {
-            Progress::Reading => program.may_read(),
-            Progress::InputEnded => false,
-            Progress::ReadFailed => false,
-            Progress::WriteFailed => false,
+        match self.progress {
+            Progress::Reading => self.program.may_read(),
+            Progress::InputEnded | Progress::ReadFailed | Progress::WriteFailed => false,
         }
     }
 
-    // One read more: `got` is what `read` returned of the buffer.
-    fn after_read(self, buffer: &[u8], got: isize) -> ProgramRun
-        ensures { AfterRead self.program buffer.now got result }
+    // One read more: what `read` returned, and the buffer.
+    fn after_read(self, read: std::io::Result<usize>, buffer: &[u8]) -> ProgramRun
+        requires { ReadsAtMost read buffer.now }
+        ensures { AfterRead self.program (result_ok read) buffer.now result }
     {
         let program = self.program;
-        if got < 0 {
-            return ProgramRun {
+        match read {
+            Err(_) => ProgramRun {
                 program,
                 progress: Progress::ReadFailed,
-            };
-        }
-        let n = io::count(got, buffer);
-        if n == 0 {
-            return ProgramRun {
+            },
+            Ok(0) => ProgramRun {
                 program,
                 progress: Progress::InputEnded,
-            };
+            },
+            Ok(n) => feed(program, &buffer[..n]),
         }
-        feed(program, &buffer[..n])
     }
 
     // The answer to the last line, if the input ended.
-    fn last(self) -> AnswerText
-        ensures { result ≡ last_of_run self.progress self.program }
+    fn last(&self) -> AnswerText
+        ensures { result ≡ last_of_run self.now.progress self.now.program }
     {
-        let program = self.program;
-        let progress = self.progress;
-        match progress {
-            Progress::InputEnded => program.last(),
-            Progress::Reading => AnswerText::new(),
-            Progress::ReadFailed => AnswerText::new(),
-            Progress::WriteFailed => AnswerText::new(),
+        match self.progress {
+            Progress::InputEnded => self.program.last(),
+            Progress::Reading | Progress::ReadFailed | Progress::WriteFailed => AnswerText::new(),
         }
     }
 }
@@ -150,26 +137,15 @@ impl Progress {
     }
 }
 
-// One read into the buffer: how many bytes came, or -1 if the read failed.
-fn read_of(mut stdin: Stdin, buffer: &mut [u8]) -> isize
-    ensures low { negsuc 0 ≤ℤ result }
-    ensures high { result ≤ℤ pos (length buffer.new) }
-{
-    match stdin.read(buffer) {
-        Ok(n) => n as isize,
-        Err(_) => -1,
-    }
-}
-
 // Goes on with standard input until it ends, something fails or the reads are used up.
-fn answer_from(begun: ProgramRun, stdin: Stdin) -> ProgramRun
+fn answer_from(begun: ProgramRun, mut stdin: Stdin) -> ProgramRun
     ensures { SomeRun begun result }
 {
     let mut buffer = io::large_buffer();
     let mut run = begun;
     while run.goes_on() {
-        let got = read_of(stdin, &mut buffer);
-        run = run.after_read(&buffer, got);
+        let read = stdin.read(&mut buffer);
+        run = run.after_read(read, &buffer);
     }
     run
 }
@@ -186,14 +162,10 @@ fn conclude(run: ProgramRun) -> RunEnd
     ensures { Concluded run result }
 {
     let text = run.last();
-    let answer = text.bytes;
-    let n = text.written();
-    let written = io::write_all(STDOUT_FILENO, &answer[..n]);
-    let progress = run.progress;
-    let told = progress.told(written | (n == 0));
-    let said = told.bytes;
-    let m = told.written();
-    io::write_all(STDERR_FILENO, &said[..m]);
+    let n = text.as_slice().len();
+    let written = io::write_all(STDOUT_FILENO, text.as_slice());
+    let told = run.progress.told(written | (n == 0));
+    io::write_all(STDERR_FILENO, told.as_slice());
     RunEnd { text, told }
 }
 

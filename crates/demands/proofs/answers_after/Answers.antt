@@ -1,4 +1,8 @@
 -- Each call's promise, of what it gave.
+use mathlib.Core.Path.{ap, ◌∙◌}
+use Rattle.std.specs.Result.{result_unwrap_or}
+use Rattle.game.specs.declared.Game.{Game}
+use Rattle.game.specs.After.{games_after}
 use Rattle.demands.proofs.Demand2.{demand_2}
 use Rattle.demands.proofs.answers_after.Goals as goal
 
@@ -10,7 +14,8 @@ returns c =
       parsed = c.parse-read.ensures;
       move_parsed = c.parse_move.ensures;
       move_rendered = c.render_move.ensures;
-      played = c.play_all-game.ensures;
+      played = c.play_all-game.ensures ∙ ap (λ (g : Game). games_after g a.moves.now)
+          (c.unwrap_or-begun.ensures ∙ ap (result_unwrap_or c.parse-read.result) c.new.ensures);
       turn = c.player.ensures;
       next_board = c.board_to_play.ensures;
       state = c.game_state.ensures;
@@ -26,7 +31,7 @@ returns c =
       keyed = c.zobrist.ensures;
       valued = c.evaluate.ensures;
       analysed = c.new-analysis.ensures;
-      status_given = c.status.ensures;
+      status_given = c.reported_status.ensures;
       judged = c.evaluate_move.ensures;
       searched = c.analyze-report.ensures;
       bounded = c.bound_depth.ensures;

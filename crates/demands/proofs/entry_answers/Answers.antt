@@ -14,12 +14,12 @@ returns c =
       looked_board = c.board_state.ensures;
       built = c.from_coords.ensures;
       valued = c.evaluate.ensures;
-      analysed = c.new-2.ensures;
+      analysed = c.new.ensures;
       judged = c.evaluate_move.ensures;
       searched = c.analyze.ensures;
-      empty = c.new.result;
-      empty_is = c.new.ensures;
-      held = c.push_all-buffer.result;
-      held_is = c.push_all-buffer.ensures;
+      empty = c.new-held.result;
+      empty_is = c.new-held.ensures;
+      held = c.push_all.new.self;
+      held_is = c.push_all.ensures;
       answered = c.answer.ensures;
     })

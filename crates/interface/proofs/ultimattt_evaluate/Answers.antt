@@ -9,6 +9,7 @@ use mir.Syntax.{w64}
 use native.Mathlib.Omega.{arith}
 use Rattle.theory.specs.Table.{to_word}
 use Rattle.interface.proofs.Calls.{evaluates_none, evaluates_no_draws, evaluates_few_weights, evaluates_no_score, evaluates_well}
+use Rattle.interface.proofs.Calls.{value_given}
 use Rattle.interface.proofs.ultimattt_evaluate.Goals as goal
 
 pub returns-then-not-is_position : goal.returns-then-not-is_position
@@ -47,4 +48,5 @@ returns c =
     c.game_from.result c.game_from.ensures c.draws_from.result c.draws_from.ensures
     c.weights_from.result c.weights_from.ensures c.evaluate-found.result c.evaluate-found.ensures
     _ _ (c.put.ensures ∙ ap (λ (z : ℕ). sets s.score.now 0 (z ∷ [])) (c.to_word.ensures ∙ ap to_word
-    (to_z-of_z {w = w64} {z = c.evaluate-found.result.value} (record { sfits = omega arith })))) c.number.ensures
+    (to_z-of_z {w = w64} {z = c.unwrap_or.result} (record { sfits = omega arith }) ∙ c.unwrap_or.ensures
+    ∙ value_given c.evaluate-found.result))) c.number.ensures

@@ -23,4 +23,4 @@ returns c =
     let s = c.args in
     renders_well s.position.now s.out.now _ _ _ (sym c.is_position.ensures ∙ c.if-not-is_position.false)
     c.if-out-lt101.false c.game_from.ensures
-    c.render.ensures c.put_bytes.ensures
+    c.render.ensures c.put.ensures

@@ -1,25 +1,25 @@
 -- The number is 0 where the search was not refused.
-use mathlib.Core.Path.{sym, ap, ◌∙◌}
+use mathlib.Core.Path.{◌≡◌, sym, ap, ◌∙◌}
 use mathlib.Core.List.{[]}
-use Rattle.text.specs.ProgramLine.{refusal_text}
-use Rattle.status.specs.Sets.{set_of}
-use Rattle.minimax.specs.Report.{report_of}
-use Rattle.answer_text.specs.AnswerBytes.{text_of_bytes}
-use Rattle.program_line.proofs.Answered.{report_refused, report_answered}
+use mathlib.Core.Logic.{inl, inr}
+use native.Mathlib.Omega.{arith}
 use mir.Facts.{to_z-of_z}
 use mir.Syntax.{w64}
-use native.Mathlib.Omega.{arith}
+use Rattle.status.specs.Sets.{set_of}
+use Rattle.minimax.specs.Report.{ending_number, report_of}
+use Rattle.answer_text.specs.AnswerBytes.{text_of_bytes}
+use Rattle.program_line.proofs.Answered.{report_refused, report_answered}
 use Rattle.program_line.proofs.reported.Goals as goal
 
-pub returns-then-number-ne0 : goal.returns-then-number-ne0
-returns-then-number-ne0 c =
-    let n = c.number-number.ensures in
-    c.refused.ensures ∙ ap text_of_bytes (ap refusal_text n
-    ∙ report_refused (set_of c.args.status) _ (report_of c.args.report []) (λ e. c.if-number-ne0.true (n ∙ e)))
+pub returns-in-Refused : goal.returns-in-Refused
+returns-in-Refused c =
+    c.refused.ensures
+    ∙ ap text_of_bytes (report_refused (set_of c.args.status) _ (report_of c.args.report []) c.in-Refused.why _ c.number.ensures
+    (sym (ap ending_number c.in-Refused.is)))
 
-pub returns : goal.returns
-returns c =
+pub returns-in-Whole : goal.returns-in-Whole
+returns-in-Whole c =
     let a = c.args in
-    report_answered (set_of a.status) _ (report_of a.report []) _ _ _ c.legal_moves-legal.ensures
-    (to_z-of_z {w = w64} {z = a.report.score} (record { sfits = omega arith }))
-    (sym c.number-number.ensures ∙ c.if-number-ne0.false) c.answer.ensures
+    let number : ending_number a.report.ending ≡ 0 = elim c.in-Whole.is [ inl e ↦ ap ending_number e | inr e ↦ ap ending_number e ] in
+    report_answered (set_of a.status) _ (report_of a.report []) _ _ _ c.legal_moves.ensures
+    (to_z-of_z {w = w64} {z = a.report.score} (record { sfits = omega arith })) number c.answer.ensures

@@ -1,13 +1,15 @@
 use mathlib.Core.Path.{◌≡◌}
 use mathlib.Core.Bool.{true}
 use lib.ListN.{length}
-use Rattle.program_reads.proofs.Feeding.{left, outcome}
+use Rattle.line_buffer.specs.Taking.{buffered}
+use Rattle.program_reads.specs.Promises.{fed}
 use Rattle.ultimattt.proofs.feed.Given as goal
 
-abbrev pub invariant-loop-next : goal.invariant-loop-next
-invariant-loop-next l =
-    (outcome l.bytes l.next ≡ outcome l.bytes l.initial.next) × (length l.next.text.bytes ≡ 224) ×
-    (l.next.found ≡ true → l.initial.next.found ≡ true)
+-- a line that ends in what is left is one that ends in all
+abbrev pub invariant-loop-text : goal.invariant-loop-text
+invariant-loop-text l =
+    (fed l.program l.left ≡ fed l.initial.program l.initial.left) ×
+    ((buffered l.program.line l.left).found ≡ true → (buffered l.initial.program.line l.initial.left).found ≡ true)
 
-abbrev pub decreases-loop-next : goal.decreases-loop-next
-decreases-loop-next l = left (length l.bytes) l.next.at l.next.found
+abbrev pub decreases-loop-text : goal.decreases-loop-text
+decreases-loop-text l = length l.left

@@ -83,5 +83,5 @@ bounds-words-11 c =
 
 pub returns : goal.returns
 returns c =
-    game_made c.args.words.now _ _ _ _ _ _ c.side_from.ensures c.next_board_from.ensures c.state_from.ensures
+    game_made c.args.words.now _ _ _ _ _ _ c.from_number.ensures c.next_board_from.ensures c.from_number-2.ensures
     c.row.ensures c.row-2.ensures c.row-3.ensures

@@ -1,36 +1,22 @@
--- Where the loop stands, the words are a position if those left are within their bounds.
-use mathlib.Core.Path.{refl, sym, ◌∙◌}
-use native.Mathlib.Omega.{arith}
+-- `all` asks of each word whether it is within its bound.
+use Rattle.std.proofs.Common.{rules, tests}
+use Rattle.std.proofs.lemmas.Iterator.{YieldsList-from_slice, YieldsList-from_zip}
+use Rattle.std.proofs.lemmas.Iterator.Search.{all_from_yields_List}
+use mathlib.Core.Path.{◌∙◌}
+use Prim.Native.Nat.{ℕ}
+use lib.Dec.{leb}
+use borrow.Author.Tests.{lt-leb}
 use Rattle.interface.specs.Position.{most}
-use Rattle.interface.proofs.PositionWords.{within_short, within_over, within_under, within_end}
+use Rattle.interface.proofs.PositionWords.{within_short, within_zip}
 use Rattle.interface.proofs.position.is_position.Goals as goal
 
-pub returns-then-words-lt12 : goal.returns-then-words-lt12
-returns-then-words-lt12 c = within_short most c.args.words.now c.if-words-lt12.true
+pub returns-then-words-ge12 : goal.returns-then-words-ge12
+returns-then-words-ge12 c =
+    let ws = c.args.words.now in
+    all_from_yields_List {s = c.zip.result} (λ (p : ℕ × ℕ). leb p.0 p.1) c.all.new.self _ _ c.all.ensures.ran
+    (YieldsList-from_zip (YieldsList-from_slice ws cc) (YieldsList-from_slice most cc)) (λ x b q k. search (rules, tests))
+    ∙ within_zip most ws c.if-words-ge12.true
 
-pub loop-i-init : goal.loop-i-init
-loop-i-init c = (c.if-words-lt12.false, omega arith, refl)
-
-pub returns-then-words-i : goal.returns-then-words-i
-returns-then-words-i c =
-    let l = c.loop-i in
-    sym (l.invariant.2 ∙ within_over most c.args.words.now l.i
-    c.loop-i-test.true (omega (arith, c.loop-i-test.true, l.invariant.0)) c.if-words-i.true)
-
-pub loop-i-smaller : goal.loop-i-smaller
-loop-i-smaller c = omega arith
-
-pub loop-i-preserved : goal.loop-i-preserved
-loop-i-preserved c =
-    let l = c.loop-i in (
-      l.invariant.0,
-      omega (arith, c.loop-i-test.true),
-      l.invariant.2
-          ∙ within_under most c.args.words.now l.i c.loop-i-test.true
-          (omega (arith, c.loop-i-test.true, l.invariant.0)) c.if-words-i.false,
-    )
-
-pub returns : goal.returns
-returns c =
-    let l = c.loop-i in
-    sym (l.invariant.2 ∙ within_end most c.args.words.now l.i c.loop-i-test.false)
+pub returns-else-words-ge12 : goal.returns-else-words-ge12
+returns-else-words-ge12 c =
+    lt-leb 12 _ c.if-words-ge12.false ∙ within_short most c.args.words.now c.if-words-ge12.false

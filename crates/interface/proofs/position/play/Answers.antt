@@ -7,14 +7,14 @@ use Rattle.game.specs.declared.Game.{Game}
 use Rattle.game.specs.After.{games_after}
 use Rattle.boards.proofs.Answers.{answer_most}
 use Rattle.game.proofs.AfterList.{games_more, games_all}
-use Rattle.interface.proofs.CallsPlay.{answers_next, answers_end}
+use Rattle.interface.proofs.CallsPlay.{answers_next, answers_end, goes_on}
 use Rattle.interface.proofs.position.play.Goals as goal
 
 pub loop-i-init : goal.loop-i-init
 loop-i-init c = (refl, refl, refl, refl)
 
 pub overflow_cast-answers : goal.overflow_cast-answers
-overflow_cast-answers c = record { fits = omega (arith, c.number.ensures, answer_most c.make_move-made.result.answer) }
+overflow_cast-answers c = record { fits = omega (arith, c.number.ensures, answer_most c.make_move-made.result) }
 
 pub loop-i-preserved : goal.loop-i-preserved
 loop-i-preserved c =
@@ -23,11 +23,12 @@ loop-i-preserved c =
     let made = c.make_move-made in
     let h = c.loop-i-test.true in
     let more = games_more l.game ms l.i 0 h in
-    let said = c.number.ensures ∙ made.ensures.number in (
+    let said = c.number.ensures ∙ made.ensures.number in
+    let left = c.unwrap_or-game.ensures ∙ goes_on l.game made.result ∙ made.ensures.exact in (
       refl,
       simp length-set l.invariant.1,
-      ap (λ (g : Game). games_after g (drop (l.i + 1) ms)) made.ensures.exact ∙ more ∙ l.invariant.2,
-      answers_next l.answers ms l.game _ l.i _ h said made.ensures.exact ∙ l.invariant.3,
+      ap (λ (g : Game). games_after g (drop (l.i + 1) ms)) left ∙ more ∙ l.invariant.2,
+      answers_next l.answers ms l.game _ l.i _ h said left ∙ l.invariant.3,
     )
 
 pub returns : goal.returns

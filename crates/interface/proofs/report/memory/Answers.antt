@@ -2,4 +2,4 @@
 use Rattle.interface.proofs.report.memory.Goals as goal
 
 pub returns : goal.returns
-returns c = λ i. record { to_x = c.moves_from-x.ensures i; to_o = c.moves_from-o.ensures i }
+returns c = λ i. record { to_x = c.moves_from.ensures i; to_o = c.moves_from-2.ensures i }

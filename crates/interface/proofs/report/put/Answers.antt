@@ -13,5 +13,5 @@ returns c =
     let n : length c.args.found.pv ≡ 81 = omega arith in
     let k : length c.args.found.stats ≡ 81 = omega arith in
     report_put c.args.out.now _ _ _ (report_of c.args.found []) _ _ (simp length-map n) (simp length-map k)
-    (c.put.ensures ∙ ap (sets c.args.out.now 0) c.head.ensures) c.put_line.ensures
-    c.put_stats.ensures
+    (c.put.ensures ∙ ap (sets c.args.out.now 0) c.head.ensures) (c.put-2.ensures ∙ ap (sets _ 7) c.line_words.ensures)
+    (c.put-3.ensures ∙ ap (sets _ 88) (c.as_flattened.ensures.value ∙ c.all_stats.ensures))

@@ -1,28 +1,23 @@
--- The arms of the code are those of the definition.
-use mathlib.Core.Path.{ap}
-use mathlib.Core.Bool.{not}
-use Rattle.line_buffer.proofs.BufferDepth.{after_nothing, one_digit, one_other}
-use Rattle.line_buffer.proofs.BufferDepth.{two_first_other, two_digits, two_second_other}
+-- Two digits by what each says.
+use borrow.Author.Rules.{rules}
+use Rattle.text.specs.ProgramLine.{depth_of}
+use Rattle.line_buffer.proofs.BufferDepth.{first_none, second_none, both_some}
 use Rattle.line_buffer.proofs.AfterBlank.depth.Goals as goal
 
-pub returns-then-not-is_digit : goal.returns-then-not-is_digit
-returns-then-not-is_digit c = two_first_other _ _ _ c.in-Two.is _ c.is_digit-in-Two.ensures (ap not c.if-not-is_digit.true)
+pub returns-in_err-digit-in-Two : goal.returns-in_err-digit-in-Two
+returns-in_err-digit-in-Two c = search (rules, first_none _ _ _ c.in-Two.is _ c.digit-in-Two.ensures.value c.in_err-digit-in-Two.was)
+
+pub returns-in_err-digit-in-Two-2 : goal.returns-in_err-digit-in-Two-2
+returns-in_err-digit-in-Two-2 c = search (
+  rules,
+  second_none _ _ _ c.in-Two.is _ c.digit-in-Two.ensures.value _ c.digit-in-Two-2.ensures.value c.in_err-digit-in-Two-2.was,
+)
+
+pub returns-in_ok-digit-in-Two-2 : goal.returns-in_ok-digit-in-Two-2
+returns-in_ok-digit-in-Two-2 c =
+    both_some _ _ _ c.in-Two.is _ c.digit-in-Two.ensures.value _ c.digit-in-Two-2.ensures.value _ _ c.in_ok-digit-in-Two.was
+    c.in_ok-digit-in-Two-2.was
 
 pub returns-in-Nothing : goal.returns-in-Nothing
-returns-in-Nothing c = after_nothing _ c.in-Nothing.is
-
-pub returns-then-is_digit : goal.returns-then-is_digit
-returns-then-is_digit c = one_digit _ _ c.in-One.is _ c.is_digit.ensures c.if-is_digit.true
-
-pub returns-else-is_digit : goal.returns-else-is_digit
-returns-else-is_digit c = one_other _ _ c.in-One.is _ c.is_digit.ensures c.if-is_digit.false
-
-pub returns-then-is_digit-2 : goal.returns-then-is_digit-2
-returns-then-is_digit-2 c =
-    two_digits _ _ _ c.in-Two.is _ c.is_digit-in-Two.ensures
-    (ap not c.if-not-is_digit.false) _ c.is_digit-in-Two-2.ensures c.if-is_digit-2.true
-
-pub returns-else-is_digit-2 : goal.returns-else-is_digit-2
-returns-else-is_digit-2 c =
-    two_second_other _ _ _ c.in-Two.is _ c.is_digit-in-Two.ensures
-    (ap not c.if-not-is_digit.false) _ c.is_digit-in-Two-2.ensures c.if-is_digit-2.false
+unfolding depth_of
+returns-in-Nothing c = search rules

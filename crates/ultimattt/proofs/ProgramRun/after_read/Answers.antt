@@ -1,22 +1,22 @@
--- By the sign of what `read` returned, and the count of its bytes.
-use mir.Facts.{to_z-of_z}
+-- By what `read` returned.
+use mathlib.Core.Path.{ap, ◌∙◌}
 use native.Mathlib.Omega.{arith}
+use lib.ListN.{length-take}
+use Rattle.std.specs.Prelude.{Some}
+use Rattle.std.specs.Result.{result_ok}
 use Rattle.ultimattt.proofs.Runs.{read_failed, input_ended, bytes_fed}
 use Rattle.ultimattt.proofs.ProgramRun.after_read.Goals as goal
 
-pub returns-then-got-lt0 : goal.returns-then-got-lt0
-returns-then-got-lt0 c =
-    let a = c.args in
-    read_failed a.self.program a.buffer.now a.got _ (to_z-of_z c.ranges.got) c.if-got-lt0.true
+pub returns-in-Err : goal.returns-in-Err
+returns-in-Err c = read_failed _ _ _ (ap result_ok c.in-Err.is)
 
-pub returns-then-n-eq0 : goal.returns-then-n-eq0
-returns-then-n-eq0 c =
-    let a = c.args in
-    input_ended a.self.program a.buffer.now a.got _ (to_z-of_z c.ranges.got) c.if-got-lt0.false _ c.count-n.ensures.value
-    c.if-n-eq0.true
+pub returns-in-Ok-eq0 : goal.returns-in-Ok-eq0
+returns-in-Ok-eq0 c =
+    let x = c.in-Ok-eq0 in input_ended _ _ _ (ap result_ok x.is ∙ ap Some (rw x.field-0-is at x.field-0-test))
 
-pub returns : goal.returns
-returns c =
-    let a = c.args in
-    bytes_fed a.self.program a.buffer.now a.got _ (to_z-of_z c.ranges.got) c.if-got-lt0.false _ c.count-n.ensures.value _
-    (omega (arith, c.count-n.ensures.in_bounds)) c.feed.ensures
+pub returns-in-Ok : goal.returns-in-Ok
+returns-in-Ok c =
+    let x = c.in-Ok in
+    let h = rw x.is at c.requires in
+    let t = rw x.is at x.n-test.1 in
+    bytes_fed _ _ _ x.n _ (ap result_ok x.is) (omega (arith, length-take x.n c.args.buffer.now, t, h)) c.feed.ensures
