@@ -1,12 +1,12 @@
 -- Lists of numbers, a byte at a time.
 use mathlib.Core.Path.{◌≡◌, refl}
-use mathlib.Core.Bool.{true, false}
 use mathlib.Core.List.{List}
 use Prim.Native.Nat.{ℕ, ◌+◌, ◌<◌, ◌≤◌}
 use native.Mathlib.Numerals.{add-one}
 use lib.ListN.{length, get_or, set, drop, drop_of_length-le}
 use lib.Seq.{drop-cons}
 use borrow.Author.Tests.{eq-eqb, ne_eqb, lt-ltb, le-ltb}
+use Rattle.std.specs.Prelude.{Some, None, unwrap_or}
 use Rattle.base.specs.Branch.{when◌then◌else◌}
 use Rattle.decimals.specs.declared.list.Scan.{Scan}
 use Rattle.decimals.specs.Numbers.{with_digit}
@@ -17,22 +17,22 @@ After s b words t after = (t ≡ scanned s b (length words)) × (after ≡ words
 
 -- ---- the ways of a byte
 module _ (s : Scan) (b : ℕ) (words : List ℕ) where
-  pub goes_on : (t : Scan) → (b ≡ 32 → ⊥) → t ≡ with_number s (with_digit s.value b) → After s b words t words
+  pub goes_on : (t : Scan) → (b ≡ 32 → ⊥) → t ≡ with_number s (with_digit (unwrap_or s.number 0) b) → After s b words t words
   unfolding scanned words_after when◌then◌else◌
   goes_on t ne e = rw (ne_eqb b 32 ne) (e, refl)
 
-  pub nothing : (t : Scan) → b ≡ 32 → s.any ≡ false → t ≡ spoilt s → After s b words t words
+  pub nothing : (t : Scan) → b ≡ 32 → s.number ≡ None → t ≡ spoilt s → After s b words t words
   unfolding scanned words_after when◌then◌else◌
   nothing t h a e = rw (eq-eqb b 32 h, a) (e, refl)
 
-  pub room : b ≡ 32 → s.any ≡ true → s.count < length words → After s b words
-      (record { value = 0; any = false; count = s.count + 1; good = s.good }) (set words s.count s.value)
+  pub room : (n : ℕ) → b ≡ 32 → s.number ≡ Some n → s.count < length words → After s b words
+      (record { number = None; count = s.count + 1; good = s.good }) (set words s.count n)
   unfolding scanned words_after when◌then◌else◌
-  room h a l = rw (eq-eqb b 32 h, a, lt-ltb s.count (length words) l) (refl, refl)
+  room n h a l = rw (eq-eqb b 32 h, a, lt-ltb s.count (length words) l) (refl, refl)
 
-  pub no_room : (t : Scan) → b ≡ 32 → s.any ≡ true → length words ≤ s.count → t ≡ spoilt s → After s b words t words
+  pub no_room : (t : Scan) (n : ℕ) → b ≡ 32 → s.number ≡ Some n → length words ≤ s.count → t ≡ spoilt s → After s b words t words
   unfolding scanned words_after when◌then◌else◌
-  no_room t h a l e = rw (eq-eqb b 32 h, a, le-ltb s.count (length words) l) (e, refl)
+  no_room t n h a l e = rw (eq-eqb b 32 h, a, le-ltb s.count (length words) l) (e, refl)
 
 -- ---- all bytes of a text
 module _ (text : List ℕ) (s : Scan) (words : List ℕ) (i : ℕ) where

@@ -1,6 +1,6 @@
 -- A number is read back from its text, and nothing else is read.
 use mathlib.Core.Path.{◌≡◌, refl, sym, ap, ◌∙◌}
-use mathlib.Core.Bool.{Bool, true, false, true≢false}
+use mathlib.Core.Bool.{Bool, true, false}
 use mathlib.Core.List.{List, [], ◌∷◌, ◌++◌, append_assoc, append-nil}
 use mathlib.Core.Logic.{◌⊎◌, inl, inr}
 use Prim.Native.Nat.{ℕ, zero, suc, ◌+◌, ◌-◌, ◌*◌, ◌/◌, ◌%◌, ◌^◌, ◌<◌, ◌≤◌}
@@ -10,50 +10,49 @@ use lib.IntN.{ℤ, pos, negsuc, nat_abs, neg_ℤ}
 use lib.ListN.{length, length-append}
 use lib.Seq.{append_snoc}
 use borrow.Author.Tests.{le-leb, lt-ltb, le-ltb, ne_eqb}
+use Rattle.std.specs.Char.{is_ascii_digit}
+use Rattle.std.specs.Prelude.{Option, Some, None, option_and_then}
+use Rattle.std.proofs.lemmas.Option.{none-some, same_Some}
 use Rattle.base.specs.Branch.{when◌then◌else◌}
 use Rattle.base.proofs.Branch.{if_ind, if_both}
 use Rattle.text.specs.Bytes.{minus, first_digit}
 use Rattle.text.specs.ProgramLine.{in_places, decimal, signed}
-use Rattle.decimals.specs.declared.number.Number.{Number}
-use Rattle.decimals.specs.declared.number.Number.TheVariants.{Is, Bad}
-use Rattle.decimals.specs.declared.number.Signed.{Signed}
-use Rattle.decimals.specs.declared.number.Signed.TheVariants.{Is as Whole, Bad as NoWhole}
-use Rattle.decimals.specs.Numbers.{between, with_digit, and_then, digits_after, read_number, positive_of, negative_of, read_signed}
-use Rattle.decimals.proofs.NumbersDigits.{within_bounds, digit_fits, no_digit, some_digits}
+use Rattle.decimals.specs.Numbers.{with_digit, digits_after, read_number, positive_of, negative_of, read_signed}
+use Rattle.decimals.proofs.NumbersDigits.{digit_bounds, digit_is, no_digit, some_digits}
 
 -- ---- digits one after the other
 digits_append : (value : ℕ) (xs ys : List ℕ) →
-    digits_after value (xs ++ ys) ≡ and_then (digits_after value xs) (λ more. digits_after more ys)
+    digits_after value (xs ++ ys) ≡ option_and_then (λ more. digits_after more ys) (digits_after value xs)
 unfolding digits_after
 digits_append value [] ys = refl
 digits_append value (b ∷ xs) ys = go (with_digit value b) (λ more. digits_append more xs ys)
   where
-    go : (n : Number) →
-        ((more : ℕ) → digits_after more (xs ++ ys) ≡ and_then (digits_after more xs) (λ more. digits_after more ys)) →
-        and_then n (λ more. digits_after more (xs ++ ys))
-        ≡ and_then (and_then n (λ more. digits_after more xs)) (λ more. digits_after more ys)
-    go (Is more) h = h more
-    go Bad h = refl
+    go : (n : Option ℕ) →
+        ((more : ℕ) → digits_after more (xs ++ ys) ≡ option_and_then (λ more. digits_after more ys) (digits_after more xs)) →
+        option_and_then (λ more. digits_after more (xs ++ ys)) n
+        ≡ option_and_then (λ more. digits_after more ys) (option_and_then (λ more. digits_after more xs) n)
+    go (Some more) h = h more
+    go None h = refl
 
 one_digit : (value digit : ℕ) → digit < 10 → value * 10 + digit < 2 ^ 64 →
-    with_digit value (first_digit + digit) ≡ Is (value * 10 + digit)
+    with_digit value (first_digit + digit) ≡ Some (value * 10 + digit)
 one_digit value digit h small =
-    let low : between (first_digit + digit) 48 57 ≡ true =
+    let low : is_ascii_digit (first_digit + digit) ≡ true =
     rw (le-leb 48 (first_digit + digit) (omega arith), le-leb (first_digit + digit) 57 (omega arith)) in
     let back : first_digit + digit - 48 ≡ digit = omega arith in
-    sym (digit_fits value (first_digit + digit) low (rw back small)) ∙ rw back
+    sym (digit_is value (first_digit + digit) low (Some (value * 10 + digit)) (rw back (small, refl)))
 
 last_digit : (value digit n : ℕ) → digit < 10 → n ≡ value * 10 + digit → n < 2 ^ 64 →
-    digits_after value ((first_digit + digit) ∷ []) ≡ Is n
+    digits_after value ((first_digit + digit) ∷ []) ≡ Some n
 unfolding digits_after
 last_digit value digit n h e small = rw (one_digit value digit h (omega arith), ← e)
 
 -- ---- a number's text
-in_places_read : (k n : ℕ) → n ≤ k → n < 2 ^ 64 → digits_after 0 (in_places (suc k) n) ≡ Is n
+in_places_read : (k n : ℕ) → n ≤ k → n < 2 ^ 64 → digits_after 0 (in_places (suc k) n) ≡ Some n
 unfolding in_places
-in_places_read zero n le small = if_ind (λ (t : List ℕ). digits_after 0 t ≡ Is n) (ltb n 10) _ _
+in_places_read zero n le small = if_ind (λ (t : List ℕ). digits_after 0 t ≡ Some n) (ltb n 10) _ _
     (λ _. last_digit 0 n n (omega arith) (omega arith) small) (λ t. absurd (omega (arith, nltb→le n 10 t)))
-in_places_read (suc k) n le small = if_ind (λ (t : List ℕ). digits_after 0 t ≡ Is n) (ltb n 10) _ _
+in_places_read (suc k) n le small = if_ind (λ (t : List ℕ). digits_after 0 t ≡ Some n) (ltb n 10) _ _
     (λ t. last_digit 0 n n (ltb→lt n 10 t) (omega arith) small)
     (λ t. let ten = nltb→le n 10 t in
     digits_append 0 (in_places (suc k) (n / 10)) ((first_digit + n % 10) ∷ [])
@@ -65,51 +64,44 @@ unfolding in_places
 in_places_some k n = if_ind (λ (t : List ℕ). 0 < length t) (ltb n 10) _ _ (λ _. omega arith)
     (λ _. omega (arith, length-append (in_places k (n / 10)) ((first_digit + n % 10) ∷ [])))
 
-pub number_reads_back : (n : ℕ) → n < 2 ^ 64 → read_number (decimal n) ≡ Is n
+pub number_reads_back : (n : ℕ) → n < 2 ^ 64 → read_number (decimal n) ≡ Some n
 unfolding decimal
 number_reads_back n small =
     let some = in_places_some n n in
-    sym (some_digits (in_places (suc n) n) (λ e. omega arith)) ∙ in_places_read n n (omega arith) small
+    sym (some_digits (in_places (suc n) n) some) ∙ in_places_read n n (omega arith) small
 
 -- ---- what is read is digits
-abbrev is_number : Number → Bool
-is_number (Is n) = true
-is_number Bad = false
-
-pub bad_is_none : (n : ℕ) → Bad ≡ Is n → ⊥
-bad_is_none n e = true≢false (sym (ap is_number e))
-
-pub digit_read : (value b more : ℕ) → with_digit value b ≡ Is more → (48 ≤ b) × (b ≤ 57)
-digit_read value b more e = go (between b 48 57) refl
+pub digit_read : (value b more : ℕ) → with_digit value b ≡ Some more → (48 ≤ b) × (b ≤ 57)
+digit_read value b more e = go (is_ascii_digit b) refl
   where
-    go : (c : Bool) → between b 48 57 ≡ c → (48 ≤ b) × (b ≤ 57)
-    go true h = within_bounds b 48 57 h
-    go false h = absurd (bad_is_none more (no_digit value b h ∙ e))
+    go : (c : Bool) → is_ascii_digit b ≡ c → (48 ≤ b) × (b ≤ 57)
+    go true h = digit_bounds b h
+    go false h = absurd (none-some more (no_digit value b h ∙ e))
 
-pub first_digit_read : (value b : ℕ) (bs : List ℕ) (n : ℕ) → digits_after value (b ∷ bs) ≡ Is n →
-    (more : ℕ) × (with_digit value b ≡ Is more) × (digits_after more bs ≡ Is n)
+pub first_digit_read : (value b : ℕ) (bs : List ℕ) (n : ℕ) → digits_after value (b ∷ bs) ≡ Some n →
+    (more : ℕ) × (with_digit value b ≡ Some more) × (digits_after more bs ≡ Some n)
 unfolding digits_after
 first_digit_read value b bs n e = go (with_digit value b) refl e
   where
-    go : (d : Number) → with_digit value b ≡ d → and_then d (λ more. digits_after more bs) ≡ Is n →
-        (more : ℕ) × (with_digit value b ≡ Is more) × (digits_after more bs ≡ Is n)
-    go (Is more) h e = (more, h, e)
-    go Bad h e = absurd (bad_is_none n e)
+    go : (d : Option ℕ) → with_digit value b ≡ d → option_and_then (λ more. digits_after more bs) d ≡ Some n →
+        (more : ℕ) × (with_digit value b ≡ Some more) × (digits_after more bs ≡ Some n)
+    go (Some more) h e = (more, h, e)
+    go None h e = absurd (none-some n e)
 
 -- ---- a sign
-positive_reads : (text : List ℕ) (n : ℕ) → read_number text ≡ Is n → n < 2 ^ 63 → read_signed text ≡ Whole (pos n)
+positive_reads : (text : List ℕ) (n : ℕ) → read_number text ≡ Some n → n < 2 ^ 63 → read_signed text ≡ Some (pos n)
 unfolding read_number read_signed positive_of when◌then◌else◌
-positive_reads [] n e small = absurd (bad_is_none n e)
+positive_reads [] n e small = absurd (none-some n e)
 positive_reads (b ∷ bs) n e small =
     let d = first_digit_read 0 b bs n e in
     let low = (digit_read 0 b d.0 d.1).0 in
     rw (ne_eqb b 45 (λ h. omega arith), e, lt-ltb n (2 ^ 63) small)
 
-minus_reads : (n : ℕ) → suc n < 2 ^ 63 → read_signed (minus ∷ decimal (suc n)) ≡ Whole (negsuc n)
+minus_reads : (n : ℕ) → suc n < 2 ^ 63 → read_signed (minus ∷ decimal (suc n)) ≡ Some (negsuc n)
 unfolding read_signed negative_of when◌then◌else◌
 minus_reads n small = rw (number_reads_back (suc n) (omega arith), lt-ltb (suc n) (2 ^ 63) small)
 
-pub signed_reads_back : (z : ℤ) → nat_abs z < 2 ^ 63 → read_signed (signed z) ≡ Whole z
+pub signed_reads_back : (z : ℤ) → nat_abs z < 2 ^ 63 → read_signed (signed z) ≡ Some z
 unfolding signed
 signed_reads_back (pos n) small = positive_reads (decimal n) n (number_reads_back n (omega arith)) small
 signed_reads_back (negsuc n) small = minus_reads n small
@@ -122,17 +114,10 @@ zeros (suc k) = first_digit ∷ zeros k
 abbrev pub AfterZeros : List ℕ → ℕ → Type 0
 AfterZeros text n = (k : ℕ) × (text ≡ zeros k ++ decimal n)
 
-abbrev value_of : Number → ℕ
-value_of (Is n) = n
-value_of Bad = 0
-
-same_number : (m n : ℕ) → Is m ≡ Is n → m ≡ n
-same_number m n e = ap value_of e
-
-digit_value : (value b more : ℕ) → with_digit value b ≡ Is more → more ≡ value * 10 + (b - 48)
+digit_value : (value b more : ℕ) → with_digit value b ≡ Some more → more ≡ value * 10 + (b - 48)
 unfolding with_digit
-digit_value value b more e = if_ind (λ (d : Number). d ≡ Is more → more ≡ value * 10 + (b - 48)) _ _ _
-    (λ _ h. sym (same_number _ more h)) (λ _ h. absurd (bad_is_none more h)) e
+digit_value value b more e = if_ind (λ (d : Option ℕ). d ≡ Some more → more ≡ value * 10 + (b - 48)) _ _ _
+    (λ _ h. sym (same_Some _ more h)) (λ _ h. absurd (none-some more h)) e
 
 in_places_same : (f g n : ℕ) → n < f → n < g → in_places f n ≡ in_places g n
 unfolding in_places
@@ -170,10 +155,10 @@ one_more_digit text zero d h (k, e) =
 one_more_digit text (suc v) d h (k, e) =
     (k, rw (e, longer_decimal (suc v) d (omega arith) h) (append_assoc (zeros k) (decimal (suc v)) ((first_digit + d) ∷ [])))
 
-digits_are : (text rest : List ℕ) (value n : ℕ) → AfterZeros text value → digits_after value rest ≡ Is n →
+digits_are : (text rest : List ℕ) (value n : ℕ) → AfterZeros text value → digits_after value rest ≡ Some n →
     AfterZeros (text ++ rest) n
 unfolding digits_after
-digits_are text [] value n z e = rw (append-nil text, ← same_number value n e) z
+digits_are text [] value n z e = rw (append-nil text, ← same_Some value n e) z
 digits_are text (b ∷ bs) value n z e =
     let f = first_digit_read value b bs n e in
     let d = digit_read value b f.0 f.1 in
@@ -182,9 +167,9 @@ digits_are text (b ∷ bs) value n z e =
     let next : AfterZeros (text ++ (b ∷ [])) f.0 = rw m (rw same at (one_more_digit text value (b - 48) (omega arith) z)) in
     rw (← append_snoc text b bs) (digits_are (text ++ (b ∷ [])) bs f.0 n next f.2)
 
-pub read_is_decimal : (text : List ℕ) (n : ℕ) → read_number text ≡ Is n → AfterZeros text n
+pub read_is_decimal : (text : List ℕ) (n : ℕ) → read_number text ≡ Some n → AfterZeros text n
 unfolding read_number
-read_is_decimal [] n e = absurd (bad_is_none n e)
+read_is_decimal [] n e = absurd (none-some n e)
 read_is_decimal (b ∷ bs) n e =
     let f = first_digit_read 0 b bs n e in
     let d = digit_read 0 b f.0 f.1 in
@@ -201,26 +186,20 @@ SignedAfterZeros text (pos zero) = AfterZeros text 0 ⊎ MinusAfterZeros text 0
 SignedAfterZeros text (pos (suc n)) = AfterZeros text (suc n)
 SignedAfterZeros text (negsuc n) = MinusAfterZeros text (suc n)
 
-same_integer : (y z : ℤ) → Whole y ≡ Whole z → y ≡ z
-same_integer y z e = cc
-
-none_is_bad : (z : ℤ) → NoWhole ≡ Whole z → ⊥
-none_is_bad z e = let c : ◌≡◌ {A = ℕ} 0 1 = cc in omega arith
-
-small_read : (f : ℕ → ℤ) (n : ℕ) (z : ℤ) → (when ltb n (2 ^ 63) then (λ _. Whole (f n)) else λ _. NoWhole) ≡ Whole z →
+small_read : (f : ℕ → ℤ) (n : ℕ) (z : ℤ) → (when ltb n (2 ^ 63) then (λ _. Some (f n)) else λ _. None) ≡ Some z →
     (n < 2 ^ 63) × (f n ≡ z)
-small_read f n z e = if_ind (λ (s : Signed). s ≡ Whole z → (n < 2 ^ 63) × (f n ≡ z)) (ltb n (2 ^ 63)) _ _
-    (λ t h. (ltb→lt n (2 ^ 63) t, same_integer (f n) z h)) (λ _ h. absurd (none_is_bad z h)) e
+small_read f n z e = if_ind (λ (s : Option ℤ). s ≡ Some z → (n < 2 ^ 63) × (f n ≡ z)) (ltb n (2 ^ 63)) _ _
+    (λ t h. (ltb→lt n (2 ^ 63) t, same_Some (f n) z h)) (λ _ h. absurd (none-some z h)) e
 
-positive_read : (d : Number) (z : ℤ) → positive_of d ≡ Whole z → (n : ℕ) × (d ≡ Is n) × (n < 2 ^ 63) × (pos n ≡ z)
+positive_read : (d : Option ℕ) (z : ℤ) → positive_of d ≡ Some z → (n : ℕ) × (d ≡ Some n) × (n < 2 ^ 63) × (pos n ≡ z)
 unfolding positive_of
-positive_read (Is n) z e = let s = small_read pos n z e in (n, refl, s.0, s.1)
-positive_read Bad z e = absurd (none_is_bad z e)
+positive_read (Some n) z e = let s = small_read pos n z e in (n, refl, s.0, s.1)
+positive_read None z e = absurd (none-some z e)
 
-negative_read : (d : Number) (z : ℤ) → negative_of d ≡ Whole z → (n : ℕ) × (d ≡ Is n) × (n < 2 ^ 63) × (neg_ℤ (pos n) ≡ z)
+negative_read : (d : Option ℕ) (z : ℤ) → negative_of d ≡ Some z → (n : ℕ) × (d ≡ Some n) × (n < 2 ^ 63) × (neg_ℤ (pos n) ≡ z)
 unfolding negative_of
-negative_read (Is n) z e = let s = small_read (λ m. neg_ℤ (pos m)) n z e in (n, refl, s.0, s.1)
-negative_read Bad z e = absurd (none_is_bad z e)
+negative_read (Some n) z e = let s = small_read (λ m. neg_ℤ (pos m)) n z e in (n, refl, s.0, s.1)
+negative_read None z e = absurd (none-some z e)
 
 positive_text : (text : List ℕ) (n : ℕ) → AfterZeros text n → SignedAfterZeros text (pos n)
 positive_text text zero h = inl h
@@ -238,11 +217,11 @@ minus_size zero = refl
 minus_size (suc n) = refl
 
 -- a text that is read as an integer is such a text, and the integer is below 2^63 in size
-pub signed_is_decimal : (text : List ℕ) (z : ℤ) → read_signed text ≡ Whole z → SignedAfterZeros text z × (nat_abs z < 2 ^ 63)
+pub signed_is_decimal : (text : List ℕ) (z : ℤ) → read_signed text ≡ Some z → SignedAfterZeros text z × (nat_abs z < 2 ^ 63)
 unfolding read_signed
-signed_is_decimal [] z e = absurd (none_is_bad z e)
+signed_is_decimal [] z e = absurd (none-some z e)
 signed_is_decimal (b ∷ bs) z e =
-    if_ind (λ (s : Signed). s ≡ Whole z → SignedAfterZeros (b ∷ bs) z × (nat_abs z < 2 ^ 63)) (eqb b minus) _ _
+    if_ind (λ (s : Option ℤ). s ≡ Some z → SignedAfterZeros (b ∷ bs) z × (nat_abs z < 2 ^ 63)) (eqb b minus) _ _
     (λ t h.
     let r = negative_read (read_number bs) z h in
     let text = minus_before b bs r.0 (eqb→eq b minus t) (read_is_decimal bs r.0 r.1) in

@@ -4,5 +4,5 @@
 pub mod list;
 pub mod number;
 
-pub use list::{Count, Scan, at, numbers};
-pub use number::{Number, Signed, read_number, read_signed, with_digit, with_sign, within};
+pub use list::{Scan, at, numbers};
+pub use number::{read_number, read_signed, with_digit, with_sign};

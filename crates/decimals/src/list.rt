@@ -1,29 +1,22 @@
 // Lists of decimal numbers parted by single blanks, read byte by byte into lent words.
-ghost use Rattle.std.specs.Prelude.{◌≡◌, length, get_or};
+ghost use Rattle.std.specs.Prelude.{◌≡◌, length, get_or, unwrap_or};
 ghost use Rattle.decimals.specs.Lists.{spoilt, with_number, scanned, words_after, counted, ListRead};
 ghost use Rattle.decimals.specs.Numbers.{with_digit};
 
-use crate::number::{Number, with_digit};
+use crate::number::with_digit;
 
-// A number that is being read, whether it has a digit yet, how many numbers stand before it, and whether all could be read.
+// The number that is being read, if it has a digit yet, and how many numbers stand before it.
+// `good` stays a flag: past what can't be read the scan goes on, since what the words then hold is promised too.
 #[derive(Clone, Copy)]
 pub struct Scan {
-    pub value: u64,
-    pub any: bool,
+    pub number: Option<u64>,
     pub count: usize,
     pub good: bool,
 }
 
-#[derive(Clone, Copy)]
-pub enum Count {
-    Of(usize),
-    Bad,
-}
-
 impl Scan {
     pub const NEW: Scan = Scan {
-        value: 0,
-        any: false,
+        number: None,
         count: 0,
         good: true,
     };
@@ -32,25 +25,19 @@ impl Scan {
         ensures { result ≡ spoilt self }
     {
         Scan {
-            value: 0,
-            any: false,
-            count: self.count,
+            number: None,
             good: false,
+            ..self
         }
     }
 
     // With a digit more.
     fn longer(self, b: u8) -> Scan
-        ensures { result ≡ with_number self (with_digit self.value b) }
+        ensures { result ≡ with_number self (with_digit (unwrap_or self.number 0) b) }
     {
-        match with_digit(self.value, b) {
-            Number::Is(value) => Scan {
-                value,
-                any: true,
-                count: self.count,
-                good: self.good,
-            },
-            Number::Bad => self.spoilt(),
+        match with_digit(self.number.unwrap_or(0), b) {
+            None => self.spoilt(),
+            number => Scan { number, ..self },
         }
     }
 
@@ -62,49 +49,40 @@ impl Scan {
         if b != b' ' {
             return self.longer(b);
         }
-        if !self.any {
-            return self.spoilt();
+        match self.number {
+            Some(number) if self.count < words.len() => {
+                words[self.count] = number;
+                Scan {
+                    number: None,
+                    count: self.count + 1,
+                    ..self
+                }
+            }
+            _ => self.spoilt(),
         }
-        let at = self.count;
-        if at < words.len() {
-            words[at] = self.value;
-            return Scan {
-                value: 0,
-                any: false,
-                count: at + 1,
-                good: self.good,
-            };
-        }
-        self.spoilt()
     }
-}
 
-fn counted(scan: Scan) -> Count
-    ensures { result ≡ counted scan }
-{
-    if scan.good {
-        Count::Of(scan.count)
-    } else {
-        Count::Bad
+    fn counted(self) -> Option<usize>
+        ensures { result ≡ counted self }
+    {
+        self.good.then_some(self.count)
     }
 }
 
 // How many numbers a text holds, which are written from the first word on.
-pub fn numbers(text: &[u8], words: &mut [u64]) -> Count
+pub fn numbers(text: &[u8], words: &mut [u64]) -> Option<usize>
     ensures { ListRead text.now words.old result words.new }
 {
     let mut scan = Scan::NEW;
-    let mut i: usize = 0;
-    while i < text.len() {
-        scan = scan.push(text[i], words);
-        i += 1;
+    for b in text {
+        scan = scan.push(*b, words);
     }
-    counted(scan.push(b' ', words))
+    scan.push(b' ', words).counted()
 }
 
 // The number at a place, 0 past the end.
 pub fn at(words: &[u64], i: usize) -> u64
     ensures { result ≡ get_or words.now i 0 }
 {
-    if i < words.len() { words[i] } else { 0 }
+    words.get(i).copied().unwrap_or(0)
 }

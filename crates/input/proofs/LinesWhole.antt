@@ -6,7 +6,7 @@ use Prim.Native.Nat.{ℕ, suc, ◌+◌, ◌<◌, ◌≤◌, min}
 use native.Mathlib.Omega.{arith}
 use lib.ListN.{length, set, take, length-append, length-set}
 use lib.Seq.{take-suc-set, append_snoc}
-use borrow.Author.Tests.{lt-ltb, le-leb, lt-leb, ne_eqb}
+use borrow.Author.Tests.{le-leb, lt-leb, ne_eqb}
 use Rattle.base.specs.Branch.{when◌then◌else◌}
 use Rattle.base.specs.LineFeed.{line_feed, UpToFeed, up_to_feed}
 use Rattle.base.proofs.LineFeed.{feed_append, feed_found}
@@ -21,11 +21,9 @@ Unbroken (b ∷ bs) = (b ≡ line_feed → ⊥) × Unbroken bs
 
 -- ---- counting
 pub count_on_is : (n : ℕ) → n < longest → count_on n ≡ suc n
-unfolding count_on when◌then◌else◌
-count_on_is n h = rw (lt-ltb n longest h) (omega arith)
+count_on_is n h = omega arith
 
 pub count_on_stops : count_on longest ≡ longest
-unfolding count_on when◌then◌else◌
 count_on_stops = refl
 
 -- ---- bytes without a line feed

@@ -1,14 +1,12 @@
 // Lines of standard input, of any length, read into lent memory of any size.
 #![tactic(auto)]
 
-ghost use Rattle.std.specs.Prelude.{◌≡◌, ◌≤ℤ◌, pos, negsuc, min, length, set};
-ghost use Rattle.input.specs.Lines.{one_longer, count_on, complete_line, new_input, no_line_came, begun, refilled};
+ghost use Rattle.std.specs.Prelude.{◌≡◌, length, set, ok_or};
+ghost use Rattle.input.specs.Lines.{one_longer, complete_line, line_at_end, new_input, filled, read_failed};
 ghost use Rattle.input.specs.Lines.{TakesLine, ReadsLine};
 
 use std::io::Read;
 use std::rt::Stdin;
-
-const LONGEST: usize = 18446744073709551615;
 
 // A line as far as it came: its length.
 #[derive(Clone, Copy)]
@@ -16,40 +14,16 @@ pub struct InputLine {
     pub length: usize,
 }
 
-// The bytes of the buffer from `at` up to `end` are not yet used. `found` says that the line's end was met, `failed` that the last
-// read failed.
+// The bytes of the buffer from `at` up to `end` are not yet used.
 #[derive(Clone, Copy)]
 pub struct Input {
     pub at: usize,
     pub end: usize,
-    pub line: InputLine,
-    pub found: bool,
-    pub failed: bool,
 }
 
-// One more, but for the largest number.
-pub fn one_more(n: usize) -> usize
-    ensures { result ≡ count_on n }
-{
-    if n < LONGEST { n + 1 } else { n }
-}
-
-// One read into the buffer: how many bytes came, or -1 if the read failed.
-fn read_of(mut stdin: Stdin, buffer: &mut [u8]) -> isize
-    ensures low { negsuc 0 ≤ℤ result }
-    ensures high { result ≤ℤ pos (length buffer.new) }
-{
-    match stdin.read(buffer) {
-        Ok(n) => n as isize,
-        Err(_) => -1,
-    }
-}
-
-fn least(a: usize, b: usize) -> usize
-    ensures { result ≡ min a b }
-{
-    if a < b { a } else { b }
-}
+// A read failed before the line's end came.
+#[derive(Clone, Copy)]
+pub struct ReadFailed;
 
 impl InputLine {
     pub const NEW: InputLine = InputLine { length: 0 };
@@ -58,27 +32,30 @@ impl InputLine {
     pub fn push(self, b: u8, kept: &mut [u8]) -> InputLine
         ensures { (result ≡ one_longer self) × (kept.new ≡ set kept.old self.length b) }
     {
-        let at = self.length;
-        let longer = InputLine {
-            length: one_more(at),
-        };
-        if at < kept.len() {
-            kept[at] = b;
-            return longer;
+        if self.length < kept.len() {
+            kept[self.length] = b;
         }
-        longer
+        InputLine {
+            length: self.length.saturating_add(1),
+        }
     }
 
     // The line, or nothing if not all of it was kept.
     pub fn whole(self, kept: &[u8]) -> &[u8]
         ensures { result.now ≡ complete_line self kept.now }
     {
-        let n = self.length;
-        if n <= kept.len() {
-            &kept[..n]
+        if self.length <= kept.len() {
+            &kept[..self.length]
         } else {
-            &kept[..0]
+            &[]
         }
+    }
+
+    // The last line of an input, which no line feed ends: none if nothing is on it.
+    fn at_end(self) -> Option<InputLine>
+        ensures { result ≡ line_at_end self }
+    {
+        (self.length > 0).then_some(self)
     }
 }
 
@@ -86,103 +63,58 @@ impl Input {
     pub fn new() -> Input
         ensures { result ≡ new_input }
     {
-        Input {
-            at: 0,
-            end: 0,
-            line: InputLine::NEW,
-            found: false,
-            failed: false,
-        }
+        Input { at: 0, end: 0 }
     }
 
-    // Whether no line came: a read failed, or the input ended with nothing on its last line.
-    pub fn no_line_came(self) -> bool
-        ensures { result ≡ no_line_came self }
+    // Takes the buffer's bytes up to the line's end, or all: whether the end was met.
+    pub fn take(&mut self, line: &mut InputLine, buffer: &[u8], kept: &mut [u8]) -> bool
+        ensures { TakesLine self.old line.old buffer.now kept.old result self.new line.new kept.new }
     {
-        if self.failed {
-            return true;
-        }
-        let line = self.line;
-        if self.found { false } else { line.length == 0 }
-    }
-
-    // Takes the buffer's bytes up to the line's end, or all.
-    pub fn take(self, buffer: &[u8], kept: &mut [u8]) -> Input
-        ensures { TakesLine self buffer.now kept.old result kept.new }
-    {
-        let end = self.end;
-        let failed = self.failed;
-        let stop = least(end, buffer.len());
-        let mut line = self.line;
-        let mut i = self.at;
-        while i < stop {
-            let b = buffer[i];
-            i += 1;
+        let end = self.end.min(buffer.len());
+        while self.at < end {
+            let b = buffer[self.at];
+            self.at += 1;
             if b == b'\n' {
-                return Input {
-                    at: i,
-                    end,
-                    line,
-                    found: true,
-                    failed,
-                };
+                return true;
             }
-            line = line.push(b, kept);
+            *line = line.push(b, kept);
         }
-        Input {
-            at: i,
-            end,
-            line,
-            found: false,
-            failed,
-        }
+        false
     }
 
-    // The same line, with the bytes of a read to use: `got` is what `read` returned of the buffer.
-    fn refilled(self, got: isize, buffer: &[u8]) -> Input
-        ensures { result ≡ refilled self got (length buffer.now) }
+    // The bytes of a read to use, and how many they are.
+    fn fill(&mut self, got: Option<usize>) -> Result<usize, ReadFailed>
+        ensures { (self.new ≡ filled got) × (result ≡ ok_or got read_failed) }
     {
-        let line = self.line;
-        Input {
+        *self = Input {
             at: 0,
-            end: io::count(got, buffer),
-            line,
-            found: false,
-            failed: got < 0,
-        }
+            end: got.unwrap_or(0),
+        };
+        got.ok_or(ReadFailed)
     }
 
-    // A new line, with the same bytes to use.
-    fn begun(self) -> Input
-        ensures { result ≡ begun self }
+    // The next line: reads until its end is met, the input ends or a read fails. None if the input ended with nothing on its last line.
+    pub fn next_line(
+        &mut self,
+        mut stdin: Stdin,
+        buffer: &mut [u8],
+        kept: &mut [u8],
+    ) -> Result<Option<InputLine>, ReadFailed>
+        ensures { ReadsLine self.old buffer.old kept.old result self.new buffer.new kept.new }
     {
-        Input {
-            at: self.at,
-            end: self.end,
-            line: InputLine::NEW,
-            found: false,
-            failed: false,
-        }
-    }
-
-    // The next line: reads until its end is met, the input ends or a read fails.
-    pub fn next_line(self, stdin: Stdin, buffer: &mut [u8], kept: &mut [u8]) -> Input
-        ensures { ReadsLine self buffer.old kept.old result buffer.new kept.new }
-    {
-        let mut input = self.begun();
-        let mut turns = u64::MAX;
-        while turns > 0 {
-            input = input.take(buffer, kept);
-            if input.found {
-                return input;
+        let mut line = InputLine::NEW;
+        for _turn in 0..u64::MAX {
+            if self.take(&mut line, buffer, kept) {
+                return Ok(Some(line));
             }
-            let got = read_of(stdin, buffer);
-            input = input.refilled(got, buffer);
-            if input.end == 0 {
-                return input;
+            let got = stdin.read(buffer).ok();
+            if self.fill(got)? == 0 {
+                return Ok(line.at_end());
             }
-            turns -= 1;
         }
-        input.take(buffer, kept)
+        if self.take(&mut line, buffer, kept) {
+            return Ok(Some(line));
+        }
+        Ok(line.at_end())
     }
 }

@@ -6,3 +6,4 @@ pub mod TotalsComparison
 pub mod TotalsText
 pub mod TotalsCount
 pub mod TotalsFailures
+pub mod ListCounted

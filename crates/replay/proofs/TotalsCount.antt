@@ -2,12 +2,13 @@
 use mathlib.Core.Path.{◌≡◌, refl, ap, ◌∙◌}
 use mathlib.Core.Bool.{Bool, true, false, ◌&&◌, ◌||◌, and-true, or-true}
 use mathlib.Core.List.{List}
-use Prim.Native.Nat.{ℕ, ◌+◌, ◌-◌, ◌<◌, min}
+use Prim.Native.Nat.{ℕ, ◌+◌, ◌-◌, ◌<◌}
 use native.Mathlib.Omega.{arith}
 use lib.Dec.{eqb, ltb}
+use lib.ListN.{length}
 use borrow.Author.Tests.{ltb-true, eq-eqb}
 use Rattle.answer_text.specs.declared.AnswerText.{AnswerText}
-use Rattle.answer_text.specs.AnswerBytes.{text_of_bytes}
+use Rattle.answer_text.specs.AnswerBytes.{text_of_bytes, written_bytes}
 use Rattle.input.proofs.LinesWhole.{count_on_is}
 use Rattle.input.specs.Lines.{count_on, longest}
 use Rattle.replay.specs.declared.totals.Totals.{Totals}
@@ -39,14 +40,14 @@ module _ (t : Totals) (k : RecordTotals) where
 
   -- a record that agrees has no text
   pub counted_printed : (outcome : Comparison) (n : ℕ) (all : Bool) (r : Totals) → k ≡ record_totals t outcome →
-      n ≡ min k.text.len 224 → (n ≡ 0 → ⊥) → r ≡ printed k.totals all → RecordCounted t outcome r
+      n ≡ length (written_bytes k.text) → (n ≡ 0 → ⊥) → r ≡ printed k.totals all → RecordCounted t outcome r
   unfolding RecordCounted
-  counted_printed Agrees n all r e f h g = absurd (h (f ∙ ap (λ (z : RecordTotals). min z.text.len 224) e))
-  counted_printed Apart n all r e f h g = absurd (h (f ∙ ap (λ (z : RecordTotals). min z.text.len 224) e))
+  counted_printed Agrees n all r e f h g = absurd (h (f ∙ ap (λ (z : RecordTotals). length (written_bytes z.text)) e))
+  counted_printed Apart n all r e f h g = absurd (h (f ∙ ap (λ (z : RecordTotals). length (written_bytes z.text)) e))
   counted_printed Differs n all r e f h g = (all, g ∙ ap (λ (z : RecordTotals). printed z.totals all) e)
 
 pub concluded : (t : Totals) (said : List ℕ) (failed all : Bool) (n : ℕ) (x : AnswerText) (w : Totals) (y : AnswerText) →
-    x ≡ text_of_bytes (last_text t said failed) → n ≡ min x.len 224 → w ≡ printed t (all || eqb n 0) →
+    x ≡ text_of_bytes (last_text t said failed) → n ≡ length (written_bytes x) → w ≡ printed t (all || eqb n 0) →
     y ≡ text_of_bytes (told_text failed w.written) → Concludes t said failed (record { text = x; totals = w; told = y })
 concluded t said failed all n x w y e k f g = (
   all || eqb n 0,

@@ -8,17 +8,9 @@ use Rattle.base.specs.Branch.{when◌then◌else◌}
 use Rattle.text.specs.Bytes.{quoted}
 use Rattle.text.specs.ProgramLine.{decimal}
 use Rattle.answer_text.specs.declared.AnswerText.{AnswerText}
-use Rattle.answer_text.specs.AnswerBytes.{added, added_all, text_of_bytes}
-use Rattle.answer_text.proofs.AnswerBytes.{added_out, added_all_out}
+use Rattle.answer_text.specs.AnswerBytes.{text_of_bytes}
 use Rattle.replay.specs.declared.totals.Totals.{Totals}
 use Rattle.replay.specs.Totals.{agreed_text, verdict_text, last_text}
-
-pub then_text : (p q : AnswerText) (t u : List ℕ) → p ≡ text_of_bytes t → q ≡ added_all p u → q ≡ text_of_bytes (t ++ u)
-then_text p q t u e f = f ∙ ap (λ (z : AnswerText). added_all z u) e ∙ added_all_out t u
-
-pub then_byte : (p q : AnswerText) (t : List ℕ) (b : ℕ) → p ≡ text_of_bytes t → q ≡ added p b →
-    q ≡ text_of_bytes (t ++ (b ∷ []))
-then_byte p q t b e f = f ∙ ap (λ (z : AnswerText). added z b) e ∙ added_out t b
 
 module _ (t : Totals) (said : List ℕ) (o : AnswerText) where
   pub verdict_without : t.apart ≡ 0 → o ≡ text_of_bytes (agreed_text t ++ (10 ∷ [])) → o ≡ text_of_bytes (verdict_text t said)

@@ -1,7 +1,6 @@
 -- Fields parted by tabs.
-use Rattle.std.specs.Prelude.{List, [], ◌∷◌, ℕ, zero, suc, eqb}
+use Rattle.std.specs.Prelude.{List, [], ◌∷◌, ℕ, zero, suc, eqb, ◌==◌, count_by}
 use Rattle.base.specs.Branch.{when◌then◌else◌}
-use Rattle.base.specs.Lists.{count}
 
 -- what stands before the first tab
 unfoldable pub until_tab : List ℕ → List ℕ
@@ -19,4 +18,4 @@ field (suc k) line = field k (past_tab line)
 
 -- one less than its fields
 abbrev pub tabs : List ℕ → ℕ
-tabs line = count (eqb 0x09) line
+tabs line = count_by (λ b. b == 0x09) line

@@ -2,3 +2,4 @@ pub mod Fields
 pub mod Totals
 pub mod Draws
 pub mod Agreement
+pub mod ListCounted

@@ -1,10 +1,10 @@
 -- How many records agree, and what is printed of them.
-use Rattle.std.specs.Prelude.{◌≡◌, Bool, true, false, cond, not, ◌&&◌, ◌||◌, List, [], ◌∷◌, ◌++◌, ℕ, eqb, ltb}
+use Rattle.std.specs.Prelude.{◌≡◌, Bool, true, false, cond, not, ◌&&◌, ◌||◌, List, [], ◌∷◌, ◌++◌, ℕ, eqb, ltb, length}
 use Rattle.base.specs.Branch.{when◌then◌else◌}
 use Rattle.base.specs.LineFeed.{line_feed}
 use Rattle.text.specs.Bytes.{quoted, message}
 use Rattle.text.specs.ProgramLine.{decimal}
-use Rattle.answer_text.specs.AnswerBytes.{text_of_bytes}
+use Rattle.answer_text.specs.AnswerBytes.{text_of_bytes, written_bytes}
 use Rattle.input.specs.Lines.{count_on}
 use Rattle.replay.specs.declared.totals.Totals.{Totals}
 use Rattle.replay.specs.declared.totals.RecordTotals.{RecordTotals}
@@ -85,4 +85,4 @@ conclusion t said failed all = record {
 
 -- for some return of the write, if there is anything to write
 abbrev pub Concludes : Totals → List ℕ → Bool → Conclusion → Type 0
-Concludes t said failed r = (all : Bool) × (r ≡ conclusion t said failed all) × (r.text.len ≡ 0 → all ≡ true)
+Concludes t said failed r = (all : Bool) × (r ≡ conclusion t said failed all) × (length (written_bytes r.text) ≡ 0 → all ≡ true)

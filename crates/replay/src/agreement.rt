@@ -1,71 +1,73 @@
 // A record's numbers, compared with the expected ones as these come.
-ghost use Rattle.std.specs.Prelude.{◌≡◌};
-ghost use Rattle.replay.specs.Agreement.{compared, compared_all, wholly_agrees};
+ghost use Rattle.std.specs.Prelude.{◌≡◌, Some, option_copied};
+ghost use Rattle.replay.specs.Agreement.{left_of, compared, compared_all, wholly_agrees};
 
-// How many of the first numbers were compared, and whether all that came was as expected.
+// The record's numbers that are left to meet: none where one that came was not as expected.
 #[derive(Clone, Copy)]
-pub struct Agreement {
-    pub at: usize,
-    pub good: bool,
+pub struct Agreement<'a> {
+    pub left: Option<&'a [u64]>,
 }
 
-fn wide(b: u8) -> u64
-    ensures { result ≡ b }
+// The numbers after n, if it is the first of them.
+fn after(numbers: &[u64], n: u64) -> Option<&[u64]>
+    ensures { option_copied result ≡ compared (Some numbers.now) n }
 {
-    b as u64
+    let (first, left) = numbers.split_first()?;
+    if *first == n {
+        return Some(left);
+    }
+    None
 }
 
-impl Agreement {
-    pub const NEW: Agreement = Agreement { at: 0, good: true };
+impl<'a> Agreement<'a> {
+    // No number came yet.
+    pub fn new(numbers: &'a [u64]) -> Agreement<'a>
+        ensures { left_of result ≡ Some numbers.now }
+    {
+        Agreement {
+            left: Some(numbers),
+        }
+    }
 
     // The next number is to be n.
-    pub fn number(self, words: &[u64], n: u64) -> Agreement
-        ensures { result ≡ compared words.now self n }
+    pub fn number(self, n: u64) -> Agreement<'a>
+        ensures { left_of result ≡ compared (left_of self.entry) n }
     {
-        let at = self.at;
-        if at < words.len() {
-            if words[at] == n {
-                return Agreement {
-                    at: at + 1,
-                    good: self.good,
-                };
-            }
+        match self.left {
+            Some(numbers) => Agreement {
+                left: after(numbers, n),
+            },
+            None => self,
         }
-        Agreement { at, good: false }
     }
 
-    pub fn numbers(self, words: &[u64], ns: &[u64]) -> Agreement
-        ensures { result ≡ compared_all words.now self ns.now }
+    pub fn numbers(self, ns: &[u64]) -> Agreement<'a>
+        ensures { left_of result ≡ compared_all (left_of self.entry) ns.now }
     {
-        let mut so_far = self;
-        let mut i: usize = 0;
-        while i < ns.len() {
-            so_far = so_far.number(words, ns[i]);
-            i += 1;
+        let mut agreement = self;
+        for n in ns {
+            agreement = agreement.number(*n);
         }
-        so_far
+        agreement
     }
 
-    pub fn bytes(self, words: &[u64], bytes: &[u8]) -> Agreement
-        ensures { result ≡ compared_all words.now self bytes.now }
+    pub fn bytes(self, bytes: &[u8]) -> Agreement<'a>
+        ensures { left_of result ≡ compared_all (left_of self.entry) bytes.now }
     {
-        let mut so_far = self;
-        let mut i: usize = 0;
-        while i < bytes.len() {
-            so_far = so_far.number(words, wide(bytes[i]));
-            i += 1;
+        let mut agreement = self;
+        for b in bytes {
+            agreement = agreement.number(u64::from(*b));
         }
-        so_far
+        agreement
     }
 
     // Whether the record's numbers are the expected ones, and no more.
-    pub fn is_whole(self, words: &[u64]) -> bool
-        ensures { result ≡ wholly_agrees words.now self }
+    pub fn is_whole(self) -> bool
+        ensures { result ≡ wholly_agrees (left_of self.entry) }
     {
-        if self.good {
-            self.at == words.len()
-        } else {
-            false
+        match self.left {
+            Some(left) => left.is_empty(),
+            None => false,
         }
     }
 }

@@ -2,31 +2,25 @@
 ghost use Rattle.std.specs.Prelude.{◌≡◌};
 ghost use Rattle.replay.specs.Draws.{draw_letter, draw_of};
 
-use rules::{DrawWinner, Player};
+use rules::Player;
 
-#[derive(Clone, Copy)]
-pub enum Draw {
-    To(DrawWinner),
-    Bad,
-}
-
-fn draw_letter(b: u8) -> Draw
+fn draw_letter(b: u8) -> Option<Option<Player>>
     ensures { result ≡ draw_letter b }
 {
     match b {
-        b'-' => Draw::To(DrawWinner::Nobody),
-        b'X' => Draw::To(DrawWinner::Side(Player::X)),
-        b'O' => Draw::To(DrawWinner::Side(Player::O)),
-        _ => Draw::Bad,
+        b'-' => Some(None),
+        b'X' => Some(Some(Player::X)),
+        b'O' => Some(Some(Player::O)),
+        _ => None,
     }
 }
 
 // X, O, or - for none.
-pub fn draw_of(text: &[u8]) -> Draw
+pub fn draw_of(text: &[u8]) -> Option<Option<Player>>
     ensures { result ≡ draw_of text.now }
 {
     if text.len() != 1 {
-        return Draw::Bad;
+        return None;
     }
     draw_letter(text[0])
 }

@@ -4,9 +4,11 @@
 pub mod agreement;
 pub mod draws;
 pub mod fields;
+pub mod list;
 pub mod totals;
 
 pub use agreement::Agreement;
-pub use draws::{Draw, draw_of};
+pub use draws::draw_of;
 pub use fields::{field, tabs};
+pub use list::{Records, run};
 pub use totals::{Comparison, Totals};

@@ -5,14 +5,13 @@ ghost use Rattle.replay.specs.Totals.{comparison, new_totals, with_record, recor
 ghost use Rattle.replay.specs.Totals.{record_text, verdict_text, last_text, told_text, Concludes};
 
 use answer_text::AnswerText;
-use input::{Input, one_more};
 
 const STDOUT_FILENO: i32 = 1;
 
 const STDERR_FILENO: i32 = 2;
 
 // What is found of a record. `Apart`: it agrees, with document 01's answer in place of the Rust's.
-#[derive(Clone, Copy)]
+#[derive(Clone, Copy, PartialEq, Eq)]
 pub enum Comparison {
     Agrees,
     Apart,
@@ -24,14 +23,10 @@ impl Comparison {
     pub fn of(agrees: bool, apart: bool) -> Comparison
         ensures { result ≡ comparison agrees apart }
     {
-        if agrees {
-            if apart {
-                Comparison::Apart
-            } else {
-                Comparison::Agrees
-            }
-        } else {
-            Comparison::Differs
+        match (agrees, apart) {
+            (true, true) => Comparison::Apart,
+            (true, false) => Comparison::Agrees,
+            (false, _) => Comparison::Differs,
         }
     }
 }
@@ -65,8 +60,7 @@ fn record_text(number: usize, outcome: Comparison) -> AnswerText
     ensures { result ≡ text_of_bytes (record_text number outcome) }
 {
     match outcome {
-        Comparison::Agrees => AnswerText::new(),
-        Comparison::Apart => AnswerText::new(),
+        Comparison::Agrees | Comparison::Apart => AnswerText::new(),
         Comparison::Differs => AnswerText::new()
             .text(b"differs: record ")
             .decimal(number as u64)
@@ -90,27 +84,21 @@ impl Totals {
     fn with_record(self, outcome: Comparison) -> Totals
         ensures { result ≡ with_record self outcome }
     {
-        let records = one_more(self.records);
-        let written = self.written;
+        let more = Totals {
+            records: self.records.saturating_add(1),
+            ..self
+        };
         match outcome {
             Comparison::Agrees => Totals {
-                records,
-                agreed: one_more(self.agreed),
-                apart: self.apart,
-                written,
+                agreed: self.agreed.saturating_add(1),
+                ..more
             },
             Comparison::Apart => Totals {
-                records,
-                agreed: one_more(self.agreed),
-                apart: one_more(self.apart),
-                written,
+                agreed: self.agreed.saturating_add(1),
+                apart: self.apart.saturating_add(1),
+                ..more
             },
-            Comparison::Differs => Totals {
-                records,
-                agreed: self.agreed,
-                apart: self.apart,
-                written,
-            },
+            Comparison::Differs => more,
         }
     }
 
@@ -140,23 +128,18 @@ impl Totals {
         let counted = self.counted(outcome);
         let totals = counted.totals;
         let text = counted.text;
-        let bytes = text.bytes;
-        let n = text.written();
+        let n = text.as_slice().len();
         if n == 0 {
             return totals;
         }
-        totals.printed(io::write_all(STDOUT_FILENO, &bytes[..n]))
+        totals.printed(io::write_all(STDOUT_FILENO, text.as_slice()))
     }
 
     // Whether records may go on to be counted.
     pub fn may_go_on(self) -> bool
         ensures { result ≡ may_go_on self }
     {
-        if self.written {
-            self.records < usize::MAX
-        } else {
-            false
-        }
+        self.written && self.records < usize::MAX
     }
 
     // How many agree, and how many of them are apart with what is said of those.
@@ -177,14 +160,10 @@ impl Totals {
     fn last_text(self, said: &[u8], failed: bool) -> AnswerText
         ensures { result ≡ text_of_bytes (last_text self said.now failed) }
     {
-        if failed {
+        if failed || !self.written {
             return AnswerText::new();
         }
-        if self.written {
-            self.verdict(said)
-        } else {
-            AnswerText::new()
-        }
+        self.verdict(said)
     }
 
     // What is told on standard error: that not all could be read, or else that not all was written.
@@ -204,19 +183,15 @@ impl Totals {
             .push(b'\n')
     }
 
-    // The end of a list that was read from an input: the last text is printed, and what failed is told on standard error.
-    pub fn conclude(self, said: &[u8], input: Input) -> Conclusion
-        ensures { Concludes self said.now input.failed result }
+    // The end of a list, by whether a read of it failed: the last text is printed, and what failed is told on standard error.
+    pub fn conclude(self, said: &[u8], failed: bool) -> Conclusion
+        ensures { Concludes self said.now failed result }
     {
-        let failed = input.failed;
         let text = self.last_text(said, failed);
-        let bytes = text.bytes;
-        let n = text.written();
-        let totals = self.printed(io::write_all(STDOUT_FILENO, &bytes[..n]) | (n == 0));
+        let n = text.as_slice().len();
+        let totals = self.printed(io::write_all(STDOUT_FILENO, text.as_slice()) | (n == 0));
         let told = totals.told(failed);
-        let bytes = told.bytes;
-        let n = told.written();
-        io::write_all(STDERR_FILENO, &bytes[..n]);
+        io::write_all(STDERR_FILENO, told.as_slice());
         Conclusion { text, totals, told }
     }
 }

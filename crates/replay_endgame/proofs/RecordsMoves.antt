@@ -28,9 +28,6 @@ use Rattle.replay_endgame.specs.Records.{has_line_of_boards, reopened, listed_mo
 
 module _ (p : Position) where
   -- ---- a line of boards
-  pub lined_over : unfinished p ≡ false → false ≡ has_line_of_boards p
-  lined_over e = rw e
-
   module _ (e : unfinished p ≡ true) where
     pub lined_by_x : has_line (won_boards p X) ≡ true → true ≡ has_line_of_boards p
     unfolding any
@@ -58,13 +55,6 @@ module _ (p : Position) where
       go : (ms : List ℕ) → length ms ≡ 0 → or_first ms ≡ 0 ∷ []
       go [] h = refl
       go (m ∷ ms) h = absurd (omega arith)
-
-  pub some_expected : (length (listed_moves p) ≡ 0 → ⊥) → expected_moves p ≡ listed_moves p
-  some_expected h = go (listed_moves p) h
-    where
-      go : (ms : List ℕ) → (length ms ≡ 0 → ⊥) → or_first ms ≡ ms
-      go [] h = absurd (h refl)
-      go (m ∷ ms) h = refl
 
   -- ---- where moves are judged
   as_it_is : (s : GameState) → s ≡ p.state → T (in_play s) → reopened p ≡ p

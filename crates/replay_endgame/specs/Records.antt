@@ -1,7 +1,6 @@
 -- A record of the endgame analysis, and what is found of it: a position's text, a tab, and numbers, those of the analysis and three of
 -- each listed move.
-use Rattle.std.specs.Prelude.{Bool, ◌&&◌, ◌||◌, List, [], ◌∷◌, ◌++◌, ℕ, eqb, get_or}
-use Rattle.std.proofs.Math.Option.{Option, none, some}
+use Rattle.std.specs.Prelude.{Bool, ◌&&◌, ◌||◌, List, [], ◌∷◌, ◌++◌, ℕ, eqb, get_or, Option, Some, None}
 use Rattle.base.specs.Branch.{when◌then◌else◌}
 use Rattle.base.specs.Lists.{any, concat_map}
 use Rattle.rules.specs.declared.GameState.TheVariants.{InPlay}
@@ -69,8 +68,8 @@ comparison_of p ns = comparison (same_numbers ns (record_of p)) (is_apart ns)
 -- a text that is no position differs, and so does what is no list of numbers
 abbrev pub comparison_for : Reading → Option (List ℕ) → Comparison
 comparison_for (refuses n offset size) ns = Differs
-comparison_for (reads p) none = Differs
-comparison_for (reads p) (some ns) = comparison_of p ns
+comparison_for (reads p) None = Differs
+comparison_for (reads p) (Some ns) = comparison_of p ns
 
 -- of a line: one that has not two fields differs
 unfoldable pub outcome_of : List ℕ → Comparison

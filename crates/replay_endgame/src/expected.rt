@@ -5,16 +5,17 @@ ghost use Rattle.rules.specs.Endgame.{analysis};
 ghost use Rattle.boards.specs.Cursor.{moves_left};
 ghost use Rattle.game.specs.Meaning.{position_of};
 ghost use Rattle.endgame.specs.Means.{endgame_stats_of};
-ghost use Rattle.replay.specs.Agreement.{compared_all, same_numbers};
+ghost use Rattle.replay.specs.Agreement.{left_of, compared_all, same_numbers};
 ghost use Rattle.replay_endgame.specs.Records.{has_line_of_boards, reopened, listed_moves, expected_moves};
 ghost use Rattle.replay_endgame.specs.Records.{stats_numbers, analysis_numbers, move_numbers, record_of, is_apart};
 
-use boards::{Listed, Move, MoveIterator};
+use boards::{Move, MoveIterator};
 use endgame::{Analysis, EndgameStats};
 use game::Game;
 use lines::has_line;
 use replay::Agreement;
 use rules::GameState;
+use status::Status;
 
 // What is judged where no move is listed: the first cell of the first board.
 const FIRST: Move = Move { bits: 0 };
@@ -24,13 +25,7 @@ fn has_line_of_boards(game: Game) -> bool
     ensures { result ≡ has_line_of_boards (position_of game) }
 {
     let states = game.global_states;
-    if game.game_over() {
-        return false;
-    }
-    if has_line(states.xbits()) {
-        return true;
-    }
-    has_line(states.obits())
+    !game.game_over() && (has_line(states.xbits()) || has_line(states.obits()))
 }
 
 // The game, finished or not, as if it went on.
@@ -57,89 +52,76 @@ fn listed(game: Game) -> MoveIterator
     reopened(game).all_moves()
 }
 
-fn with_stats(begun: Agreement, words: &[u64], stats: EndgameStats) -> Agreement
-    ensures { result ≡ compared_all words.now begun (stats_numbers (endgame_stats_of stats)) }
+fn with_stats(begun: Agreement<'_>, stats: EndgameStats) -> Agreement<'_>
+    ensures { left_of result ≡ compared_all (left_of begun.entry) (stats_numbers (endgame_stats_of stats)) }
 {
     begun
-        .number(words, stats.attacker_critical as u64)
-        .number(words, stats.defender_critical as u64)
-        .number(words, stats.both_critical as u64)
-        .number(words, stats.unwinnable as u64)
-        .number(words, stats.prove_attacker as u64)
-        .number(words, stats.prove_defender as u64)
+        .number(stats.attacker_critical as u64)
+        .number(stats.defender_critical as u64)
+        .number(stats.both_critical as u64)
+        .number(stats.unwinnable as u64)
+        .number(stats.prove_attacker as u64)
+        .number(stats.prove_defender as u64)
 }
 
-fn with_analysis(begun: Agreement, words: &[u64], game: Game) -> Agreement
-    ensures { result ≡ compared_all words.now begun (analysis_numbers (analysis (position_of game))) }
+fn with_analysis(begun: Agreement<'_>, game: Game) -> Agreement<'_>
+    ensures { left_of result ≡ compared_all (left_of begun.entry) (analysis_numbers (analysis (position_of game))) }
 {
     let analysis = Analysis::new(game);
-    let answer = analysis.answer;
-    let status = analysis.status();
-    let stats = analysis.stats;
+    let status = Analysis::reported_status(analysis);
+    let stats = analysis.map_or(EndgameStats::NONE, |found| found.stats);
     let so_far = begun
-        .number(words, answer.number())
-        .number(words, status.as_byte() as u64);
-    with_stats(so_far, words, stats)
+        .number(rules::number(analysis))
+        .number(u64::from(status.as_byte()));
+    with_stats(so_far, stats)
 }
 
-fn with_move(begun: Agreement, words: &[u64], game: Game, m: Move) -> Agreement
-    ensures { result ≡ compared_all words.now begun (move_numbers (position_of game) m.bits) }
+fn with_move(begun: Agreement<'_>, game: Game, m: Move) -> Agreement<'_>
+    ensures { left_of result ≡ compared_all (left_of begun.entry) (move_numbers (position_of game) m.bits) }
 {
     let judged = endgame::evaluate_move(game, m);
-    let answer = judged.answer;
-    let status = judged.status;
+    let status = judged.unwrap_or(Status::unproven());
     begun
-        .number(words, m.bits as u64)
-        .number(words, answer.number())
-        .number(words, status.as_byte() as u64)
+        .number(u64::from(m.bits))
+        .number(rules::number(judged))
+        .number(u64::from(status.as_byte()))
 }
 
 // Compared with the moves that a cursor has left.
-fn with_left(begun: Agreement, words: &[u64], game: Game, list: MoveIterator) -> Agreement
-    ensures { result ≡ compared_all words.now begun
+fn with_left(begun: Agreement<'_>, game: Game, list: MoveIterator) -> Agreement<'_>
+    ensures { left_of result ≡ compared_all (left_of begun.entry)
         (concat_map (move_numbers (position_of game)) (moves_left list)) }
 {
     let mut so_far = begun;
-    let mut left = list;
-    loop {
-        match left.next() {
-            Listed::End => {
-                return so_far;
-            }
-            Listed::Next(m, rest) => {
-                so_far = with_move(so_far, words, game, m);
-                left = rest;
-            }
-        }
+    for m in list {
+        so_far = with_move(so_far, game, m);
     }
+    so_far
 }
 
 // Compared with the expected moves.
-fn with_moves(begun: Agreement, words: &[u64], game: Game) -> Agreement
-    ensures { result ≡ compared_all words.now begun
+fn with_moves(begun: Agreement<'_>, game: Game) -> Agreement<'_>
+    ensures { left_of result ≡ compared_all (left_of begun.entry)
         (concat_map (move_numbers (position_of game)) (expected_moves (position_of game))) }
 {
     let list = listed(game);
     if list.count() == 0 {
-        return with_move(begun, words, game, FIRST);
+        return with_move(begun, game, FIRST);
     }
-    with_left(begun, words, game, list)
+    with_left(begun, game, list)
 }
 
 // Whether a record is the position's.
 pub(crate) fn is_met(words: &[u64], game: Game) -> bool
     ensures { result ≡ same_numbers words.now (record_of (position_of game)) }
 {
-    let analysed = with_analysis(Agreement::NEW, words, game);
-    with_moves(analysed, words, game).is_whole(words)
+    let analysed = with_analysis(Agreement::new(words), game);
+    with_moves(analysed, game).is_whole()
 }
 
 // Whether the position is refused with 14, or the first listed move with 10.
 pub(crate) fn is_apart(words: &[u64]) -> bool
     ensures { result ≡ is_apart words.now }
 {
-    if decimals::at(words, 0) == 14 {
-        return true;
-    }
-    decimals::at(words, 9) == 10
+    decimals::at(words, 0) == 14 || decimals::at(words, 9) == 10
 }

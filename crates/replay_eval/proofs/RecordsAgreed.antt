@@ -1,21 +1,18 @@
 -- A line agrees only where its fields are the text of a position, a draw winner, and the position's evaluation.
+use Rattle.std.specs.Prelude.{Option, Some, None}
 use mathlib.Core.Path.{◌≡◌, refl, ap}
 use mathlib.Core.List.{List}
 use Prim.Native.Nat.{ℕ}
 use native.Mathlib.Omega.{arith}
 use lib.Dec.{T, eqb, eqb→eq}
 use lib.IntN.{ℤ, pos, negsuc}
+use Rattle.rules.specs.declared.Player.{Player}
 use Rattle.base.proofs.Bool.{and→}
 use Rattle.base.proofs.Branch.{if_ind}
-use Rattle.rules.specs.declared.DrawWinner.{DrawWinner}
 use Rattle.rules.specs.Position.{Position}
 use Rattle.rules.specs.Evaluation.{default_weights, scoring_with, evaluate}
 use Rattle.text.specs.Reading.{Reading, reads, refuses, read}
-use Rattle.decimals.specs.declared.number.Signed.{Signed}
-use Rattle.decimals.specs.declared.number.Signed.TheVariants.{Is, Bad}
 use Rattle.decimals.specs.Numbers.{read_signed}
-use Rattle.replay.specs.declared.draws.Draw.{Draw}
-use Rattle.replay.specs.declared.draws.Draw.TheVariants.{To, Bad as Bad-draw}
 use Rattle.replay.specs.declared.totals.Comparison.{Comparison}
 use Rattle.replay.specs.declared.totals.Comparison.TheVariants.{Agrees, Apart, Differs}
 use Rattle.replay.specs.Draws.{draw_of}
@@ -30,21 +27,21 @@ same_integer_equal (negsuc m) (negsuc n) t = ap negsuc (eqb→eq m n t)
 same_integer_equal (pos m) (negsuc n) t = absurd t
 same_integer_equal (negsuc m) (pos n) t = absurd t
 
-score_said : (said : Signed) (score : ℤ) → T (is_score said score) → said ≡ Is score
-score_said (Is z) score t = ap Is (same_integer_equal z score t)
-score_said Bad score t = absurd t
+score_said : (said : Option ℤ) (score : ℤ) → T (is_score said score) → said ≡ Some score
+score_said (Some z) score t = ap Some (same_integer_equal z score t)
+score_said None score t = absurd t
 
-evaluation_said : (r : Reading) (d : Draw) (said : Signed) → T (is_evaluation r d said) →
-    (p : Position) × (w : DrawWinner) × (r ≡ reads p) × (d ≡ To w) × (said ≡ Is (evaluate (scoring_with w default_weights) p))
+evaluation_said : (r : Reading) (d : Option (Option Player)) (said : Option ℤ) → T (is_evaluation r d said) →
+    (p : Position) × (w : Option Player) × (r ≡ reads p) × (d ≡ Some w) × (said ≡ Some (evaluate (scoring_with w default_weights) p))
 evaluation_said (refuses n offset size) d said t = absurd t
-evaluation_said (reads p) Bad-draw said t = absurd t
-evaluation_said (reads p) (To w) said t = (p, w, refl, refl, score_said said (evaluate (scoring_with w default_weights) p) t)
+evaluation_said (reads p) None said t = absurd t
+evaluation_said (reads p) (Some w) said t = (p, w, refl, refl, score_said said (evaluate (scoring_with w default_weights) p) t)
 
 module _ (line : List ℕ) where
   -- a line that does not differ has three fields: a position that is read, a draw winner, and the position's evaluation with it
   pub agreed_means : (outcome_of line ≡ Differs → ⊥) →
-      (p : Position) × (w : DrawWinner) × (tabs line ≡ 2) × (read (field 0 line) ≡ reads p) × (draw_of (field 1 line) ≡ To w)
-      × (read_signed (field 2 line) ≡ Is (evaluate (scoring_with w default_weights) p))
+      (p : Position) × (w : Option Player) × (tabs line ≡ 2) × (read (field 0 line) ≡ reads p) × (draw_of (field 1 line) ≡ Some w)
+      × (read_signed (field 2 line) ≡ Some (evaluate (scoring_with w default_weights) p))
   unfolding outcome_of
   agreed_means h =
       let same = agrees (field 0 line) (field 1 line) (field 2 line) in

@@ -1,13 +1,10 @@
 -- A record of the evaluation, and what is found of it: a position's text, the draw winner and the score, parted by tabs.
-use Rattle.std.specs.Prelude.{Bool, false, ◌&&◌, List, ℕ, eqb, ℤ, pos, negsuc}
+use Rattle.std.specs.Prelude.{Bool, false, ◌&&◌, List, ℕ, eqb, ℤ, pos, negsuc, Option, Some, None}
 use Rattle.base.specs.Branch.{when◌then◌else◌}
 use Rattle.rules.specs.Evaluation.{default_weights, scoring_with, evaluate}
+use Rattle.rules.specs.declared.Player.{Player}
 use Rattle.text.specs.Reading.{Reading, reads, refuses, read}
-use Rattle.decimals.specs.declared.number.Signed.{Signed}
-use Rattle.decimals.specs.declared.number.Signed.TheVariants.{Is, Bad}
 use Rattle.decimals.specs.Numbers.{read_signed}
-use Rattle.replay.specs.declared.draws.Draw.{Draw}
-use Rattle.replay.specs.declared.draws.Draw.TheVariants.{To, Bad as Bad-draw}
 use Rattle.replay.specs.declared.totals.Comparison.{Comparison}
 use Rattle.replay.specs.declared.totals.Comparison.TheVariants.{Agrees, Differs}
 use Rattle.replay.specs.Draws.{draw_of}
@@ -20,15 +17,15 @@ same_integer (pos m) (negsuc n) = false
 same_integer (negsuc m) (pos n) = false
 
 -- a text says a score
-abbrev pub is_score : Signed → ℤ → Bool
-is_score (Is z) score = same_integer z score
-is_score Bad score = false
+abbrev pub is_score : Option ℤ → ℤ → Bool
+is_score (Some z) score = same_integer z score
+is_score None score = false
 
 -- the score is that of a position, with this draw winner and the default weights
-abbrev pub is_evaluation : Reading → Draw → Signed → Bool
+abbrev pub is_evaluation : Reading → Option (Option Player) → Option ℤ → Bool
 is_evaluation (refuses n offset size) draw said = false
-is_evaluation (reads p) Bad-draw said = false
-is_evaluation (reads p) (To w) said = is_score said (evaluate (scoring_with w default_weights) p)
+is_evaluation (reads p) None said = false
+is_evaluation (reads p) (Some w) said = is_score said (evaluate (scoring_with w default_weights) p)
 
 -- what three fields say
 abbrev pub agrees : List ℕ → List ℕ → List ℕ → Bool

@@ -4,78 +4,58 @@
 
 ghost use Rattle.std.specs.Prelude.{◌≡◌};
 ghost use Rattle.decimals.specs.Numbers.{read_signed};
-ghost use Rattle.replay.specs.Totals.{RecordCounted};
 ghost use Rattle.replay_eval.specs.Records.{is_score, agrees, outcome_of};
 
-use decimals::Signed;
-use input::Input;
-use notation::ParseAnswer;
-use replay::{Comparison, Draw, Totals};
+use replay::{Comparison, Records};
 use rules::Weights;
 
 fn is_score(text: &[u8], score: i64) -> bool
     ensures { result ≡ is_score (read_signed text.now) score }
 {
-    match decimals::read_signed(text) {
-        Signed::Is(expected) => expected == score,
-        Signed::Bad => false,
-    }
+    decimals::read_signed(text) == Some(score)
 }
 
 // Whether the score is the evaluation of the position, with this draw winner and the default weights.
 fn agrees(position: &[u8], draw: &[u8], score: &[u8]) -> bool
     ensures { result ≡ agrees position.now draw.now score.now }
 {
-    let parsed = notation::parse(position);
-    let answer = parsed.answer;
-    let ParseAnswer::Accepted = answer else {
+    let Ok(game) = notation::parse(position) else {
         return false;
     };
-    let Draw::To(winner) = replay::draw_of(draw) else {
+    let Some(winner) = replay::draw_of(draw) else {
         return false;
     };
-    let evaluated = evaluation::evaluate(parsed.game, winner, Weights::DEFAULT);
-    is_score(score, evaluated.value)
+    let Ok(value) = evaluation::evaluate(game, winner, Weights::DEFAULT) else {
+        return false;
+    };
+    is_score(score, value)
 }
 
 // What is found of a line. One that can't be read differs.
 fn outcome(line: &[u8]) -> Comparison
     ensures { result ≡ outcome_of line.now }
 {
-    if replay::tabs(line) != 2 {
-        return Comparison::Differs;
-    }
-    if agrees(
-        replay::field(line, 0),
-        replay::field(line, 1),
-        replay::field(line, 2),
-    ) {
-        Comparison::Agrees
-    } else {
-        Comparison::Differs
-    }
+    let agrees = replay::tabs(line) == 2
+        && agrees(
+            replay::field(line, 0),
+            replay::field(line, 1),
+            replay::field(line, 2),
+        );
+    Comparison::of(agrees, false)
 }
 
-// The totals with a line's record more.
-fn step(totals: Totals, line: &[u8]) -> Totals
-    ensures { RecordCounted totals (outcome_of line.now) result }
-{
-    totals.count(outcome(line))
+// The records of the list.
+#[derive(Clone, Copy)]
+struct Evaluations;
+
+impl Records for Evaluations {
+    ghost outcome_of = { outcome_of };
+
+    fn outcome(&mut self, line: &[u8]) -> Comparison {
+        outcome(line)
+    }
 }
 
 fn main(rt: HostRuntime) {
-    let stdin = rt.stdin();
-    let mut buffer = io::large_buffer();
-    let mut kept = io::buffer();
-    let mut input = Input::new();
-    let mut totals = Totals::new();
-    while totals.may_go_on() {
-        input = input.next_line(stdin, &mut buffer, &mut kept);
-        if input.no_line_came() {
-            break;
-        }
-        let line = input.line;
-        totals = step(totals, line.whole(&kept));
-    }
-    totals.conclude(b"", input);
+    replay::run(Evaluations, rt.stdin(), b"");
 }

@@ -1,8 +1,8 @@
 -- A line agrees only where it is a list of numbers, and these are the record of a question of one of five kinds.
+use Rattle.std.specs.Prelude.{Option, None, Some}
 use mathlib.Core.Path.{◌≡◌, refl}
 use mathlib.Core.Bool.{Bool, true, false, not}
 use mathlib.Core.List.{List, [], ◌∷◌, ◌++◌}
-use mathlib.Core.Option.{Option, none, some}
 use Prim.Native.Nat.{ℕ, ◌%◌}
 use lib.Dec.{eqb}
 use lib.ListN.{get_or}
@@ -56,10 +56,10 @@ module _ (ns : List ℕ) where
       (by_kind (eqb kind 11) _ _ (λ h. coordinates (record_said (coordinates_record (get_or ns 1 0 % 9) (get_or ns 2 0 % 9)) h))
       (λ h. absurd (h refl))))))
 
-numbers_said : (o : Option (List ℕ)) → (comparison_for o ≡ Differs → ⊥) → (ns : List ℕ) × (o ≡ some ns) × Recorded ns
-numbers_said none h = absurd (h refl)
-numbers_said (some ns) h = (ns, refl, kinds_said ns h)
+numbers_said : (o : Option (List ℕ)) → (comparison_for o ≡ Differs → ⊥) → (ns : List ℕ) × (o ≡ Some ns) × Recorded ns
+numbers_said None h = absurd (h refl)
+numbers_said (Some ns) h = (ns, refl, kinds_said ns h)
 
 -- a line that does not differ is a list of numbers, which are those that the definitions give for its question
-pub agreed_means : (line : List ℕ) → (outcome_of line ≡ Differs → ⊥) → (ns : List ℕ) × (list_of 1024 line ≡ some ns) × Recorded ns
+pub agreed_means : (line : List ℕ) → (outcome_of line ≡ Differs → ⊥) → (ns : List ℕ) × (list_of 1024 line ≡ Some ns) × Recorded ns
 agreed_means line h = numbers_said (list_of 1024 line) h

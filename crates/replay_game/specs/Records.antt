@@ -1,17 +1,12 @@
 -- The records of games: the question that a record's numbers hold, and the record of that question.
 use Rattle.std.specs.Prelude.{false, not, cond, List, [], ◌∷◌, ◌++◌, map, ◌≡◌, ℕ, ◌+◌, ◌/◌, ◌%◌, ◌^◌, eqb, length, get_or}
-use Rattle.std.proofs.Math.Option.{Option, none, some}
+use Rattle.std.specs.Prelude.{Option, Some, None}
 use Rattle.base.specs.Branch.{when◌then◌else◌}
 use Rattle.base.specs.Bits.{digits}
 use Rattle.base.specs.Lists.{from}
-use Rattle.rules.specs.declared.Player.TheVariants.{X, O}
 use Rattle.rules.specs.declared.CellState.{CellState}
 use Rattle.rules.specs.declared.CellState.TheVariants.{Empty, Played}
-use Rattle.rules.specs.declared.GameState.{GameState}
-use Rattle.rules.specs.declared.GameState.TheVariants.{InPlay, Drawn, Won}
-use Rattle.rules.specs.declared.NextBoard.{NextBoard}
-use Rattle.rules.specs.declared.NextBoard.TheVariants.{Any, Only}
-use Rattle.rules.specs.Board.{side_number, side_from, state_number, drawn, nine}
+use Rattle.rules.specs.Board.{side_number, side_from, state_number, state_from, drawn, nine}
 use Rattle.rules.specs.Position.{Position, unfinished}
 use Rattle.rules.specs.Play.{move_of}
 use Rattle.rules.specs.Moves.{moves}
@@ -27,21 +22,13 @@ use Rattle.game.specs.Built.{new_game, packed}
 use Rattle.decimals.specs.Lists.{list_of}
 use Rattle.replay.specs.declared.totals.Comparison.{Comparison}
 use Rattle.replay.specs.declared.totals.Comparison.TheVariants.{Differs}
-use Rattle.replay.specs.declared.agreement.Agreement.{Agreement}
-use Rattle.replay.specs.Agreement.{same_numbers, compared_all}
+use Rattle.replay.specs.Agreement.{same_numbers, left_of, compared_all}
 use Rattle.replay.specs.Totals.{comparison}
 use Rattle.replay_game.specs.declared.Run.{Run}
 
 -- ---- the question, whatever the numbers are
-unfoldable pub state_of : ℕ → GameState
-state_of n =
-    when eqb n 0 then (λ _. InPlay) else
-    λ _. when eqb n 1 then (λ _. Drawn) else
-    λ _. when eqb n 2 then (λ _. Won X) else
-    λ _. Won O
-
-unfoldable pub next_of : ℕ → NextBoard
-next_of n = when eqb n 255 then (λ _. Any) else λ _. Only (n % 256)
+abbrev pub next_of : ℕ → Option ℕ
+next_of n = cond (eqb n 255) None (Some (n % 256))
 
 -- the numbers from place i on
 abbrev pub row_in : List ℕ → ℕ → Row
@@ -54,7 +41,7 @@ game_in ns i =
     (next_of (get_or ns (i + 1) 0))
     (record { rows = row_in ns (i + 2) ∷ row_in ns (i + 4) ∷ row_in ns (i + 6) ∷ [] })
     (record { x = get_or ns (i + 8) 0 % 2 ^ 16; o = get_or ns (i + 9) 0 % 2 ^ 16 })
-    (state_of (get_or ns (i + 10) 0))
+    (state_from (get_or ns (i + 10) 0))
 
 -- k moves
 abbrev pub moves_from : List ℕ → ℕ → ℕ → List ℕ
@@ -65,9 +52,9 @@ abbrev pub moves_in : List ℕ → ℕ → List ℕ
 moves_in ns i = moves_from ns (i + 1) (get_or ns i 0 % 512)
 
 -- ---- the numbers of a position
-abbrev pub next_number : NextBoard → ℕ
-next_number Any = 255
-next_number (Only b) = b
+abbrev pub next_number : Option ℕ → ℕ
+next_number None = 255
+next_number (Some b) = b
 
 abbrev pub boards_numbers : LocalBoards → List ℕ
 boards_numbers l = (row_of l 0).x ∷ (row_of l 0).o ∷ (row_of l 3).x ∷ (row_of l 3).o ∷ (row_of l 6).x ∷ (row_of l 6).o ∷ []
@@ -143,13 +130,13 @@ comparison_of ns =
 
 -- a line that is no list of numbers differs
 abbrev pub comparison_for : Option (List ℕ) → Comparison
-comparison_for none = Differs
-comparison_for (some ns) = comparison_of ns
+comparison_for None = Differs
+comparison_for (Some ns) = comparison_of ns
 
 abbrev pub outcome_of : List ℕ → Comparison
 outcome_of line = comparison_for (list_of 1024 line)
 
 -- ---- what is promised of the moves that are tried
-pub record Runs (ns : List ℕ) (begun : Agreement) (g : Game) (ms : List ℕ) (r : Run) : Type 0 where
+pub record Runs (begun : Option (List ℕ)) (g : Game) (ms : List ℕ) (r : Run) : Type 0 where
   pub game_is : r.game ≡ games_after g ms
-  pub compared_is : r.compared ≡ compared_all ns begun (answers_each g ms)
+  pub compared_is : left_of r.compared ≡ compared_all begun (answers_each g ms)

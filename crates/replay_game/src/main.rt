@@ -3,57 +3,33 @@
 // The records are made by tools/lists.py, which says what the numbers of a record are.
 #![tactic(auto)]
 
-ghost use Rattle.std.specs.Prelude.{◌≡◌, [], ◌∷◌, not, cond, ◌+◌, ◌%◌, ◌<◌, get_or};
-ghost use Rattle.rules.specs.Board.{side_from};
+ghost use Rattle.std.specs.Prelude.{◌≡◌, [], ◌∷◌, not, ◌+◌, ◌%◌, ◌<◌, get_or};
 ghost use Rattle.rules.specs.Hash.{hash};
 ghost use Rattle.rules.specs.Position.{unfinished};
 ghost use Rattle.boards.specs.Cursor.{moves_left};
 ghost use Rattle.game.specs.Meaning.{position_of};
 ghost use Rattle.game.specs.After.{games_after};
 ghost use Rattle.game.specs.Built.{new_game};
-ghost use Rattle.replay.specs.Agreement.{compared_all, wholly_agrees};
-ghost use Rattle.replay.specs.Totals.{comparison, RecordCounted};
-ghost use Rattle.replay_game.specs.Records.{state_of, next_of, row_in, game_in, moves_from, moves_in};
+ghost use Rattle.replay.specs.Agreement.{left_of, compared_all, wholly_agrees};
+ghost use Rattle.replay.specs.Totals.{comparison};
+ghost use Rattle.replay_game.specs.Records.{next_of, row_in, game_in, moves_from, moves_in};
 ghost use Rattle.replay_game.specs.Records.{next_number, boards_numbers, position_numbers, reached_numbers, moves_numbers};
 ghost use Rattle.replay_game.specs.Records.{play_numbers, cell_number, cells_numbers, states_numbers, looked_numbers};
 ghost use Rattle.replay_game.specs.Records.{equivalence_record, coordinates_record, of_play, of_record, comparison_of};
 ghost use Rattle.replay_game.specs.Records.{outcome_of, Runs};
 
-use boards::{GlobalStates, Listed, LocalBoards, Move, MoveIterator, Row};
-use decimals::Count;
+use boards::{GlobalStates, LocalBoards, Move, MoveIterator, Row};
 use game::Game;
-use input::Input;
-use replay::{Agreement, Comparison, Totals};
-use rules::{CellState, GameState, NextBoard, Player};
+use replay::{Agreement, Comparison, Records};
+use rules::{CellState, GameState, Player};
 
 // The most numbers of a record.
 const MOST: usize = 1024;
 
-fn side_from(n: u64) -> Player
-    ensures { result ≡ side_from n }
-{
-    if n == 0 { Player::X } else { Player::O }
-}
-
-fn state_of(n: u64) -> GameState
-    ensures { result ≡ state_of n }
-{
-    match n {
-        0 => GameState::InPlay,
-        1 => GameState::Drawn,
-        2 => GameState::Won(Player::X),
-        _ => GameState::Won(Player::O),
-    }
-}
-
-fn next_of(n: u64) -> NextBoard
+fn next_of(n: u64) -> Option<u8>
     ensures { result ≡ next_of n }
 {
-    if n == 255 {
-        NextBoard::Any
-    } else {
-        NextBoard::Only((n % 256) as u8)
-    }
+    (n != 255).then_some((n % 256) as u8)
 }
 
 fn row_in(words: &[u64], i: usize) -> Row
@@ -67,6 +43,7 @@ fn row_in(words: &[u64], i: usize) -> Row
 }
 
 // The game of the eleven numbers of a position.
+#[tactic(auto, unfolding(crate::specs::Records::game_in))]
 fn game_in(words: &[u64], i: usize) -> Game
     requires { i < 100 }
     ensures { result ≡ game_in words.now i }
@@ -81,21 +58,18 @@ fn game_in(words: &[u64], i: usize) -> Game
         o: (decimals::at(words, i + 9) % 65536) as u16,
     };
     Game::pack(
-        side_from(decimals::at(words, i)),
+        Player::from_number(decimals::at(words, i)),
         next_of(decimals::at(words, i + 1)),
         LocalBoards { rows },
         states,
-        state_of(decimals::at(words, i + 10)),
+        GameState::from_number(decimals::at(words, i + 10)),
     )
 }
 
-fn next_number(n: NextBoard) -> u64
+fn next_number(n: Option<u8>) -> u64
     ensures { result ≡ next_number n }
 {
-    match n {
-        NextBoard::Any => 255,
-        NextBoard::Only(b) => b as u64,
-    }
+    n.map_or(255, u64::from)
 }
 
 fn cell_number(cell: CellState) -> u64
@@ -103,25 +77,15 @@ fn cell_number(cell: CellState) -> u64
 {
     match cell {
         CellState::Empty => 0,
-        CellState::Played(who) => match who {
-            Player::X => 1,
-            Player::O => 2,
-        },
+        CellState::Played(Player::X) => 1,
+        CellState::Played(Player::O) => 2,
     }
-}
-
-fn number_of(yes: bool) -> u64
-    ensures { result ≡ cond yes 1 0 }
-{
-    if yes { 1 } else { 0 }
 }
 
 fn boards_numbers(boards: LocalBoards) -> [u64; 6]
     ensures { result ≡ boards_numbers boards }
 {
-    let top = boards.rows[0];
-    let middle = boards.rows[1];
-    let bottom = boards.rows[2];
+    let [top, middle, bottom] = boards.rows;
     [
         top.x as u64,
         top.o as u64,
@@ -133,163 +97,148 @@ fn boards_numbers(boards: LocalBoards) -> [u64; 6]
 }
 
 // The numbers of a position.
-fn position(begun: Agreement, words: &[u64], g: Game) -> Agreement
-    ensures { result ≡ compared_all words.now begun (position_numbers g) }
+#[tactic(auto, unfolding(crate::specs::Records::position_numbers))]
+fn position(begun: Agreement<'_>, g: Game) -> Agreement<'_>
+    ensures { left_of result ≡ compared_all (left_of begun.entry) (position_numbers g) }
 {
-    let player = g.next_player;
-    let next = g.next_board;
     let states = g.global_states;
-    let state = g.game_state;
-    let turn = [player.as_bit() as u64, next_number(next)];
+    let turn = [g.next_player.as_bit() as u64, next_number(g.next_board)];
     let boards = boards_numbers(g.local_boards);
-    let overall = [states.x as u64, states.o as u64, state.number()];
-    begun
-        .numbers(words, &turn)
-        .numbers(words, &boards)
-        .numbers(words, &overall)
+    let overall = [states.x as u64, states.o as u64, u64::from(g.game_state)];
+    begun.numbers(&turn).numbers(&boards).numbers(&overall)
 }
 
-// The moves that a record asks.
-fn asked(begun: Agreement, words: &[u64], from: usize, count: usize) -> Agreement
+// The moves that a record asks, by their places: past the record's end they count as 0.
+fn asked<'a>(begun: Agreement<'a>, words: &[u64], from: usize, count: usize) -> Agreement<'a>
     requires { from + count < 1000 }
-    ensures { result ≡ compared_all words.now begun (moves_from words.now from count) }
+    ensures { left_of result ≡ compared_all (left_of begun.entry) (moves_from words.now from count) }
 {
     let mut compared = begun;
-    let mut at = from;
-    let mut left = count;
-    while left > 0 {
-        compared = compared.number(words, decimals::at(words, at) % 256);
-        at += 1;
-        left -= 1;
+    for at in from..from + count {
+        compared = compared.number(decimals::at(words, at) % 256);
     }
     compared
 }
 
 // A game after some moves, with their answers compared.
 #[derive(Clone, Copy)]
-struct Run {
+struct Run<'a> {
     game: Game,
-    compared: Agreement,
+    compared: Agreement<'a>,
 }
 
 // A move tried, and its answer.
-fn tried(run: Run, words: &[u64], n: u64) -> Run
-    ensures { Runs words.now run.compared run.game (n % 256 ∷ []) result }
+#[tactic(auto, unfolding(game::specs::After::answers_each, game::specs::After::games_after), using(crate::proofs::Records::left_or))]
+fn tried(run: Run<'_>, n: u64) -> Run<'_>
+    ensures { Runs (left_of run.entry.compared) run.entry.game (n % 256 ∷ []) result }
 {
-    let before = run.game;
-    let compared = run.compared;
-    let made = before.make_move(Move {
+    let made = run.game.make_move(Move {
         bits: (n % 256) as u8,
     });
-    let answer = made.answer;
-    let game = made.game;
     Run {
-        game,
-        compared: compared.number(words, answer.number()),
+        game: made.unwrap_or(run.game),
+        compared: run.compared.number(rules::number(made)),
     }
 }
 
-fn run_moves(begun: Agreement, words: &[u64], from: usize, count: usize, start: Game) -> Run
+fn run_moves<'a>(
+    begun: Agreement<'a>,
+    words: &[u64],
+    from: usize,
+    count: usize,
+    start: Game,
+) -> Run<'a>
     requires { from + count < 1000 }
-    ensures { Runs words.now begun start (moves_from words.now from count) result }
+    ensures { Runs (left_of begun.entry) start (moves_from words.now from count) result }
 {
     let mut run = Run {
         game: start,
         compared: begun,
     };
-    let mut at = from;
-    let mut left = count;
-    while left > 0 {
-        run = tried(run, words, decimals::at(words, at));
-        at += 1;
-        left -= 1;
+    for at in from..from + count {
+        run = tried(run, decimals::at(words, at));
     }
     run
 }
 
+#[tactic(auto, unfolding(game::specs::Built::packed))]
 fn fresh_hash(g: Game) -> u64
     ensures { result ≡ hash (position_of g) }
 {
-    let player = g.next_player;
-    let next = g.next_board;
-    let boards = g.local_boards;
-    let states = g.global_states;
-    let state = g.game_state;
-    let h = Game::pack(player, next, boards, states, state);
-    h.hash
+    let packed = Game::pack(
+        g.next_player,
+        g.next_board,
+        g.local_boards,
+        g.global_states,
+        g.game_state,
+    );
+    packed.hash
 }
 
 // The numbers of the game after a play.
-fn reached(begun: Agreement, words: &[u64], g: Game) -> Agreement
-    ensures { result ≡ compared_all words.now begun (reached_numbers g) }
+#[tactic(auto, unfolding(crate::specs::Records::reached_numbers))]
+fn reached(begun: Agreement<'_>, g: Game) -> Agreement<'_>
+    ensures { left_of result ≡ compared_all (left_of begun.entry) (reached_numbers g) }
 {
     let boards = boards_numbers(g.local_boards);
     let hashes = [g.hash, fresh_hash(g), g.zobrist()];
     let turn = [
-        g.game_state().number(),
+        u64::from(g.game_state()),
         g.player().as_bit() as u64,
         next_number(g.board_to_play()),
     ];
     let counts = [
         g.bound_depth() as u64,
         g.open_boards() as u64,
-        number_of(g.game_over()),
+        u64::from(g.game_over()),
     ];
     begun
-        .numbers(words, &boards)
-        .numbers(words, &hashes)
-        .numbers(words, &turn)
-        .numbers(words, &counts)
+        .numbers(&boards)
+        .numbers(&hashes)
+        .numbers(&turn)
+        .numbers(&counts)
 }
 
 // The moves that a cursor has left.
-fn listed(begun: Agreement, words: &[u64], list: MoveIterator) -> Agreement
-    ensures { result ≡ compared_all words.now begun (moves_left list) }
+fn listed(begun: Agreement<'_>, list: MoveIterator) -> Agreement<'_>
+    ensures { left_of result ≡ compared_all (left_of begun.entry) (moves_left list) }
 {
     let mut compared = begun;
-    let mut left = list;
-    loop {
-        match left.next() {
-            Listed::End => {
-                return compared;
-            }
-            Listed::Next(m, rest) => {
-                compared = compared.number(words, m.bits as u64);
-                left = rest;
-            }
-        }
+    for m in list {
+        compared = compared.number(u64::from(m.bits));
     }
+    compared
 }
 
-fn moves(begun: Agreement, words: &[u64], g: Game) -> Agreement
-    ensures { result ≡ compared_all words.now begun (moves_numbers (position_of g)) }
+#[tactic(auto, unfolding(crate::specs::Records::moves_numbers), using(game::proofs::MeaningMoves::all_moves_listed))]
+fn moves(begun: Agreement<'_>, g: Game) -> Agreement<'_>
+    ensures { left_of result ≡ compared_all (left_of begun.entry) (moves_numbers (position_of g)) }
 {
-    let counted = begun.number(words, g.legal_moves() as u64);
-    listed(counted, words, g.all_moves())
+    let counted = begun.number(g.legal_moves() as u64);
+    listed(counted, g.all_moves())
 }
 
 // Moves tried from a game: the numbers at `i` are k, the moves, their answers, and those of the game at the end.
-fn play(begun: Agreement, words: &[u64], i: usize, start: Game) -> Comparison
+fn play(begun: Agreement<'_>, words: &[u64], i: usize, start: Game) -> Comparison
     requires { i < 100 }
     ensures { result ≡ comparison
-        (wholly_agrees words.now
-        (compared_all words.now begun (play_numbers start (moves_in words.now i))))
+        (wholly_agrees (compared_all (left_of begun.entry) (play_numbers start (moves_in words.now i))))
         (not (unfinished (position_of (games_after start (moves_in words.now i))))) }
 {
     let count = (decimals::at(words, i) % 512) as usize;
-    let counted = begun.number(words, count as u64);
+    let counted = begun.number(count as u64);
     let asked = asked(counted, words, i + 1, count);
     let run = run_moves(asked, words, i + 1, count, start);
     let end = run.game;
-    let all = moves(reached(run.compared, words, end), words, end);
-    Comparison::of(all.is_whole(words), end.game_over())
+    let all = moves(reached(run.compared, end), end);
+    Comparison::of(all.is_whole(), end.game_over())
 }
 
 // Kind 1: a play from the empty board.
 fn play_from_start(words: &[u64]) -> Comparison
     ensures { result ≡ of_play words.now (1 ∷ []) new_game 1 }
 {
-    play(Agreement::NEW.number(words, 1), words, 1, Game::new())
+    play(Agreement::new(words).number(1), words, 1, Game::new())
 }
 
 // Kind 2: a play from a position.
@@ -298,8 +247,8 @@ fn play_from_position(words: &[u64]) -> Comparison
         (game_in words.now 1) 12 }
 {
     let start = game_in(words, 1);
-    let kind = Agreement::NEW.number(words, 2);
-    play(position(kind, words, start), words, 12, start)
+    let kind = Agreement::new(words).number(2);
+    play(position(kind, start), words, 12, start)
 }
 
 // Kind 3: whether each of two positions is equivalent to the other.
@@ -309,35 +258,33 @@ fn equivalence(words: &[u64]) -> Comparison
 {
     let a = game_in(words, 1);
     let b = game_in(words, 12);
-    let kind = Agreement::NEW.number(words, 3);
-    let positions = position(position(kind, words, a), words, b);
-    let both = [number_of(a.equivalent(b)), number_of(b.equivalent(a))];
-    let all = positions.numbers(words, &both);
-    Comparison::of(all.is_whole(words), false)
+    let kind = Agreement::new(words).number(3);
+    let positions = position(position(kind, a), b);
+    let both = [u64::from(a.equivalent(b)), u64::from(b.equivalent(a))];
+    let all = positions.numbers(&both);
+    Comparison::of(all.is_whole(), false)
 }
 
 // Each cell of each board.
-fn cells(begun: Agreement, words: &[u64], g: Game) -> Agreement
-    ensures { result ≡ compared_all words.now begun (cells_numbers (position_of g)) }
+fn cells(begun: Agreement<'_>, g: Game) -> Agreement<'_>
+    ensures { left_of result ≡ compared_all (left_of begun.entry) (cells_numbers (position_of g)) }
 {
     let mut compared = begun;
     for k in 0..81 {
-        let looked = g.at(k / 9, k % 9);
-        let cell = looked.cell;
-        compared = compared.number(words, cell_number(cell));
+        let cell = g.at(k / 9, k % 9).unwrap_or(CellState::Empty);
+        compared = compared.number(cell_number(cell));
     }
     compared
 }
 
 // The state of each board.
-fn states(begun: Agreement, words: &[u64], g: Game) -> Agreement
-    ensures { result ≡ compared_all words.now begun (states_numbers (position_of g)) }
+fn states(begun: Agreement<'_>, g: Game) -> Agreement<'_>
+    ensures { left_of result ≡ compared_all (left_of begun.entry) (states_numbers (position_of g)) }
 {
     let mut compared = begun;
     for b in 0..9 {
-        let looked = g.board_state(b);
-        let state = looked.state;
-        compared = compared.number(words, state.number());
+        let state = g.board_state(b).unwrap_or(GameState::InPlay);
+        compared = compared.number(u64::from(state));
     }
     compared
 }
@@ -347,11 +294,10 @@ fn look(words: &[u64]) -> Comparison
     ensures { result ≡ of_record words.now (10 ∷ looked_numbers (game_in words.now 1)) }
 {
     let g = game_in(words, 1);
-    let kind = Agreement::NEW.number(words, 10);
-    let looked = states(cells(position(kind, words, g), words, g), words, g);
-    let overall = g.global_states;
-    let all = looked.number(words, overall.drawbits() as u64);
-    Comparison::of(all.is_whole(words), false)
+    let kind = Agreement::new(words).number(10);
+    let looked = states(cells(position(kind, g), g), g);
+    let all = looked.number(g.global_states.drawbits() as u64);
+    Comparison::of(all.is_whole(), false)
 }
 
 // Kind 11: the move of a board and a cell.
@@ -361,10 +307,9 @@ fn coordinates(words: &[u64]) -> Comparison
 {
     let board = decimals::at(words, 1) % 9;
     let cell = decimals::at(words, 2) % 9;
-    let built = Move::from_coords(board as usize, cell as usize);
-    let m = built.m;
-    let all = Agreement::NEW.numbers(words, &[11, board, cell, m.bits() as u64]);
-    Comparison::of(all.is_whole(words), false)
+    let m = Move::from_coords(board as usize, cell as usize).unwrap_or(Move::NONE);
+    let all = Agreement::new(words).numbers(&[11, board, cell, m.bits() as u64]);
+    Comparison::of(all.is_whole(), false)
 }
 
 // What is found of a record, by its kind.
@@ -382,36 +327,33 @@ fn comparison(words: &[u64]) -> Comparison
 }
 
 // What is found of a line. One that is no list of numbers differs.
+#[tactic(auto, using(decimals::proofs::ListsHeld::none_read, decimals::proofs::ListsHeld::some_read))]
 fn outcome(line: &[u8]) -> Comparison
     ensures { result ≡ outcome_of line.now }
 {
     let mut words = [0u64; MOST];
-    let Count::Of(n) = decimals::numbers(line, &mut words) else {
-        return Comparison::Differs;
-    };
-    comparison(&words[..n])
+    match decimals::numbers(line, &mut words) {
+        Some(n) => comparison(&words[..n]),
+        None => Comparison::Differs,
+    }
 }
 
-// The totals with a line's record more.
-fn step(totals: Totals, line: &[u8]) -> Totals
-    ensures { RecordCounted totals (outcome_of line.now) result }
-{
-    totals.count(outcome(line))
+// The records of the list.
+#[derive(Clone, Copy)]
+struct Games;
+
+impl Records for Games {
+    ghost outcome_of = { outcome_of };
+
+    fn outcome(&mut self, line: &[u8]) -> Comparison {
+        outcome(line)
+    }
 }
 
 fn main(rt: HostRuntime) {
-    let stdin = rt.stdin();
-    let mut buffer = io::large_buffer();
-    let mut kept = io::buffer();
-    let mut input = Input::new();
-    let mut totals = Totals::new();
-    while totals.may_go_on() {
-        input = input.next_line(stdin, &mut buffer, &mut kept);
-        if input.no_line_came() {
-            break;
-        }
-        let line = input.line;
-        totals = step(totals, line.whole(&kept));
-    }
-    totals.conclude(b"with document 01's list of moves for the Rust's", input);
+    replay::run(
+        Games,
+        rt.stdin(),
+        b"with document 01's list of moves for the Rust's",
+    );
 }

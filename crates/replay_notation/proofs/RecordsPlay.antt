@@ -15,8 +15,8 @@ use Rattle.game.specs.Built.{new_game}
 use Rattle.game.specs.After.{games_after}
 use Rattle.game.proofs.AfterList.{new_played_means}
 use Rattle.notation.proofs.ParsedRoundTrip.{render_reads_back}
-use Rattle.replay.specs.declared.agreement.Agreement.{Agreement}
-use Rattle.replay.specs.Agreement.{new_agreement, compared_all, wholly_agrees, same_numbers}
+use Rattle.std.specs.Prelude.{Option, Some}
+use Rattle.replay.specs.Agreement.{compared_all, wholly_agrees, same_numbers}
 use Rattle.replay_notation.specs.Records.{with_bytes, play_record, alike, reads_back}
 use Rattle.replay_notation.proofs.RecordsCompared.{answer_compared}
 
@@ -39,8 +39,8 @@ module _ (ms : List ℕ) (n g : Game) (n_is : n ≡ new_game) (g_is : g ≡ game
   pub always_reads_back : (b : Bool) → b ≡ reads_back g → b ≡ true
   always_reads_back b e = e ∙ ap reads_back is_played ∙ played_reads_back ms
 
-  pub play_compared : (ns text : List ℕ) (q a : Agreement) (r : Bool) → text ≡ text_of (position_of g) →
-      q ≡ compared_all ns new_agreement (9 ∷ length ms ∷ ms) → a ≡ compared_all ns q text → r ≡ wholly_agrees ns a →
+  pub play_compared : (ns text : List ℕ) (q a : Option (List ℕ)) (r : Bool) → text ≡ text_of (position_of g) →
+      q ≡ compared_all (Some ns) (9 ∷ length ms ∷ ms) → a ≡ compared_all q text → r ≡ wholly_agrees a →
       r ≡ same_numbers ns (play_record ms)
   play_compared ns text q a r t e f h =
       answer_compared ns 9 ms text q a r e f h ∙ ap (λ (bs : List ℕ). same_numbers ns (with_bytes 9 ms bs))

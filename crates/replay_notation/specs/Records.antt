@@ -1,26 +1,25 @@
 -- Records of texts and of sets of results: what the definitions give for the question that a record holds. tools/lists.py says what the
 -- numbers of each kind are.
 use Rattle.std.specs.Prelude.{Bool, false, cond, ◌&&◌, ◌||◌, List, [], ◌∷◌, ◌++◌, map, ℕ, ◌%◌, eqb, ltb, length, get_or, take}
-use Rattle.std.proofs.Math.Option.{Option, none, some}
+use Rattle.std.specs.Prelude.{Option, Some, None, option_map}
 use Rattle.std.specs.Int.Bits.{bit_and}
 use Rattle.base.specs.Branch.{when◌then◌else◌}
 use Rattle.base.specs.Lists.{from}
 use Rattle.rules.specs.declared.Player.TheVariants.{X, O}
 use Rattle.rules.specs.Board.{state_number}
 use Rattle.rules.specs.Position.{Position, start}
-use Rattle.rules.specs.Play.{reached}
+use Rattle.rules.specs.Play.{no_move, reached}
 use Rattle.rules.specs.Compare.{bound_depth, equivalent}
 use Rattle.rules.specs.Hash.{hash, with_turn, zobrist}
 use Rattle.rules.specs.Status.{as_byte, from_byte}
-use Rattle.status.specs.declared.Read.{Read}
-use Rattle.status.specs.declared.Read.TheVariants.{Set, Nothing}
-use Rattle.status.specs.Sets.{only_draw, read_of, won_byte}
+use Rattle.status.specs.declared.Status.{Status}
+use Rattle.status.specs.Sets.{only_draw, status_of, won_byte}
 use Rattle.text.specs.Reading.{Reading, reads, refuses, read}
 use Rattle.text.specs.Writing.{text_of}
 use Rattle.text.specs.MoveText.{MoveReading, reads_move, bad_length, bad_character, move_refusal, read_move}
 use Rattle.game.specs.declared.Game.{Game}
 use Rattle.game.specs.Meaning.{position_of}
-use Rattle.notation.specs.Parsed.{game_for, move_for}
+use Rattle.notation.specs.Parsed.{game_for}
 use Rattle.decimals.specs.Lists.{list_of}
 use Rattle.replay.specs.declared.totals.Comparison.{Comparison}
 use Rattle.replay.specs.declared.totals.Comparison.TheVariants.{Differs}
@@ -56,6 +55,12 @@ abbrev pub reading_record : List ℕ → Reading → List ℕ
 reading_record text (refuses n offset size) = with_bytes 4 text (n ∷ offset ∷ size ∷ [])
 reading_record text (reads p) = with_bytes 5 text (read_position_numbers p)
 
+-- the move that is read
+abbrev pub move_for : MoveReading → ℕ
+move_for (reads_move m) = m
+move_for bad_length = no_move
+move_for (bad_character c) = no_move
+
 -- the byte that refusal 8 names, 0 else
 abbrev pub named_byte : MoveReading → ℕ
 named_byte (reads_move m) = 0
@@ -69,15 +74,15 @@ abbrev pub move_record : List ℕ → List ℕ
 move_record text = with_bytes 6 text (move_reading_numbers (read_move text))
 
 -- the byte of a set, 0 for none
-abbrev pub set_number : Read → ℕ
-set_number Nothing = 0
-set_number (Set s) = s.bits
+abbrev pub set_number : Option Status → ℕ
+set_number None = 0
+set_number (Some s) = s.bits
 
 abbrev pub byte_record : ℕ → List ℕ
-byte_record b = 7 ∷ b ∷ set_number (read_of (from_byte b)) ∷ []
+byte_record b = 7 ∷ b ∷ set_number (option_map status_of (from_byte b)) ∷ []
 
 abbrev pub merge_record : ℕ → ℕ → List ℕ
-merge_record a b = 8 ∷ a ∷ b ∷ set_number (read_of (from_byte (bit_and a b))) ∷ []
+merge_record a b = 8 ∷ a ∷ b ∷ set_number (option_map status_of (from_byte (bit_and a b))) ∷ []
 
 abbrev pub play_record : List ℕ → List ℕ
 play_record ms = with_bytes 9 ms (text_of (reached start ms))
@@ -111,8 +116,8 @@ comparison_of ns = comparison (same_numbers ns (expected_record ns)) (is_apart n
 
 -- a line that is no list of numbers differs
 abbrev pub comparison_for : Option (List ℕ) → Comparison
-comparison_for none = Differs
-comparison_for (some ns) = comparison_of ns
+comparison_for None = Differs
+comparison_for (Some ns) = comparison_of ns
 
 abbrev pub outcome_of : List ℕ → Comparison
 outcome_of line = comparison_for (list_of 1024 line)

@@ -2,22 +2,21 @@
 // The records are made by tools/lists.py, which says what the numbers of a record are.
 #![tactic(auto)]
 
-ghost use Rattle.std.specs.Prelude.{◌≡◌, ◌∷◌, ◌<◌, ltb, length, get_or};
+ghost use Rattle.std.specs.Prelude.{◌≡◌, ◌∷◌, ◌<◌, Some, ltb, length, get_or};
 ghost use Rattle.text.specs.Reading.{read};
 ghost use Rattle.notation.specs.Parsed.{move_reading_of};
-ghost use Rattle.replay.specs.Agreement.{new_agreement, compared_all, same_numbers};
-ghost use Rattle.replay.specs.Totals.{RecordCounted};
+ghost use Rattle.replay.specs.Agreement.{left_of, compared_all, same_numbers};
 ghost use Rattle.replay_notation.specs.Records.{byte_in, count_in, bytes_from_2, game_numbers, reading_record, named_byte};
 ghost use Rattle.replay_notation.specs.Records.{move_record, set_number, byte_record, merge_record, play_record, won_record};
 ghost use Rattle.replay_notation.specs.Records.{reads_back, expected_record, apart, is_apart, comparison_of, outcome_of};
 
-use decimals::Count;
+use boards::Move;
 use game::Game;
-use input::Input;
-use notation::{MoveTextAnswer, ParseAnswer, ParsedMove};
-use replay::{Agreement, Comparison, Totals};
-use rules::Player;
-use status::{Read, Status};
+use notation::{ErrorKind, ParseMoveError};
+use replay::{Agreement, Comparison, Records};
+use rules::{Player, Refusal};
+use status::Status;
+use std::array;
 
 // The most numbers of a record.
 const MOST: usize = 1024;
@@ -42,106 +41,86 @@ fn count_in(words: &[u64]) -> usize
 fn bytes_from_2(words: &[u64]) -> [u8; 512]
     ensures { result ≡ bytes_from_2 words.now }
 {
-    let mut bytes = [0u8; 512];
-    let mut k: usize = 0;
-    while k < 512 {
-        bytes[k] = byte_in(words, k + 2);
-        k += 1;
-    }
-    bytes
+    array::from_fn(|k| byte_in(words, k + 2))
 }
 
 // ---- the answers, compared
 
 // The kind, and the bytes with their number.
-fn question(words: &[u64], kind: u64, bytes: &[u8]) -> Agreement
-    ensures { result ≡ compared_all words.now new_agreement
+fn question<'a>(words: &'a [u64], kind: u64, bytes: &[u8]) -> Agreement<'a>
+    ensures { left_of result ≡ compared_all (Some words.now)
         (kind ∷ length bytes.now ∷ bytes.now) }
 {
-    let begun = Agreement::NEW.number(words, kind);
-    begun.number(words, bytes.len() as u64).bytes(words, bytes)
+    Agreement::new(words)
+        .number(kind)
+        .number(bytes.len() as u64)
+        .bytes(bytes)
 }
 
 // A game's text, hash, key, state and bound.
-fn add_game(begun: Agreement, words: &[u64], g: Game) -> Agreement
-    ensures { result ≡ compared_all words.now begun (game_numbers g) }
+fn add_game(begun: Agreement<'_>, g: Game) -> Agreement<'_>
+    ensures { left_of result ≡ compared_all (left_of begun.entry) (game_numbers g) }
 {
     let text = notation::render(g);
     begun
-        .bytes(words, &text)
-        .number(words, g.hash)
-        .number(words, g.zobrist())
-        .number(words, g.game_state().number())
-        .number(words, g.bound_depth() as u64)
+        .bytes(&text)
+        .number(g.hash)
+        .number(g.zobrist())
+        .number(u64::from(g.game_state()))
+        .number(g.bound_depth() as u64)
 }
 
 fn same_reading(words: &[u64], text: &[u8]) -> bool
     ensures { result ≡ same_numbers words.now (reading_record text.now (read text.now)) }
 {
-    let parsed = notation::parse(text);
-    let answer = parsed.answer;
-    match answer {
-        ParseAnswer::Refused(e) => {
-            let why = e.why;
-            let begun = question(words, 4, text);
-            begun
-                .number(words, why.number())
-                .number(words, e.offset as u64)
-                .number(words, e.length as u64)
-                .is_whole(words)
-        }
-        ParseAnswer::Accepted => {
-            let begun = question(words, 5, text);
-            add_game(begun, words, parsed.game).is_whole(words)
-        }
+    match notation::parse(text) {
+        Err(e) => question(words, 4, text)
+            .number(e.number())
+            .number(e.offset as u64)
+            .number(e.length as u64)
+            .is_whole(),
+        Ok(game) => add_game(question(words, 5, text), game).is_whole(),
     }
 }
 
 // The byte that a refusal names, 0 where it names none.
-fn named_byte(parsed: ParsedMove) -> u8
-    ensures { result ≡ named_byte (move_reading_of parsed.answer parsed.m.bits) }
+fn named_byte(read: Result<Move, ParseMoveError>) -> u8
+    ensures { result ≡ named_byte (move_reading_of read) }
 {
-    let answer = parsed.answer;
-    match answer {
-        MoveTextAnswer::Read => 0,
-        MoveTextAnswer::BadLength => 0,
-        MoveTextAnswer::BadCharacter(c) => c,
+    match read {
+        Err(ParseMoveError::BadCharacter(c)) => c,
+        _ => 0,
     }
 }
 
 fn same_move(words: &[u64], text: &[u8]) -> bool
     ensures { result ≡ same_numbers words.now (move_record text.now) }
 {
-    let parsed = notation::parse_move(text);
-    let answer = parsed.answer;
-    let m = parsed.m;
-    let begun = question(words, 6, text);
-    begun
-        .number(words, answer.number())
-        .number(words, named_byte(parsed) as u64)
-        .number(words, m.bits as u64)
-        .is_whole(words)
+    let read = notation::parse_move(text);
+    let m = read.unwrap_or(Move::NONE);
+    question(words, 6, text)
+        .number(rules::number(read))
+        .number(u64::from(named_byte(read)))
+        .number(u64::from(m.bits))
+        .is_whole()
 }
 
 // The byte of a set, 0 for none.
-fn set_byte(set: Read) -> u8
+fn set_byte(set: Option<Status>) -> u8
     ensures { result ≡ set_number set }
 {
-    match set {
-        Read::Nothing => 0,
-        Read::Set(s) => s.as_byte(),
-    }
+    set.map_or(0, |s| s.as_byte())
 }
 
 fn same_byte(words: &[u64], byte: u8) -> bool
     ensures { result ≡ same_numbers words.now (byte_record byte) }
 {
     let set = set_byte(Status::from_byte(byte));
-    Agreement::NEW
-        .number(words, 7)
-        .number(words, byte as u64)
-        .number(words, set as u64)
-        .is_whole(words)
+    Agreement::new(words)
+        .number(7)
+        .number(u64::from(byte))
+        .number(u64::from(set))
+        .is_whole()
 }
 
 fn same_merge(words: &[u64], a: u8, b: u8) -> bool
@@ -150,12 +129,12 @@ fn same_merge(words: &[u64], a: u8, b: u8) -> bool
     let s = Status { bits: a };
     let t = Status { bits: b };
     let set = set_byte(s.merge(t));
-    Agreement::NEW
-        .number(words, 8)
-        .number(words, a as u64)
-        .number(words, b as u64)
-        .number(words, set as u64)
-        .is_whole(words)
+    Agreement::new(words)
+        .number(8)
+        .number(u64::from(a))
+        .number(u64::from(b))
+        .number(u64::from(set))
+        .is_whole()
 }
 
 fn same_won(words: &[u64], byte: u8) -> bool
@@ -163,13 +142,13 @@ fn same_won(words: &[u64], byte: u8) -> bool
 {
     let s = Status { bits: byte };
     let draw = Status::draw();
-    Agreement::NEW
-        .number(words, 12)
-        .number(words, byte as u64)
-        .number(words, s.is_won(Player::X) as u64)
-        .number(words, s.is_won(Player::O) as u64)
-        .number(words, draw.as_byte() as u64)
-        .is_whole(words)
+    Agreement::new(words)
+        .number(12)
+        .number(u64::from(byte))
+        .number(u64::from(s.is_won(Player::X)))
+        .number(u64::from(s.is_won(Player::O)))
+        .number(u64::from(draw.as_byte()))
+        .is_whole()
 }
 
 // Whether a game's text is read as a game with the same hash that is equivalent to it.
@@ -177,13 +156,8 @@ fn reads_back(g: Game) -> bool
     ensures { result ≡ reads_back g }
 {
     let text = notation::render(g);
-    let parsed = notation::parse(&text);
-    let h = parsed.game;
-    if h.hash == g.hash {
-        h.equivalent(g)
-    } else {
-        false
-    }
+    let h = notation::parse(&text).unwrap_or(Game::new());
+    h.hash == g.hash && h.equivalent(g)
 }
 
 // The text of a game that is played from the empty board; it reads back.
@@ -193,8 +167,7 @@ fn same_play(words: &[u64], moves: &[u8]) -> bool
     let g = Game::new().play_all(moves);
     if reads_back(g) {
         let text = notation::render(g);
-        let begun = question(words, 9, moves);
-        begun.bytes(words, &text).is_whole(words)
+        question(words, 9, moves).bytes(&text).is_whole()
     } else {
         false
     }
@@ -221,25 +194,20 @@ fn agrees(words: &[u64]) -> bool
 fn is_wide(text: &[u8], i: usize) -> bool
     ensures { result ≡ ltb 127 (get_or text.now i 0) }
 {
-    if i < text.len() { text[i] > 127 } else { false }
+    text.get(i).is_some_and(|b| *b > 127)
 }
 
 // Whether document 01's answer for a text is not the Rust's.
 fn is_text_apart(text: &[u8]) -> bool
     ensures { result ≡ apart text.now (read text.now) }
 {
-    let parsed = notation::parse(text);
-    let answer = parsed.answer;
-    match answer {
-        ParseAnswer::Accepted => false,
-        ParseAnswer::Refused(e) => {
-            let why = e.why;
-            match why.number() {
-                1 => true,
-                5 => is_wide(text, e.offset),
-                _ => false,
-            }
-        }
+    let Err(e) = notation::parse(text) else {
+        return false;
+    };
+    match e.why {
+        ErrorKind::TooLong => true,
+        ErrorKind::BadBoard => is_wide(text, e.offset),
+        _ => false,
     }
 }
 
@@ -266,32 +234,28 @@ fn outcome(line: &[u8]) -> Comparison
     ensures { result ≡ outcome_of line.now }
 {
     let mut words = [0u64; MOST];
-    let Count::Of(n) = decimals::numbers(line, &mut words) else {
+    let Some(n) = decimals::numbers(line, &mut words) else {
         return Comparison::Differs;
     };
     comparison(&words[..n])
 }
 
-// The totals with a line's record more.
-fn step(totals: Totals, line: &[u8]) -> Totals
-    ensures { RecordCounted totals (outcome_of line.now) result }
-{
-    totals.count(outcome(line))
+// The records of the list.
+#[derive(Clone, Copy)]
+struct Texts;
+
+impl Records for Texts {
+    ghost outcome_of = { outcome_of };
+
+    fn outcome(&mut self, line: &[u8]) -> Comparison {
+        outcome(line)
+    }
 }
 
 fn main(rt: HostRuntime) {
-    let stdin = rt.stdin();
-    let mut buffer = io::large_buffer();
-    let mut kept = io::buffer();
-    let mut input = Input::new();
-    let mut totals = Totals::new();
-    while totals.may_go_on() {
-        input = input.next_line(stdin, &mut buffer, &mut kept);
-        if input.no_line_came() {
-            break;
-        }
-        let line = input.line;
-        totals = step(totals, line.whole(&kept));
-    }
-    totals.conclude(b"with document 01's answer for the Rust's", input);
+    replay::run(
+        Texts,
+        rt.stdin(),
+        b"with document 01's answer for the Rust's",
+    );
 }

@@ -1,43 +1,38 @@
 -- The searches of a record one after the other, and a record's line.
+use Rattle.std.specs.Prelude.{Option, None, Some, is_some}
 use mathlib.Core.Path.{◌≡◌, refl, sym, ap, ◌∙◌}
 use mathlib.Core.Bool.{Bool, true, false, not, cond, ◌||◌}
 use mathlib.Core.List.{List}
-use mathlib.Core.Option.{Option, none, some}
 use Prim.Native.Nat.{ℕ, suc, ◌+◌, ◌-◌, ◌*◌, ◌/◌, ◌%◌, ◌<◌, ◌≤◌}
 use native.Mathlib.Omega.{arith}
 use lib.Dec.{eqb, leb}
 use lib.ListN.{replicate}
 use borrow.Author.Tests.{eq-eqb, ne_eqb, le-leb, lt-leb}
+use Rattle.rules.specs.declared.Player.{Player}
 use Rattle.base.specs.Branch.{when◌then◌else◌}
-use Rattle.rules.specs.declared.DrawWinner.{DrawWinner}
 use Rattle.theory.specs.Memory.{Responses}
 use Rattle.theory.specs.Reported.{Reported}
-use Rattle.text.specs.Reading.{known}
+use Rattle.minimax.specs.declared.Minimax.{Minimax}
 use Rattle.minimax.specs.Report.{responses_of}
-use Rattle.decimals.specs.declared.number.Number.{Number}
-use Rattle.decimals.specs.declared.number.Number.TheVariants.{Is, Bad}
 use Rattle.decimals.specs.Numbers.{read_number}
-use Rattle.replay.specs.declared.draws.Draw.{Draw}
-use Rattle.replay.specs.declared.draws.Draw.TheVariants.{To, Bad as Bad-draw}
 use Rattle.replay.specs.declared.totals.Comparison.{Comparison}
 use Rattle.replay.specs.declared.totals.Comparison.TheVariants.{Agrees, Apart, Differs}
 use Rattle.replay.specs.Fields.{field, tabs}
 use Rattle.replay.specs.Draws.{draw_of}
-use Rattle.replay_search.specs.declared.chain.Begun.{Begun}
 use Rattle.replay_search.specs.declared.chain.ChainStep.{ChainStep}
 use Rattle.replay_search.specs.Chains.{begun_of, start_of, search_of, going_on, chain_of, Searched}
 use Rattle.replay_search.specs.Chains.{for_number, for_draw, for_start, run_of, has_searches, outcome_of}
 
 -- ---- one search more
-known_some : (o : Option Reported) → known o ≡ true → (r : Reported) × (o ≡ some r)
-known_some none e = absurd (let z : ◌≡◌ {A = ℕ} 0 1 = cc in omega arith)
-known_some (some r) e = (r, refl)
+known_some : (o : Option Reported) → is_some o ≡ true → (r : Reported) × (o ≡ Some r)
+known_some None e = absurd (let z : ◌≡◌ {A = ℕ} 0 1 = cc in omega arith)
+known_some (Some r) e = (r, refl)
 
-known_none : (o : Option Reported) → known o ≡ false → o ≡ none
-known_none none e = refl
-known_none (some r) e = absurd (let z : ◌≡◌ {A = ℕ} 0 1 = cc in omega arith)
+known_none : (o : Option Reported) → is_some o ≡ false → o ≡ None
+known_none None e = refl
+known_none (Some r) e = absurd (let z : ◌≡◌ {A = ℕ} 0 1 = cc in omega arith)
 
-module _ (line : List ℕ) (w : DrawWinner) (allowance count k : ℕ) (refused : Bool) (rs : Responses) (words : List ℕ) where
+module _ (line : List ℕ) (w : Option Player) (allowance count k : ℕ) (refused : Bool) (rs : Responses) (words : List ℕ) where
   abbrev found : Option Reported
   found = search_of line w allowance k rs words
 
@@ -51,18 +46,18 @@ module _ (line : List ℕ) (w : DrawWinner) (allowance count k : ℕ) (refused :
       let n : count - k ≡ suc (count - (k + 1)) = omega arith in
       ap (λ (i : ℕ). chain_of line w allowance i k refused rs words) n
 
-  module _ (step : ChainStep) (after : List ℕ) (h : k < count) (s : Searched found step after) where
-    pub chain_differs : step.agrees ≡ false → Differs ≡ chain_of line w allowance (count - k) k refused rs words
+  module _ (o : Option ChainStep) (after : List ℕ) (h : k < count) (s : Searched found o after) where
+    pub chain_differs : o ≡ None → Differs ≡ chain_of line w allowance (count - k) k refused rs words
     chain_differs e =
         sym (one_more h ∙ ap (λ (o : Option Reported). going_on line w allowance o (after_search (count - (k + 1))))
-        (known_none found (sym s.agrees_is ∙ e)))
+        (known_none found (sym s.known_is ∙ ap is_some e)))
 
-    pub chain_next : (either : Bool) → step.agrees ≡ true → either ≡ (refused || step.refused) →
+    pub chain_next : (step : ChainStep) → o ≡ Some step → (either : Bool) → either ≡ (refused || step.refused) →
         chain_of line w allowance (count - (k + 1)) (k + 1) either (responses_of step.state.responses) after
         ≡ chain_of line w allowance (count - k) k refused rs words
-    chain_next either e f =
-        let q = known_some found (sym s.agrees_is ∙ e) in
-        let left = s.leaves q.0 q.1 in
+    chain_next step e either f =
+        let q = known_some found (sym s.known_is ∙ ap is_some e) in
+        let left = s.leaves q.0 step q.1 e in
         let n = count - (k + 1) in
         ap (λ (b : Bool). chain_of line w allowance n (k + 1) b (responses_of step.state.responses) after)
         (f ∙ ap (λ (b : Bool). refused || b) left.refused_is)
@@ -78,63 +73,56 @@ module _ (line : List ℕ) (w : DrawWinner) (allowance count k : ℕ) (refused :
       let n : count - k ≡ 0 = omega arith in
       ap (λ (i : ℕ). chain_of line w allowance i k refused rs words) n
 
-pub chain_start : (line : List ℕ) (w : DrawWinner) (allowance count : ℕ) (rs : Responses) (words : List ℕ) →
+pub chain_start : (line : List ℕ) (w : Option Player) (allowance count : ℕ) (rs : Responses) (words : List ℕ) →
     chain_of line w allowance (count - 0) 0 false rs words ≡ chain_of line w allowance count 0 false rs words
 chain_start line w allowance count rs words =
     let n : count - 0 ≡ count = omega arith in
     ap (λ (i : ℕ). chain_of line w allowance i 0 false rs words) n
 
 -- ---- what stands before the searches
-pub begun_some : (b : Begun) (text : List ℕ) → begun_of b ≡ start_of text → b.good ≡ true →
-    start_of text ≡ some (responses_of b.state.responses)
-unfolding when◌then◌else◌
-begun_some b text e g = sym e ∙ rw g
-
-pub begun_not : (b : Begun) (text : List ℕ) → begun_of b ≡ start_of text → b.good ≡ false → start_of text ≡ none
-unfolding when◌then◌else◌
-begun_not b text e g = sym e ∙ rw g
-
 module _ (line : List ℕ) (n size : ℕ) where
-  abbrev from_start : DrawWinner → ℕ → Option Responses → Comparison
+  abbrev from_start : Option Player → ℕ → Option Responses → Comparison
   from_start w allowance o = for_start o (λ rs. chain_of line w allowance n 0 false rs (replicate size 0))
 
-  abbrev from_allowance : DrawWinner → Number → Comparison
+  abbrev from_allowance : Option Player → Option ℕ → Comparison
   from_allowance w a = for_number a (λ allowance. from_start w allowance (start_of (field 3 line)))
 
-  abbrev from_draw : Draw → Comparison
+  abbrev from_draw : Option (Option Player) → Comparison
   from_draw d = for_draw d (λ w. from_allowance w (read_number (field 2 line)))
 
   module _ (text : List ℕ) (at_draw : text ≡ field 1 line) where
-    pub run_no_draw : (d : Draw) → d ≡ draw_of text → d ≡ Bad-draw → Differs ≡ run_of line n size
+    pub run_no_draw : (d : Option (Option Player)) → d ≡ draw_of text → d ≡ None → Differs ≡ run_of line n size
     unfolding run_of
     run_no_draw d e f = sym (ap from_draw (ap draw_of (sym at_draw) ∙ sym e ∙ f))
 
-    module _ (d : Draw) (w : DrawWinner) (e : d ≡ draw_of text) (f : d ≡ To w) where
+    module _ (d : Option (Option Player)) (w : Option Player) (e : d ≡ draw_of text) (f : d ≡ Some w) where
       has_draw : run_of line n size ≡ from_allowance w (read_number (field 2 line))
       unfolding run_of
       has_draw = ap from_draw (ap draw_of (sym at_draw) ∙ sym e ∙ f)
 
-      module _ (text' : List ℕ) (at_allowance : text' ≡ field 2 line) (a : Number) (g : a ≡ read_number text') where
-        pub run_no_allowance : a ≡ Bad → Differs ≡ run_of line n size
+      module _ (text' : List ℕ) (at_allowance : text' ≡ field 2 line) (a : Option ℕ) (g : a ≡ read_number text') where
+        pub run_no_allowance : a ≡ None → Differs ≡ run_of line n size
         run_no_allowance h = sym (has_draw ∙ ap (from_allowance w) (ap read_number (sym at_allowance) ∙ sym g ∙ h))
 
-        module _ (allowance : ℕ) (h : a ≡ Is allowance) (text'' : List ℕ) (at_start : text'' ≡ field 3 line) (b : Begun)
+        module _ (allowance : ℕ) (h : a ≡ Some allowance) (text'' : List ℕ) (at_start : text'' ≡ field 3 line) (b : Option Minimax)
             (begun : begun_of b ≡ start_of text'') where
           has_allowance : run_of line n size ≡ from_start w allowance (start_of (field 3 line))
           has_allowance = has_draw ∙ ap (from_allowance w) (ap read_number (sym at_allowance) ∙ sym g ∙ h)
 
-          pub run_no_start : b.good ≡ false → Differs ≡ run_of line n size
-          run_no_start t = sym (has_allowance ∙ ap (from_start w allowance) (ap start_of (sym at_start) ∙ begun_not b text'' begun t))
+          has_start : run_of line n size ≡ from_start w allowance (begun_of b)
+          has_start = has_allowance ∙ ap (from_start w allowance) (ap start_of (sym at_start) ∙ sym begun)
 
-          pub run_is : (r : Comparison) (words : List ℕ) → b.good ≡ true → words ≡ replicate size 0 →
-              r ≡ chain_of line w allowance n 0 false (responses_of b.state.responses) words → r ≡ run_of line n size
-          run_is r words t z e =
-              e ∙ ap (chain_of line w allowance n 0 false (responses_of b.state.responses)) z
-              ∙ sym (has_allowance ∙ ap (from_start w allowance) (ap start_of (sym at_start) ∙ begun_some b text'' begun t))
+          pub run_no_start : b ≡ None → Differs ≡ run_of line n size
+          run_no_start t = sym (has_start ∙ rw t)
+
+          pub run_is : (m : Minimax) → b ≡ Some m → (r : Comparison) (words : List ℕ) → words ≡ replicate size 0 →
+              r ≡ chain_of line w allowance n 0 false (responses_of m.responses) words → r ≡ run_of line n size
+          run_is m t r words z e =
+              e ∙ ap (chain_of line w allowance n 0 false (responses_of m.responses)) z ∙ sym (has_start ∙ rw t)
 
 -- ---- a line
 module _ (room : ℕ) (line : List ℕ) (t : ℕ) (e : t ≡ tabs line) where
-  abbrev from_entries : Number → Comparison
+  abbrev from_entries : Option ℕ → Comparison
   from_entries a = for_number a (λ entries.
       when leb (entries * 3) room then (λ _. run_of line (tabs line / 3 - 1) (entries * 3)) else λ _. Differs)
 
@@ -154,7 +142,7 @@ module _ (room : ℕ) (line : List ℕ) (t : ℕ) (e : t ≡ tabs line) where
       too_many h = none_found (rw (← e) (rw (eq-eqb (t % 3) 0 thirds, le-leb 2 (t / 3) enough, lt-leb (t / 3) 1000 h)))
 
       module _ (not_too_many : t / 3 ≤ 1000)
-          (text : List ℕ) (at_entries : text ≡ field 0 line) (a : Number) (g : a ≡ read_number text) where
+          (text : List ℕ) (at_entries : text ≡ field 0 line) (a : Option ℕ) (g : a ≡ read_number text) where
         has_all : has_searches line ≡ true
         has_all = rw (← e) (rw (eq-eqb (t % 3) 0 thirds, le-leb 2 (t / 3) enough, le-leb (t / 3) 1000 not_too_many))
 
@@ -162,20 +150,20 @@ module _ (room : ℕ) (line : List ℕ) (t : ℕ) (e : t ≡ tabs line) where
         unfolding outcome_of when◌then◌else◌
         some_found = rw has_all
 
-        is_entries : (b : Number) → a ≡ b → outcome_of room line ≡ from_entries b
+        is_entries : (b : Option ℕ) → a ≡ b → outcome_of room line ≡ from_entries b
         is_entries b h = some_found ∙ ap from_entries (ap read_number (sym at_entries) ∙ sym g ∙ h)
 
-        pub no_entries : a ≡ Bad → Differs ≡ outcome_of room line
-        no_entries h = sym (is_entries Bad h)
+        pub no_entries : a ≡ None → Differs ≡ outcome_of room line
+        no_entries h = sym (is_entries None h)
 
-        module _ (entries : ℕ) (h : a ≡ Is entries) where
+        module _ (entries : ℕ) (h : a ≡ Some entries) where
           pub no_room : room < entries * 3 → Differs ≡ outcome_of room line
           unfolding when◌then◌else◌
-          no_room l = sym (is_entries (Is entries) h ∙ rw (lt-leb (entries * 3) room l))
+          no_room l = sym (is_entries (Some entries) h ∙ rw (lt-leb (entries * 3) room l))
 
           pub is_run : (r : Comparison) → entries * 3 ≤ room → r ≡ run_of line (t / 3 - 1) (entries * 3) →
               r ≡ outcome_of room line
           unfolding when◌then◌else◌
           is_run r l f =
               f ∙ ap (λ (n : ℕ). run_of line (n / 3 - 1) (entries * 3)) e
-              ∙ sym (is_entries (Is entries) h ∙ rw (le-leb (entries * 3) room l))
+              ∙ sym (is_entries (Some entries) h ∙ rw (le-leb (entries * 3) room l))

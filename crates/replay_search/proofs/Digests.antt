@@ -1,15 +1,18 @@
 -- Digests and counts, piece after piece; three digests that FNV's authors give.
 use mathlib.Core.Path.{◌≡◌, refl, sym, ap, ◌∙◌}
-use mathlib.Core.Bool.{Bool, cond}
+use mathlib.Core.Bool.{Bool, true, false, cond, not}
 use mathlib.Core.List.{List, [], ◌∷◌, ◌++◌}
-use Prim.Native.Nat.{ℕ, zero, suc, ◌+◌, ◌-◌, ◌*◌, ◌/◌, ◌%◌, ◌<◌, ◌≤◌}
-use native.Mathlib.Nat.{add-mul-mod_self_right, mod-eq_of_lt}
+use Prim.Native.Nat.{ℕ, zero, suc, ◌+◌, ◌-◌, ◌/◌, ◌%◌, ◌<◌, ◌≤◌}
 use native.Mathlib.Numerals.{add-one}
 use native.Mathlib.Omega.{arith}
 use lib.Dec.{eqb}
-use lib.ListN.{length, get_or, drop, drop_of_length-le, length-map, length-drop, get_or-map}
+use lib.ListN.{length, get_or, drop, drop_of_length-le, length-map, get_or-map}
 use lib.Seq.{drop-cons}
-use Rattle.base.specs.Lists.{count, concat_map}
+use Rattle.std.specs.Prelude.{count_by}
+use Rattle.std.proofs.lemmas.List.Folds.{fold-map}
+use mir.Val.{bool_byte}
+use borrow.Author.Tests.{ne_eqb}
+use Rattle.base.specs.Lists.{concat_map}
 use Rattle.boards.specs.declared.moves.Move.{Move}
 use Rattle.minimax.specs.Report.{bytes_of, byte_of}
 use Rattle.replay_search.specs.Digests.{mixed, mixed_all, digest, low_bytes, entry_count}
@@ -26,31 +29,6 @@ digest_of_a = refl
 digest_of_foobar : digest (0x66 ∷ 0x6f ∷ 0x6f ∷ 0x62 ∷ 0x61 ∷ 0x72 ∷ []) ≡ 0x85944171f73967e8
 unfolding mixed mixed_all
 digest_of_foobar = refl
-
--- ---- times 2^40 + 435, by halves
-module _ (x : ℕ) (fits : x < 18446744073709551616) where
-  abbrev low : ℕ
-  low = x % 4294967296
-
-  abbrev high : ℕ
-  high = x / 4294967296
-
-  abbrev product : ℕ
-  product = low * 435
-
-  abbrev upper : ℕ
-  upper = product / 4294967296 + high * 435 + low % 16777216 * 256
-
-  parts_of : x * 1099511628211 ≡ (upper % 4294967296 * 4294967296 + product % 4294967296)
-      + (upper / 4294967296 + low / 16777216 + high * 256) * 18446744073709551616
-  parts_of = omega arith
-
-  pub times_prime_is : upper % 4294967296 * 4294967296 + product % 4294967296 ≡ x * 1099511628211 % 18446744073709551616
-  times_prime_is =
-      let z = upper % 4294967296 * 4294967296 + product % 4294967296 in
-      let k = upper / 4294967296 + low / 16777216 + high * 256 in
-      let small : z < 18446744073709551616 = omega arith in
-      sym (ap (λ (n : ℕ). n % 18446744073709551616) parts_of ∙ add-mul-mod_self_right z k 18446744073709551616 ∙ mod-eq_of_lt small)
 
 -- ---- bytes of a list
 pub mixed_append : (h : ℕ) (xs ys : List ℕ) → mixed_all h (xs ++ ys) ≡ mixed_all (mixed_all h xs) ys
@@ -106,41 +84,32 @@ module _ (ms : List Move) (i : ℕ) where
   unfolding mixed_all
   moves_end h l = rw (none_left l)
 
-  module _ (f : ℕ → Bool) where
-    pub count_next : (t : Bool) → i < length ms → t ≡ f byte_at →
-        count f (drop i (bytes_of ms)) ≡ cond t 1 0 + count f (drop (i + 1) (bytes_of ms))
-    unfolding count
-    count_next t l e = rw (here l, e)
-
-    pub count_end : length ms ≤ i → count f (drop i (bytes_of ms)) ≡ 0
-    unfolding count
-    count_end l = rw (none_left l)
-
-module _ (f : ℕ → Bool) where
-  pub count_append : (xs ys : List ℕ) → count f (xs ++ ys) ≡ count f xs + count f ys
-  unfolding count
-  count_append [] ys = omega arith
-  count_append (x ∷ xs) ys = omega (arith, count_append xs ys)
+-- ---- how many moves pass a test, by their bytes
+pub bytes_counted : (f : ℕ → Bool) (ms : List Move) → count_by f (bytes_of ms) ≡ count_by (λ m. f m.bits) ms
+bytes_counted f ms = fold-map (λ n m. n + cond (f m) 1 0) byte_of 0 ms
 
 -- ---- entries of a table
-module _ (words : List ℕ) (i : ℕ) where
-  pub entry_next : 2 < length words - i →
-      entry_count (drop i words) ≡ cond (eqb (get_or words (i + 2) 0) 0) 0 1 + entry_count (drop (i + 3) words)
-  unfolding entry_count
-  entry_next h =
-      let a : i < length words = omega arith in
-      let b : suc i < length words = omega arith in
-      let d : suc (suc i) < length words = omega arith in
-      let two : i + 2 ≡ suc (suc i) = omega arith in
-      let three : i + 3 ≡ suc (suc (suc i)) = omega arith in
-      rw (two, three, drop-cons words i 0 a, drop-cons words (suc i) 0 b, drop-cons words (suc (suc i)) 0 d)
+is_valid : (third : ℕ) → cond (eqb third 0) 0 1 ≡ bool_byte (not (eqb third 0))
+is_valid zero = refl
+is_valid (suc n) = let e : eqb (suc n) 0 ≡ false = ne_eqb (suc n) 0 (λ q. omega arith) in rw e
 
-  short : (xs : List ℕ) → length xs ≤ 2 → entry_count xs ≡ 0
-  unfolding entry_count
-  short [] h = refl
-  short (a ∷ []) h = refl
-  short (a ∷ b ∷ []) h = refl
-  short (a ∷ b ∷ d ∷ xs) h = absurd (omega arith)
+pub truth_below_2 : (b : Bool) → bool_byte b < 2
+truth_below_2 true = omega arith
+truth_below_2 false = omega arith
 
-  pub entries_end : length words - i ≤ 2 → entry_count (drop i words) ≡ 0
-  entries_end h = short (drop i words) (rw length-drop (omega arith))
+pub entry_next : (words entry rest : List ℕ) → words ≡ entry ++ rest → length entry ≡ 3 →
+    (entry_count words ≡ bool_byte (not (eqb (get_or entry 2 0) 0)) + entry_count rest) × (length words ≡ 3 + length rest)
+unfolding entry_count
+entry_next words [] rest e h = absurd (omega arith)
+entry_next words (a ∷ []) rest e h = absurd (omega arith)
+entry_next words (a ∷ b ∷ []) rest e h = absurd (omega arith)
+entry_next words (a ∷ b ∷ d ∷ []) rest e h =
+    (rw e (ap (λ (n : ℕ). n + entry_count rest) (is_valid d)), rw e (omega arith))
+entry_next words (a ∷ b ∷ d ∷ x ∷ xs) rest e h = absurd (omega arith)
+
+pub entries_end : (words : List ℕ) → length words < 3 → entry_count words ≡ 0
+unfolding entry_count
+entries_end [] h = refl
+entries_end (a ∷ []) h = refl
+entries_end (a ∷ b ∷ []) h = refl
+entries_end (a ∷ b ∷ d ∷ words) h = absurd (omega arith)

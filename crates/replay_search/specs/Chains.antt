@@ -1,30 +1,25 @@
 -- A record's line: fields parted by tabs, which are the table's entries, the draw winner, the allowance, the responses at the start, and
 -- three for each search: the position's text, the depth, the numbers. Each search begins with the memory that the one before left.
 use Rattle.std.specs.Prelude.{◌≡◌, Bool, false, not, cond, ◌&&◌, ◌||◌, List, [], ◌∷◌, ℕ, zero, suc, ◌+◌, ◌-◌, ◌*◌, ◌/◌}
-use Rattle.std.specs.Prelude.{◌%◌, eqb, leb, length, replicate}
-use Rattle.std.proofs.Math.Option.{Option, none, some}
+use Rattle.std.specs.Prelude.{◌%◌, eqb, leb, length, replicate, Option, Some, None, is_some, option_map}
 use Rattle.base.specs.Branch.{when◌then◌else◌}
+use Rattle.rules.specs.declared.Player.{Player}
 use Rattle.rules.specs.Board.{side_from}
-use Rattle.rules.specs.declared.DrawWinner.{DrawWinner}
 use Rattle.rules.specs.Position.{Position}
 use Rattle.rules.specs.Evaluation.{default_weights, scoring_with}
 use Rattle.theory.specs.Memory.{Responses, no_responses, with_response}
 use Rattle.theory.specs.Reported.{Settings, Reported, reported}
 use Rattle.rules_game.specs.RulesGame.{game}
-use Rattle.text.specs.Reading.{Reading, reads, refuses, read, known}
+use Rattle.text.specs.Reading.{Reading, reads, refuses, read}
+use Rattle.minimax.specs.declared.Minimax.{Minimax}
 use Rattle.minimax.specs.Report.{responses_of}
-use Rattle.decimals.specs.declared.number.Number.{Number}
-use Rattle.decimals.specs.declared.number.Number.TheVariants.{Is, Bad}
 use Rattle.decimals.specs.Numbers.{read_number}
 use Rattle.decimals.specs.Lists.{list_of}
-use Rattle.replay.specs.declared.draws.Draw.{Draw}
-use Rattle.replay.specs.declared.draws.Draw.TheVariants.{To, Bad as Bad-draw}
 use Rattle.replay.specs.declared.totals.Comparison.{Comparison}
 use Rattle.replay.specs.declared.totals.Comparison.TheVariants.{Agrees, Apart, Differs}
 use Rattle.replay.specs.Fields.{field, tabs}
 use Rattle.replay.specs.Draws.{draw_of}
 use Rattle.replay.specs.Agreement.{same_numbers}
-use Rattle.replay_search.specs.declared.chain.Begun.{Begun}
 use Rattle.replay_search.specs.declared.chain.ChainStep.{ChainStep}
 use Rattle.replay_search.specs.Records.{search_numbers}
 
@@ -40,35 +35,35 @@ with_responses rs (side ∷ prev ∷ []) = rs
 with_responses rs (side ∷ prev ∷ m ∷ ns) = with_responses (with_response rs (side_from side) (prev % 256) (m % 256)) ns
 
 abbrev pub from_triples : Option (List ℕ) → Option Responses
-from_triples none = none
-from_triples (some ns) = when eqb (length ns % 3) 0 then (λ _. some (with_responses no_responses ns)) else λ _. none
+from_triples None = None
+from_triples (Some ns) = when eqb (length ns % 3) 0 then (λ _. Some (with_responses no_responses ns)) else λ _. None
 
 -- none are given by an empty field
 unfoldable pub start_of : List ℕ → Option Responses
-start_of [] = some no_responses
+start_of [] = Some no_responses
 start_of (b ∷ bs) = from_triples (list_of most_numbers (b ∷ bs))
 
-abbrev pub begun_of : Begun → Option Responses
-begun_of b = when b.good then (λ _. some (responses_of b.state.responses)) else λ _. none
+abbrev pub begun_of : Option Minimax → Option Responses
+begun_of b = option_map (λ (m : Minimax). responses_of m.responses) b
 
 -- ---- one search
 -- what is reported, if the numbers say the same
 unfoldable pub matching : List ℕ → Reported → Option Reported
-matching ns r = when same_numbers ns (search_numbers r) then (λ _. some r) else λ _. none
+matching ns r = when same_numbers ns (search_numbers r) then (λ _. Some r) else λ _. None
 
-abbrev pub matching_search : Reading → Number → Option (List ℕ) → (Position → ℕ → Reported) → Option Reported
-matching_search (refuses n offset size) depth ns search = none
-matching_search (reads p) Bad ns search = none
-matching_search (reads p) (Is depth) none search = none
-matching_search (reads p) (Is depth) (some ns) search = matching ns (search p depth)
+abbrev pub matching_search : Reading → Option ℕ → Option (List ℕ) → (Position → ℕ → Reported) → Option Reported
+matching_search (refuses n offset size) depth ns search = None
+matching_search (reads p) None ns search = None
+matching_search (reads p) (Some depth) None search = None
+matching_search (reads p) (Some depth) (Some ns) search = matching ns (search p depth)
 
 -- a record's search, with its draw winner and allowance and the default weights
-abbrev pub record_search : DrawWinner → ℕ → Responses → List ℕ → Position → ℕ → Reported
+abbrev pub record_search : Option Player → ℕ → Responses → List ℕ → Position → ℕ → Reported
 record_search w allowance rs words p depth =
     let c : Settings = record { max_depth = depth; allowance = allowance; weights = default_weights } in
     reported (game (scoring_with w default_weights)) c p rs words
 
-module _ (line : List ℕ) (w : DrawWinner) (allowance : ℕ) where
+module _ (line : List ℕ) (w : Option Player) (allowance : ℕ) where
   -- search k, from the memory before it: what is reported, if all can be read and the record says the same
   unfoldable pub search_of : ℕ → Responses → List ℕ → Option Reported
   search_of k rs words =
@@ -76,8 +71,8 @@ module _ (line : List ℕ) (w : DrawWinner) (allowance : ℕ) where
       (record_search w allowance rs words)
 
   abbrev pub going_on : Option Reported → (Reported → Comparison) → Comparison
-  going_on none next = Differs
-  going_on (some r) next = next r
+  going_on None next = Differs
+  going_on (Some r) next = next r
 
   -- n searches from search k on. A refused one, 15 to 18, has document 01's answer
   unfoldable pub chain_of : ℕ → ℕ → Bool → Responses → List ℕ → Comparison
@@ -91,22 +86,22 @@ pub record Left (r : Reported) (step : ChainStep) (words : List ℕ) : Type 0 wh
   pub responses_are : responses_of step.state.responses ≡ r.responses
   pub table_is : words ≡ r.table
 
-pub record Searched (found : Option Reported) (step : ChainStep) (words : List ℕ) : Type 0 where
-  pub agrees_is : step.agrees ≡ known found
-  pub leaves : (r : Reported) → found ≡ some r → Left r step words
+pub record Searched (found : Option Reported) (step : Option ChainStep) (words : List ℕ) : Type 0 where
+  pub known_is : is_some step ≡ is_some found
+  pub leaves : (r : Reported) (s : ChainStep) → found ≡ Some r → step ≡ Some s → Left r s words
 
 -- ---- a line
-abbrev pub for_number : Number → (ℕ → Comparison) → Comparison
-for_number Bad next = Differs
-for_number (Is n) next = next n
+abbrev pub for_number : Option ℕ → (ℕ → Comparison) → Comparison
+for_number None next = Differs
+for_number (Some n) next = next n
 
-abbrev pub for_draw : Draw → (DrawWinner → Comparison) → Comparison
-for_draw Bad-draw next = Differs
-for_draw (To w) next = next w
+abbrev pub for_draw : Option (Option Player) → (Option Player → Comparison) → Comparison
+for_draw None next = Differs
+for_draw (Some w) next = next w
 
 abbrev pub for_start : Option Responses → (Responses → Comparison) → Comparison
-for_start none next = Differs
-for_start (some rs) next = next rs
+for_start None next = Differs
+for_start (Some rs) next = next rs
 
 -- n searches, with a table of so many words, all 0
 unfoldable pub run_of : List ℕ → ℕ → ℕ → Comparison

@@ -1,7 +1,7 @@
 -- Digests of bytes (FNV-1a, 64 bits), and what is counted of a memory.
-use Rattle.std.specs.Prelude.{not, cond, List, [], ◌∷◌, ◌++◌, ℕ, zero, suc, ◌+◌, ◌*◌, ◌/◌, ◌%◌, ◌^◌, eqb}
+use Rattle.std.specs.Prelude.{not, cond, List, [], ◌∷◌, ◌++◌, ℕ, zero, suc, ◌+◌, ◌*◌, ◌/◌, ◌%◌, ◌^◌, count_by, eqb}
 use Rattle.std.specs.Int.Bits.{bit_xor}
-use Rattle.base.specs.Lists.{count, concat_map}
+use Rattle.base.specs.Lists.{concat_map}
 use Rattle.rules.specs.Play.{no_move}
 use Rattle.theory.specs.Memory.{Responses}
 
@@ -26,7 +26,7 @@ abbrev pub responses_digest : Responses → ℕ
 responses_digest rs = digest (rs.to_x ++ rs.to_o)
 
 abbrev pub response_count : Responses → ℕ
-response_count rs = count (λ m. not (eqb m no_move)) (rs.to_x ++ rs.to_o)
+response_count rs = count_by (λ m. not (eqb m no_move)) (rs.to_x ++ rs.to_o)
 
 -- ---- the table: three words to an entry, of which the third is 0 where there is none
 abbrev pub table_digest : List ℕ → ℕ

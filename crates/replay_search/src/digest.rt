@@ -1,6 +1,5 @@
 // What the driver around the Rust prints of a memory: digests (FNV-1a, 64 bits), and how many responses and entries there are.
-ghost use Rattle.std.specs.Prelude.{◌≡◌, not, ◌*◌, ◌%◌, ◌^◌, ◌≤◌, eqb};
-ghost use Rattle.base.specs.Lists.{count};
+ghost use Rattle.std.specs.Prelude.{◌≡◌, not, ◌*◌, ◌%◌, ◌^◌, ◌≤◌, count_by, eqb};
 ghost use Rattle.rules.specs.Play.{no_move};
 ghost use Rattle.minimax.specs.Report.{bytes_of, responses_of};
 ghost use Rattle.replay_search.specs.Digests.{mixed, mixed_all, low_bytes, responses_digest, response_count};
@@ -24,6 +23,7 @@ fn times_prime(x: u64) -> u64
     (upper % HALF) * HALF + product % HALF
 }
 
+#[tactic(auto, unfolding(crate::specs::Digests::mixed))]
 fn mixed(h: u64, b: u8) -> u64
     ensures { result ≡ mixed h b }
 {
@@ -36,11 +36,9 @@ fn mixed_word(h: u64, word: u64) -> u64
 {
     let mut digest = h;
     let mut left = word;
-    let mut k: usize = 8;
-    while k > 0 {
+    for _ in 0..8u64 {
         digest = mixed(digest, (left % 256) as u8);
         left /= 256;
-        k -= 1;
     }
     digest
 }
@@ -49,8 +47,7 @@ fn mixed_moves(h: u64, moves: [Move; 256]) -> u64
     ensures { result ≡ mixed_all h (bytes_of moves) }
 {
     let mut digest = h;
-    for i in 0..256 {
-        let m = moves[i];
+    for m in &moves {
         digest = mixed(digest, m.bits);
     }
     digest
@@ -69,26 +66,17 @@ pub fn of_table(words: &[u64]) -> u64
     ensures { result ≡ table_digest words.now }
 {
     let mut digest = START;
-    let mut i: usize = 0;
-    while i < words.len() {
-        digest = mixed_word(digest, words[i]);
-        i += 1;
+    for word in words {
+        digest = mixed_word(digest, *word);
     }
     digest
 }
 
 // How many of a side's moves have a response.
 fn responses_to(moves: [Move; 256]) -> usize
-    ensures { (result ≡ count (λ m. not (eqb m no_move)) (bytes_of moves)) × (result ≤ 256) }
+    ensures { (result ≡ count_by (λ m. not (eqb m.bits no_move)) moves) × (result ≤ 256) }
 {
-    let mut n: usize = 0;
-    for i in 0..256 {
-        let m = moves[i];
-        if m.is_some() {
-            n += 1;
-        }
-    }
-    n
+    moves.iter().filter(|m| m.is_some()).count()
 }
 
 // How many moves have a response.
@@ -106,12 +94,8 @@ pub fn entry_count(words: &[u64]) -> u64
     ensures { result ≡ entry_count words.now }
 {
     let mut n: u64 = 0;
-    let mut i: usize = 0;
-    while words.len() - i > 2 {
-        if words[i + 2] != 0 {
-            n += 1;
-        }
-        i += 3;
+    for entry in words.chunks_exact(3) {
+        n += u64::from(entry[2] != 0);
     }
     n
 }

@@ -2,15 +2,17 @@
 // digest and the number of the responses and of the table's entries, the line, and eight numbers of each depth (tools/lists.py).
 ghost use Rattle.std.specs.Prelude.{◌≡◌, map, nat_abs, take};
 ghost use Rattle.minimax.specs.Report.{ending_number, ending_stopped, bytes_of, stats_of, report_of};
-ghost use Rattle.replay.specs.Agreement.{same_numbers, compared_all};
+ghost use Rattle.replay.specs.Agreement.{same_numbers, left_of, compared_all};
 ghost use Rattle.replay_search.specs.Records.{sign, ending, head_numbers, depth_numbers, depths_numbers, search_numbers};
 
 use crate::digest;
 use boards::{Move, PLACES};
 use minimax::{Ending, Report, Stats};
 use replay::Agreement;
+use rules::Refusal;
 
 // 1 where the allowance stopped the search.
+#[tactic(auto, using(crate::proofs::Records::whole_ending, crate::proofs::Records::stopped_ending, crate::proofs::Records::refusal_number))]
 fn ending_number(e: Ending) -> u64
     ensures { result ≡ ending (ending_number e) (ending_stopped e) }
 {
@@ -25,7 +27,7 @@ fn ending_number(e: Ending) -> u64
 fn sign(score: i64) -> u64
     ensures { result ≡ sign score }
 {
-    if score < 0 { 1 } else { 0 }
+    u64::from(score < 0)
 }
 
 fn size(score: i64) -> u64
@@ -73,35 +75,23 @@ fn head_numbers(found: Report, table: &[u64]) -> [u64; 9]
 }
 
 // The line's first moves, as many as the depth.
-fn with_line(begun: Agreement, numbers: &[u64], depth: u64, line: [Move; PLACES]) -> Agreement
-    ensures { result ≡ compared_all numbers.now begun (take depth (bytes_of line)) }
+fn with_line(begun: Agreement<'_>, depth: u64, line: [Move; PLACES]) -> Agreement<'_>
+    ensures { left_of result ≡ compared_all (left_of begun.entry) (take depth (bytes_of line)) }
 {
     let mut so_far = begun;
-    let mut i: usize = 0;
-    while i < PLACES {
-        if depth <= i as u64 {
-            return so_far;
-        }
-        let m = line[i];
-        so_far = so_far.number(numbers, m.bits as u64);
-        i += 1;
+    for m in line.iter().take(depth as usize) {
+        so_far = so_far.number(u64::from(m.bits));
     }
     so_far
 }
 
 // The stats of the first depths, as many as the depth.
-fn with_stats(begun: Agreement, numbers: &[u64], depth: u64, stats: [Stats; PLACES]) -> Agreement
-    ensures { result ≡ compared_all numbers.now begun (depths_numbers (take depth (map stats_of stats))) }
+fn with_stats(begun: Agreement<'_>, depth: u64, stats: [Stats; PLACES]) -> Agreement<'_>
+    ensures { left_of result ≡ compared_all (left_of begun.entry) (depths_numbers (take depth (map stats_of stats))) }
 {
     let mut so_far = begun;
-    let mut i: usize = 0;
-    while i < PLACES {
-        if depth <= i as u64 {
-            return so_far;
-        }
-        let of_depth = depth_numbers(stats[i]);
-        so_far = so_far.numbers(numbers, &of_depth);
-        i += 1;
+    for s in stats.iter().take(depth as usize) {
+        so_far = so_far.numbers(&depth_numbers(*s));
     }
     so_far
 }
@@ -114,12 +104,7 @@ pub fn agrees(numbers: &[u64], found: Report, table: &[u64]) -> bool
     let depth = found.depth;
     let line = found.pv;
     let stats = found.stats;
-    let begun = Agreement::NEW.numbers(numbers, &head);
-    let so_far = with_stats(
-        with_line(begun, numbers, depth, line),
-        numbers,
-        depth,
-        stats,
-    );
-    so_far.is_whole(numbers)
+    let begun = Agreement::new(numbers).numbers(&head);
+    let so_far = with_stats(with_line(begun, depth, line), depth, stats);
+    so_far.is_whole()
 }

@@ -20,11 +20,11 @@ returns-in_default c =
 
 pub slice_bounds-comparison-end : goal.slice_bounds-comparison-end
 slice_bounds-comparison-end c =
-    let fits : c.in-Of.n ≤ length c.numbers.new.words = omega (arith, read_fits _ _ _ _ c.numbers.ensures _ c.in-Of.is) in
+    let fits : c.in-Some.n ≤ length c.numbers.new.words = omega (arith, read_fits _ _ _ _ c.numbers.ensures _ c.in-Some.is) in
     sym (length-take-le _ _ fits)
 
 pub returns : goal.returns
 returns c =
     c.comparison.ensures ∙ two_found _ _ _ c.field-2.ensures
     (eq-eqb _ 1 (sym c.tabs.ensures ∙ c.if-tabs-ne1.false))
-    (ap (list_of 256) (sym c.field.ensures) ∙ some_read _ _ _ _ c.numbers.ensures _ c.in-Of.is)
+    (ap (list_of 256) (sym c.field.ensures) ∙ some_read _ _ _ _ c.numbers.ensures _ c.in-Some.is)

@@ -1,13 +1,10 @@
 use mathlib.Core.Path.{◌≡◌}
-use Prim.Native.Nat.{◌+◌, ◌<◌}
-use Rattle.replay.specs.Agreement.{compared_all}
+use Prim.Native.Nat.{◌+◌, ◌-◌}
+use Rattle.replay.specs.Agreement.{left_of, compared_all}
 use Rattle.replay_game.specs.Records.{moves_from}
 use Rattle.replay_game.proofs.asked.Given as goal
 
-abbrev pub invariant-loop-left : goal.invariant-loop-left
-invariant-loop-left l =
-    (l.at + l.left < 1000) × (compared_all l.words l.compared (moves_from l.words l.at l.left) ≡
-    compared_all l.words l.initial.compared (moves_from l.words l.initial.at l.initial.left))
-
-abbrev pub decreases-loop-left : goal.decreases-loop-left
-decreases-loop-left l = l.left
+abbrev pub invariant-loop-at : goal.invariant-loop-at
+invariant-loop-at l =
+    compared_all (left_of l.compared) (moves_from l.words l.at (l.from + l.count - l.at)) ≡
+    compared_all (left_of l.fn.begun) (moves_from l.words l.from l.count)

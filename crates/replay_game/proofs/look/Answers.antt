@@ -3,7 +3,7 @@ use mathlib.Core.List.{[], ◌∷◌, ◌++◌}
 use Rattle.base.specs.Bits.{digits}
 use Rattle.rules.specs.Board.{drawn}
 use Rattle.game.specs.Meaning.{position_of}
-use Rattle.replay.specs.Agreement.{new_agreement}
+use Rattle.replay.specs.Agreement.{left_of}
 use Rattle.replay_game.specs.Records.{position_numbers, cells_numbers, states_numbers, looked_numbers}
 use Rattle.replay_game.proofs.Records.{joined, whole_record}
 use Rattle.replay_game.proofs.look.Goals as goal
@@ -14,16 +14,16 @@ returns c =
     let g = c.game_in-g.result in
     let p = position_of g in
     let last = digits (λ b. drawn (p.states b)) 9 ∷ [] in
-    let k = c.number-kind.result in
-    let one = c.position.result in
-    let two = c.cells.result in
-    let three = c.states-looked.result in
-    let r = c.number-all.result in
-    let all = joined ns new_agreement k r (10 ∷ []) (position_numbers g ++ (cells_numbers p ++ (states_numbers p ++ last)))
+    let k = left_of c.number-kind.result in
+    let one = left_of c.position.result in
+    let two = left_of c.cells.result in
+    let three = left_of c.states-looked.result in
+    let r = left_of c.number-all.result in
+    let all = joined (left_of c.new.result) k r (10 ∷ []) (position_numbers g ++ (cells_numbers p ++ (states_numbers p ++ last)))
     c.number-kind.ensures
-    (joined ns k one r (position_numbers g) (cells_numbers p ++ (states_numbers p ++ last)) c.position.ensures
-    (joined ns one two r (cells_numbers p) (states_numbers p ++ last) c.cells.ensures
-    (joined ns two three r (states_numbers p) last c.states-looked.ensures
+    (joined k one r (position_numbers g) (cells_numbers p ++ (states_numbers p ++ last)) c.position.ensures
+    (joined one two r (cells_numbers p) (states_numbers p ++ last) c.cells.ensures
+    (joined two three r (states_numbers p) last c.states-looked.ensures
     (rw (c.number-all.ensures, c.drawbits.ensures))))) in
     rw (← c.game_in-g.ensures)
-    (whole_record ns (10 ∷ looked_numbers g) r c.is_whole.result _ all c.is_whole.ensures c.of.ensures)
+    (whole_record ns (10 ∷ looked_numbers g) r c.is_whole.result _ (rw c.new.ensures at all) c.is_whole.ensures c.of.ensures)

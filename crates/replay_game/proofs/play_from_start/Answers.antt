@@ -6,5 +6,5 @@ use Rattle.replay_game.proofs.play_from_start.Goals as goal
 
 pub returns : goal.returns
 returns c =
-    whole_play c.args.words.now (1 ∷ []) c.number.result new_game c.new.result 1 _
-    c.number.ensures c.new.ensures c.play.ensures
+    whole_play c.args.words.now (1 ∷ []) _ new_game c.new-2.result 1 _
+    (rw c.new.ensures at c.number.ensures) c.new-2.ensures c.play.ensures

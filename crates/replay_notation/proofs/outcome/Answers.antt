@@ -11,4 +11,4 @@ returns-in_default c =
 pub returns : goal.returns
 returns c =
     c.comparison.ensures ∙ sym
-    (ap comparison_for (some_read c.args.line.now _ _ _ c.numbers.ensures _ c.in-Of.is))
+    (ap comparison_for (some_read c.args.line.now _ _ _ c.numbers.ensures _ c.in-Some.is))

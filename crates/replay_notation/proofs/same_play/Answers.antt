@@ -8,7 +8,7 @@ pub returns-then-reads_back : goal.returns-then-reads_back
 returns-then-reads_back c =
     let a = c.args in
     play_compared a.moves.now _ _ c.new.ensures c.play_all-g.ensures a.words.now _ _ _ _
-    c.render-text.ensures c.question-begun.ensures c.bytes.ensures c.is_whole.ensures
+    c.render-text.ensures c.question.ensures c.bytes.ensures c.is_whole.ensures
 
 pub returns-else-reads_back : goal.returns-else-reads_back
 returns-else-reads_back c =

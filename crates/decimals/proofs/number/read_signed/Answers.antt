@@ -1,20 +1,28 @@
--- The three ways of a text: nothing, a minus before a number, a number.
-use mathlib.Core.Path.{ap, ◌∙◌}
+-- A minus before the digits, or none; and whether they are a number.
+use mathlib.Core.Path.{◌∙◌}
+use Rattle.std.specs.Prelude.{None}
 use Rattle.decimals.specs.Numbers.{positive_of, negative_of}
-use Rattle.decimals.proofs.NumbersDigits.{signed_none, signed_minus, signed_plus}
+use Rattle.decimals.proofs.NumbersDigits.{signed_minus, signed_plus}
 use Rattle.decimals.proofs.number.read_signed.Goals as goal
 
-pub returns-then-text-eq0 : goal.returns-then-text-eq0
-returns-then-text-eq0 c = signed_none c.args.text.now c.if-text-eq0.true
+pub returns-in_err-read_number-in-Some : goal.returns-in_err-read_number-in-Some
+unfolding negative_of
+returns-in_err-read_number-in-Some c =
+    let m = c.in-Some.ensures.cases in
+    c.from_residual.ensures ∙ signed_minus c.args.text.now _ None m.0 m.1 c.in_err-read_number-in-Some.ensures
 
-pub returns-then-text-eq45 : goal.returns-then-text-eq45
-returns-then-text-eq45 c =
-    c.minus.ensures ∙ ap negative_of c.read_number.ensures
-    ∙ signed_minus c.args.text.now
-    c.if-text-eq0.false c.if-text-eq45.true
+pub returns-in_err-read_number-in-None : goal.returns-in_err-read_number-in-None
+unfolding positive_of
+returns-in_err-read_number-in-None c =
+    c.from_residual-in_err-read_number-in-None.ensures
+    ∙ signed_plus c.args.text.now None c.in-None.ensures.cases c.in_err-read_number-in-None.ensures
 
-pub returns : goal.returns
-returns c =
-    c.plus.ensures ∙ ap positive_of c.read_number-2.ensures
-    ∙ signed_plus c.args.text.now c.if-text-eq0.false
-    c.if-text-eq45.false
+pub returns-in_ok-read_number-in-Some : goal.returns-in_ok-read_number-in-Some
+returns-in_ok-read_number-in-Some c =
+    let m = c.in-Some.ensures.cases in
+    c.with_sign.ensures ∙ signed_minus c.args.text.now _ _ m.0 m.1 c.in_ok-read_number-in-Some.ensures
+
+pub returns-in_ok-read_number-in-None : goal.returns-in_ok-read_number-in-None
+returns-in_ok-read_number-in-None c =
+    c.with_sign-in-None.ensures
+    ∙ signed_plus c.args.text.now _ c.in-None.ensures.cases c.in_ok-read_number-in-None.ensures

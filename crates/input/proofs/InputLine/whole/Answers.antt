@@ -4,10 +4,10 @@ use Rattle.base.specs.Branch.{when◌then◌else◌}
 use Rattle.input.specs.Lines.{complete_line}
 use Rattle.input.proofs.InputLine.whole.Goals as goal
 
-pub returns-then-n-kept : goal.returns-then-n-kept
+pub returns-then-self-kept : goal.returns-then-self-kept
 unfolding complete_line when◌then◌else◌
-returns-then-n-kept c = rw (le-leb _ _ c.if-n-kept.true)
+returns-then-self-kept c = rw (le-leb _ _ c.if-self-kept.true)
 
-pub returns-else-n-kept : goal.returns-else-n-kept
+pub returns-else-self-kept : goal.returns-else-self-kept
 unfolding complete_line when◌then◌else◌
-returns-else-n-kept c = rw (lt-leb _ _ c.if-n-kept.false)
+returns-else-self-kept c = rw (lt-leb _ _ c.if-self-kept.false)

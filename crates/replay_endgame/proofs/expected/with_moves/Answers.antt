@@ -6,5 +6,5 @@ use Rattle.replay_endgame.proofs.expected.with_moves.Goals as goal
 
 pub returns-then-count-eq0 : goal.returns-then-count-eq0
 returns-then-count-eq0 c =
-    first_compared _ _ _ (ap length (sym c.listed-list.ensures) ∙ sym c.count.ensures ∙ c.if-count-eq0.true)
+    first_compared _ _ (ap length (sym c.listed-list.ensures) ∙ sym c.count.ensures ∙ c.if-count-eq0.true)
     c.with_move.ensures

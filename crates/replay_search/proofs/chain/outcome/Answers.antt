@@ -39,7 +39,7 @@ returns-then-entries-room c =
     c.if-thirds-lt2.false
     c.if-thirds-gt1000.false _
     c.field.ensures _ c.read_number.ensures _
-    c.in-Is.is (omega (arith, c.if-entries-room.true))
+    c.in-Some.is (omega (arith, c.if-entries-room.true))
 
 pub slice_bounds-run-end-2 : goal.slice_bounds-run-end-2
 slice_bounds-run-end-2 c = sym (length-take-le _ _ (omega (arith, c.if-entries-room.false)))
@@ -53,6 +53,6 @@ returns c =
     c.if-thirds-gt1000.false _
     c.field.ensures _
     c.read_number.ensures _
-    c.in-Is.is _ (omega (arith, c.if-entries-room.false))
+    c.in-Some.is _ (omega (arith, c.if-entries-room.false))
     (c.run.ensures ∙ ap (run_of a.line.now _)
     (length-take-le _ a.words.now (omega (arith, c.if-entries-room.false))))

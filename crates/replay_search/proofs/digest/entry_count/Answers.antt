@@ -1,23 +1,23 @@
 -- The entries counted and those that are left are all.
+use mathlib.Core.Path.{◌∙◌}
+use mathlib.Core.Bool.{not}
 use native.Mathlib.Omega.{arith}
-use borrow.Author.Tests.{eq-eqb, ne_eqb}
-use Rattle.replay_search.proofs.Digests.{entry_next, entries_end}
-use borrow.Author.Rules.{rules}
-use Rattle.replay_search.proofs.digest.entry_count.Goals.{then-words-i-ne0, else-words-i-ne0}
+use lib.Dec.{eqb}
+use lib.ListN.{get_or}
+use Rattle.replay_search.proofs.Digests.{entry_next, entries_end, truth_below_2}
 use Rattle.replay_search.proofs.digest.entry_count.Goals as goal
 
-pub loop-i-init : goal.loop-i-init
-loop-i-init c = (omega arith, search rules, search rules)
-
-pub loop-i-preserved : goal.loop-i-preserved
-loop-i-preserved c =
-    let l = c.loop-i in
-    let e = entry_next c.args.words.now l.i c.loop-i-test.true in
-    elim c.if-words-i-ne0.branch [
-      | then-words-i-ne0 w ↦ (let f = rw (ne_eqb _ 0 w.if-words-i-ne0.true) at e in omega arith, omega arith, omega arith)
-      | else-words-i-ne0 w ↦ (let f = rw (eq-eqb _ 0 w.if-words-i-ne0.false) at e in omega arith, omega arith, omega arith)
-    ]
+pub loop-entry-preserved : goal.loop-entry-preserved
+loop-entry-preserved c =
+    let l = c.loop-entry in
+    let s = c.in-Some.ensures.steps in
+    let next = entry_next _ _ _ s.1.0 (s.1.1 ∙ l.invariant.0) in (
+      s.0 ∙ l.invariant.0,
+      omega (arith, next.0, c.from-n.ensures, l.invariant.1),
+      omega (arith, next.1, c.from-n.ensures, truth_below_2 (not (eqb (get_or c.in-Some.entry.now 2 0) 0)), l.invariant.2),
+    )
 
 pub returns : goal.returns
 returns c =
-    let l = c.loop-i in omega (arith, entries_end c.args.words.now l.i c.loop-i-test.false)
+    let l = c.loop-entry in
+    omega (arith, entries_end l.entry-iterator.rest.now (omega (arith, c.in-None.ensures.steps.1.0, l.invariant.0)), l.invariant.1)

@@ -1,11 +1,10 @@
 use mathlib.Core.Path.{◌≡◌}
-use Prim.Native.Nat.{◌+◌, ◌-◌, ◌≤◌}
-use lib.ListN.{length, drop}
+use Prim.Native.Nat.{◌+◌, ◌≤◌}
+use lib.ListN.{length}
 use Rattle.replay_search.specs.Digests.{entry_count}
 use Rattle.replay_search.proofs.digest.entry_count.Given as goal
 
-abbrev pub invariant-loop-i : goal.invariant-loop-i
-invariant-loop-i l = (l.n + entry_count (drop l.i l.words) ≡ entry_count l.words) × (l.n ≤ l.i) × (l.i ≤ length l.words)
-
-abbrev pub decreases-loop-i : goal.decreases-loop-i
-decreases-loop-i l = length l.words - l.i
+abbrev pub invariant-loop-entry : goal.invariant-loop-entry
+invariant-loop-entry l =
+    let left = l.entry-iterator.rest.now in
+    (l.entry-iterator.size ≡ 3) × (l.n + entry_count left ≡ entry_count l.words) × (l.n + length left ≤ length l.words)

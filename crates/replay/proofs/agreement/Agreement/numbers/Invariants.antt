@@ -1,11 +1,6 @@
-use mathlib.Core.Path.{◌≡◌}
-use Prim.Native.Nat.{◌≤◌, ◌-◌}
-use lib.ListN.{length, take}
-use Rattle.replay.specs.Agreement.{compared_all}
+use Rattle.std.proofs.Common.{◌≡◌, take}
+use Rattle.replay.specs.Agreement.{left_of, compared_all}
 use Rattle.replay.proofs.agreement.Agreement.numbers.Given as goal
 
-abbrev pub invariant-loop-i : goal.invariant-loop-i
-invariant-loop-i l = (l.i ≤ length l.ns) × (l.so_far ≡ compared_all l.words l.initial.so_far (take l.i l.ns))
-
-abbrev pub decreases-loop-i : goal.decreases-loop-i
-decreases-loop-i l = length l.ns - l.i
+abbrev pub invariant-loop-n : goal.invariant-loop-n
+invariant-loop-n l = left_of l.agreement ≡ compared_all (left_of l.fn.self) (take l.n-index l.ns)

@@ -3,14 +3,14 @@ use Rattle.base.specs.Branch.{when◌then◌else◌}
 use Rattle.replay.specs.Totals.{comparison}
 use Rattle.replay.proofs.totals.Comparison.of.Goals as goal
 
-pub returns-then-apart : goal.returns-then-apart
+pub returns-in-true-true : goal.returns-in-true-true
 unfolding comparison when◌then◌else◌
-returns-then-apart c = rw (c.if-agrees.true, c.if-apart.true)
+returns-in-true-true c = rw (c.in-true-true.is-0, c.in-true-true.is-1)
 
-pub returns-else-apart : goal.returns-else-apart
+pub returns-in-true-false : goal.returns-in-true-false
 unfolding comparison when◌then◌else◌
-returns-else-apart c = rw (c.if-agrees.true, c.if-apart.false)
+returns-in-true-false c = rw (c.in-true-false.is-0, c.in-true-false.is-1)
 
-pub returns-else-agrees : goal.returns-else-agrees
+pub returns-in-false-default : goal.returns-in-false-default
 unfolding comparison when◌then◌else◌
-returns-else-agrees c = rw c.if-agrees.false
+returns-in-false-default c = rw c.in-false-default.is-0
