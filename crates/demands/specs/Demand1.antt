@@ -28,26 +28,26 @@ use Rattle.theory.specs.Deepening.{analyze}
 use Rattle.theory.specs.Reported.{entry_checks, Reported, no_stats}
 use Rattle.boards.specs.declared.moves.Move.{Move}
 use Rattle.boards.specs.Packed.{cell_at, state_at}
-use Rattle.boards.specs.Answers.{in_range, move_error_number}
+use Rattle.boards.specs.Answers.{in_range, move_error_number, within}
 use Rattle.game.specs.declared.Game.{Game}
 use Rattle.game.specs.Meaning.{position_of}
-use Rattle.game.specs.After.{after_move, game_left}
+use Rattle.game.specs.After.{after_move, game_left, Plays}
 use Rattle.notation.specs.declared.ParseError.{ParseError}
-use Rattle.notation.specs.Parsed.{parse_number, move_number, game_for}
+use Rattle.notation.specs.Parsed.{parse_number, move_number, game_for, Parses, ParsesMove}
 use Rattle.status.specs.Sets.{status_of}
 use Rattle.endgame.specs.declared.Analysis.{Analysis}
-use Rattle.endgame.specs.Means.{move_status_number, unsound_number, analysis_status, analysis_stats, move_status}
+use Rattle.endgame.specs.Means.{move_status_number, unsound_number, analysis_status, analysis_stats, move_status, Analyses, Judges}
 use Rattle.minimax.specs.declared.Minimax.{Minimax}
 use Rattle.minimax.specs.declared.Config.{Config}
 use Rattle.minimax.specs.Structs.{structs}
-use Rattle.minimax.specs.Report.{settings_of, report_of, answer_of, scoring_of, responses_of, empty_responses}
-use Rattle.answer_text.specs.AnswerBytes.{written_bytes}
-use Rattle.program_line.specs.Answered.{program_search}
+use Rattle.minimax.specs.Report.{settings_of, report_of, answer_of, scoring_of, responses_of, empty_responses, reported_of}
+use Rattle.answer_text.specs.AnswerBytes.{written_bytes, text_of_bytes}
+use Rattle.program_line.specs.Answered.{program_search, asked_text}
 use Rattle.demands.specs.declared.EntryAnswers.{EntryAnswers}
 use Rattle.rules.specs.Refusal.{answer_number}
 use Rattle.boards.specs.declared.moves.MoveError.{MoveError}
 use Rattle.evaluation.specs.declared.BadWeight.{BadWeight}
-use Rattle.evaluation.specs.Values.{bad_weight_number, value_or_0}
+use Rattle.evaluation.specs.Values.{bad_weight_number, value_or_0, Evaluates}
 use Rattle.endgame.specs.declared.Unsound.{Unsound}
 use Rattle.endgame.specs.declared.MoveStatusError.{MoveStatusError}
 use Rattle.status.specs.declared.Status.{Status}
@@ -55,6 +55,7 @@ use Rattle.notation.specs.declared.ParseMoveError.{ParseMoveError}
 use Rattle.notation.specs.declared.ParseMoveError.TheVariants.{BadCharacter}
 use Rattle.rules.specs.declared.CellState.{CellState}
 use Rattle.rules.specs.declared.GameState.{GameState}
+use Rattle.line_buffer.specs.Buffer.{buffer_asks, pushed_all, new_buffer}
 
 -- ---- playing: the rules' own checks
 -- refused play leaves the old game
@@ -300,3 +301,17 @@ module _ (text line : List ℕ) (g : Game) (m : Move) (b c : ℕ) (memory : Mini
     pub move_status : JudgingMove g m r.move_status
     pub search : Searching memory g config words (report_of r.report words')
     pub program_line : AnsweringLine line (written_bytes r.line)
+
+  -- and what each call answers where nothing is refused: the promise of the function called
+  pub record EachCall (r : EntryAnswers) : Type 0 where
+    pub parsed : Parses text r.read
+    pub move_parsed : ParsesMove text r.read_move
+    pub tried : Plays g m r.played
+    pub looked_cell : r.cell ≡ within (in_range b c) ((position_of g).cells b c)
+    pub looked_board : r.board_state ≡ within (ltb b 9) ((position_of g).states b)
+    pub built : r.built ≡ within (in_range b c) (record { bits = move_of b c })
+    pub valued : Evaluates (scoring_of config) g r.evaluation
+    pub analysed : Analyses g r.analysis
+    pub judged : Judges g m r.move_status
+    pub searched : report_of r.report words' ≡ reported_of memory g config words
+    pub answered : r.line ≡ text_of_bytes (asked_text (buffer_asks (pushed_all new_buffer line)))

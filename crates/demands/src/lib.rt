@@ -6,7 +6,7 @@ ghost use Rattle.rules.specs.Play.{no_move};
 ghost use Rattle.theory.specs.Reported.{filled};
 ghost use Rattle.boards.specs.Cursor.{moves_left};
 ghost use Rattle.minimax.specs.Report.{bytes_of};
-ghost use Rattle.demands.specs.Demand1.{Demand1};
+ghost use Rattle.demands.specs.Demand1.{Demand1, EachCall};
 ghost use Rattle.demands.specs.Demand2.{Demand2, ReadAgain};
 ghost use Rattle.demands.specs.Demand3.{Demand3};
 ghost use Rattle.demands.specs.Searches.{SearchClaims};
@@ -96,7 +96,9 @@ pub fn entry_answers(
     config: Config,
     words: &mut [u64],
 ) -> EntryAnswers
-    ensures { Demand1 text.now line.now game m board cell memory config
+    ensures demand { Demand1 text.now line.now game m board cell memory config
+        words.old words.new result }
+    ensures calls { EachCall text.now line.now game m board cell memory config
         words.old words.new result }
 {
     let mut held = LineBuffer::new();

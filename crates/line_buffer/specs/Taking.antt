@@ -15,6 +15,6 @@ abbrev pub after_feed : {S : Type 0} → UpToFeed S → Option (List ℕ)
 after_feed t = cond t.found (Some t.left) None
 
 -- g is what bytes make of h, and rest what follows the line feed
-pub record TakesLine (h : LineBuffer) (bytes : List ℕ) (g : LineBuffer) (rest : Option (Bor (List ℕ))) : Type 0 where
+pub record BuffersLine (h : LineBuffer) (bytes : List ℕ) (g : LineBuffer) (rest : Option (Bor (List ℕ))) : Type 0 where
   pub line_is : g ≡ (buffered h bytes).line
   pub rest_is : option_copied rest ≡ after_feed (buffered h bytes)

@@ -4,7 +4,7 @@
 ghost use Rattle.std.specs.Prelude.{◌≡◌, [], ◌∷◌, ◌<◌, IfSome, eqb, length};
 ghost use Rattle.text.specs.ProgramLine.{depth_of};
 ghost use Rattle.line_buffer.specs.Buffer.{after_with, after_byte, depth_after, new_buffer, pushed, pushed_all, buffer_text};
-ghost use Rattle.line_buffer.specs.Taking.{TakesLine};
+ghost use Rattle.line_buffer.specs.Taking.{BuffersLine};
 
 use byte_row::ByteRow;
 
@@ -114,7 +114,7 @@ impl LineBuffer {
 
     // Takes the bytes up to a line feed, and answers what follows it; or all, and the line goes on.
     pub fn take<'a>(&mut self, bytes: &'a [u8]) -> Option<&'a [u8]>
-        ensures { TakesLine self.old bytes.now self.new result }
+        ensures { BuffersLine self.old bytes.now self.new result }
     {
         for (i, &b) in bytes.iter().enumerate() {
             if b == b'\n' {
