@@ -11,5 +11,8 @@ pub mod BitsXor
 pub mod ListsAgree
 pub mod BitsOnes
 pub mod ListsFilter
+pub mod ListsPlaces
+pub mod Sums
+pub mod Arrays
 pub mod Signed
 pub mod LineFeed

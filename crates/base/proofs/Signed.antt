@@ -1,15 +1,14 @@
 -- Signed numbers in the machine: what fits is read back from its bits, and a sum, a negative or a word of it is the exact one.
 use mathlib.Core.Path.{◌≡◌, refl, sym, ap, ap₂, ◌∙◌, subst}
 use mathlib.Core.Bool.{Bool, true, false, not}
-use Prim.Native.Nat.{ℕ, zero, suc, ◌+◌, ◌-◌, ◌^◌, ◌≤◌, ◌<◌}
+use Prim.Native.Nat.{ℕ, zero, suc, ◌+◌, ◌^◌, ◌≤◌, ◌<◌}
 use native.Mathlib.Omega.{arith}
 use lib.Dec.{T, ltb, ltb→lt}
-use lib.IntN.{ℤ, pos, negsuc, nat_abs, neg_ℤ, suc_ℤ, ◌+ℤ◌, ◌-ℤ◌, +ℤ_idl, +ℤ_one, -ℤ_one}
+use lib.IntN.{ℤ, pos, negsuc, nat_abs, neg_ℤ, suc_ℤ, ◌+ℤ◌, ◌-ℤ◌, +ℤ_idl, +ℤ_one}
 use lib.Signed.{mag, lt_z, ◌<ℤ◌, ◌≤ℤ◌, lt_z_yes, lt_z_no}
-use mir.Facts.{to_z-of_z, sfits_widen}
-use mir.Syntax.{Width, w32, w64}
-use mir.Val.{SFits, hbits, sel, to_z, of_z}
-use borrow.Author.Tests.{lt-ltb}
+use mir.Facts.{to_z-of_z}
+use mir.Syntax.{Width, w64}
+use mir.Val.{SFits, hbits, to_z, of_z}
 use Rattle.base.proofs.Integers.{hi, lo, Within, within_abs, within_of, within_+, within_neg}
 
 -- ---- read back
@@ -38,10 +37,7 @@ less e = lt_z_yes (subst T (sym e) tt)
 pub not_less : {a b : ℤ} → lt_z a b ≡ false → b ≤ℤ a
 not_less e = lt_z_no (subst (λ (b : Bool). T (not b)) (sym e) tt)
 
--- ---- from a word
-pub low_word : (n : ℕ) → n < 9223372036854775808 → to_z w64 n ≡ pos n
-low_word n h = ap (λ (b : Bool). sel b (pos n) (negsuc (2 ^ 64 - suc n))) (lt-ltb n (2 ^ 63) h)
-
+-- ---- zero less a number
 pub zero_sub : (z : ℤ) → pos 0 -ℤ z ≡ neg_ℤ z
 zero_sub z = +ℤ_idl (neg_ℤ z)
 
@@ -51,11 +47,6 @@ minus_fits n h = rw zero_sub (neg n h)
     neg : (n : ℕ) → n < 9223372036854775808 → SFits w64 (neg_ℤ (pos n))
     neg zero h = record { sfits = omega arith }
     neg (suc n) h = record { sfits = omega (arith, h) }
-
--- -n - 1
-pub minus_one_more : (n : ℕ) → (pos 0 -ℤ pos n) -ℤ pos 1 ≡ negsuc n
-minus_one_more zero = refl
-minus_one_more (suc n) = ap (λ (z : ℤ). z -ℤ pos 1) (zero_sub (pos (suc n))) ∙ -ℤ_one (negsuc n)
 
 -- ---- to a word
 -- -(z + 1), of a negative z
@@ -89,14 +80,6 @@ module _ (z : ℤ) (f : SFits w64 z) (e : lt_z (reads z) (pos 0) ≡ true) where
 
   pub minus_next_is : reads (pos 0 -ℤ reads (reads z +ℤ pos 1)) ≡ pos (mag z)
   minus_next_is = back _ minus_next_in ∙ inner
-
-module _ (z : ℤ) (f : SFits w64 z) (e : lt_z (reads z) (pos 0) ≡ false) where
-  pub natural : z ≡ pos (nat_abs z)
-  natural = go z (subst (λ (y : ℤ). pos 0 ≤ℤ y) (back z f) (not_less e))
-    where
-      go : (z : ℤ) → pos 0 ≤ℤ z → z ≡ pos (nat_abs z)
-      go (pos n) h = refl
-      go (negsuc n) h = absurd h.le
 
 -- ---- within k of zero
 -- a number within k fits where k does
@@ -149,20 +132,3 @@ minus {w} {k} a t = record {
   same = zero_sub (reads_at w a.machine) ∙ ap neg_ℤ (held_reads a t);
   near = within_neg k a.value a.near;
 }
-
--- ---- a number of 32 bits, widened
-small_abs : (z : ℤ) → SFits w32 z → nat_abs z ≤ 2147483648
-small_abs (pos n) f = omega arith
-small_abs (negsuc n) f = omega arith
-
-module _ {z : ℤ} (f : SFits w32 z) where
-  pub widens : SFits w64 (reads_at w32 z)
-  widens = subst (SFits w64) (sym (to_z-of_z {w = w32} f)) (sfits_widen {w = w32} tt f)
-
-  pub widened : (reads (reads_at w32 z) ≡ z) × (nat_abs (reads (reads_at w32 z)) ≤ 2147483648)
-  widened =
-      let e = back (reads_at w32 z) widens ∙ to_z-of_z {w = w32} f in
-      (e, subst (λ (y : ℤ). nat_abs y ≤ 2147483648) (sym e) (small_abs z f))
-
-abbrev pub held_wide : (z : ℤ) {r : ℤ} → (r ≡ reads_at w32 z) × (nat_abs r ≤ 2147483648) → mag z < 2 ^ hbits w32 → Held w64 2147483648
-held_wide z e h = held_promised {v = z} (e.0 ∙ result_at w32 h refl, e.1)

@@ -4,11 +4,10 @@ use Prim.Native.Nat.{ℕ, ◌≤◌, ◌<◌}
 use native.Mathlib.Omega.{arith}
 use lib.Dec.{ltb, ltb→lt}
 use borrow.Author.Tests.{lt-ltb, le-ltb}
-use Rattle.std.specs.Prelude.{Result, Ok, Err}
+use Rattle.std.specs.Prelude.{Ok, Err}
 use Rattle.base.specs.Branch.{when◌then◌else◌}
 use Rattle.base.proofs.Bool.{and→}
 use Rattle.base.proofs.ListsAgree.{false_by}
-use Rattle.rules.specs.Refusal.{answer_number}
 use Rattle.boards.specs.declared.moves.MoveError.{MoveError}
 use Rattle.boards.specs.declared.moves.MoveError.TheVariants.{WrongBoard, WonBoard, OutOfBounds, NotEmpty, GameOver}
 use Rattle.boards.specs.Answers.{move_error_number, in_range, within}
@@ -26,10 +25,6 @@ error_not_0 GameOver = omega arith
 error_not_0 WonBoard = omega arith
 error_not_0 WrongBoard = omega arith
 error_not_0 NotEmpty = omega arith
-
-pub answer_most : {T : Type 0} (a : Result T MoveError) → answer_number move_error_number a ≤ 13
-answer_most (Ok x) = omega arith
-answer_most (Err e) = error_most e
 
 -- ---- what is answered of a place
 module _ {A : Type 0} (a : A) where

@@ -10,12 +10,12 @@ use lib.ListN.{length, get_or-eq_default}
 use borrow.Author.Tests.{lt-ltb, le-ltb}
 use Rattle.rules.specs.declared.Player.TheVariants.{X, O}
 use Rattle.rules.specs.declared.CellState.{CellState}
-use Rattle.rules.specs.declared.CellState.TheVariants.{Empty, Played}
+use Rattle.rules.specs.declared.CellState.TheVariants.{Empty}
 use Rattle.rules.specs.declared.GameState.{GameState}
 use Rattle.rules.specs.declared.GameState.TheVariants.{InPlay}
 use Rattle.base.specs.Branch.{when◌then◌else◌}
 use Rattle.base.specs.Bits.{bit, digits}
-use Rattle.base.proofs.BitsOperations.{bit_yes, bit_no, bit-bit_and, bit-bit_or, bit_not, bit_shr, bit_nought}
+use Rattle.base.proofs.BitsOperations.{bit-bit_and, bit-bit_or, bit_not, bit_shr, bit_nought}
 use Rattle.base.proofs.Bits.{masked, digit_test}
 use Rattle.rules.specs.Board.{mine, blank, in_play, won_by, drawn}
 use Rattle.boards.specs.declared.local.Row.{Row}
@@ -56,15 +56,9 @@ module _ (l : LocalBoards) (b c : ℕ) (r : Row) (n : length l.rows ≡ 3) (h : 
   read : cell_of_bits (bit r.x (place b c)) (bit r.o (place b c)) ≡ cell_at l b c
   read = rw e (sym (cell_read l b c (omega arith) h))
 
-  pub reads_x : bit_and (r.x / 2 ^ place b c) 1 ≡ 1 → Played X ≡ cell_at l b c
-  reads_x x = rw (bit_yes r.x (place b c) x) at read
-
-  pub reads_o : (bit_and (r.x / 2 ^ place b c) 1 ≡ 1 → ⊥) → bit_and (r.o / 2 ^ place b c) 1 ≡ 1 → Played O ≡ cell_at l b c
-  reads_o x o = rw (bit_no r.x (place b c) x, bit_yes r.o (place b c) o) at read
-
-  pub reads_none : (bit_and (r.x / 2 ^ place b c) 1 ≡ 1 → ⊥) → (bit_and (r.o / 2 ^ place b c) 1 ≡ 1 → ⊥) →
-      Empty ≡ cell_at l b c
-  reads_none x o = rw (bit_no r.x (place b c) x, bit_no r.o (place b c) o) at read
+  pub reads_cell : (p q : Bool) → eqb (bit_and (r.x / 2 ^ place b c) 1) 1 ≡ p → eqb (bit_and (r.o / 2 ^ place b c) 1) 1 ≡ q →
+      cell_of_bits p q ≡ cell_at l b c
+  reads_cell p q x o = rw (sym (digit_test r.x (place b c)) ∙ x, sym (digit_test r.o (place b c)) ∙ o) at read
 
 x_mine : (p q : Bool) → p ≡ mine X (cell_of_bits p q)
 x_mine true q = refl

@@ -50,10 +50,9 @@ module _ (l : LocalBoards) (b c : ℕ) (w : Player) where
   unfolding with_cell when◌then◌else◌
   with_past_cell h = rw (le-ltb c 9 h, and-false (ltb b 9))
 
-  -- as the code has it, in the arm for row i
-  pub with_row : (i : ℕ) (r : Row) → b / 3 ≡ i → i < 3 → c < 9 → r ≡ row_with w (get_or l.rows i no_row) (place b c) →
-      ◌≡◌ {A = LocalBoards} (record { rows = set l.rows i r }) (with_cell l b c w)
-  with_row i r e h k q = rw (q, ← e) (sym (with_in (omega arith) k))
+  pub with_row : (r : Row) → b < 9 → c < 9 → r ≡ row_with w (get_or l.rows (b / 3) no_row) (place b c) →
+      ◌≡◌ {A = LocalBoards} (record { rows = set l.rows (b / 3) r }) (with_cell l b c w)
+  with_row r h k q = rw q (sym (with_in h k))
 
 pub no_x : (p q : Bool) → T (blank (cell_of_bits p q)) → p ≡ false
 no_x false q t = refl

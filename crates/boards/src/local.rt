@@ -74,16 +74,14 @@ impl LocalBoards {
         rows: [Row { x: 0, o: 0 }; 3],
     };
 
-    // The row of a board, empty if there is no such board. Rows by a constant index: a variable one would go through memory.
+    // The row of a board, empty if there is no such board.
     fn row(self, global: usize) -> Row
         ensures { result ≡ row_of self global }
     {
-        match global / 3 {
-            0 => self.rows[0],
-            1 => self.rows[1],
-            2 => self.rows[2],
-            _ => Row { x: 0, o: 0 },
-        }
+        self.rows
+            .get(global / 3)
+            .copied()
+            .unwrap_or(Row { x: 0, o: 0 })
     }
 
     pub fn at(self, global: usize, local: usize) -> CellState
@@ -94,31 +92,26 @@ impl LocalBoards {
         }
         let row = self.row(global);
         let idx = (global % 3) * 9 + local;
-        if (row.x >> idx) & 1 == 1 {
-            return CellState::Played(Player::X);
+        let x = (row.x >> idx) & 1 == 1;
+        let o = (row.o >> idx) & 1 == 1;
+        match (x, o) {
+            (true, _) => CellState::Played(Player::X),
+            (false, true) => CellState::Played(Player::O),
+            (false, false) => CellState::Empty,
         }
-        if (row.o >> idx) & 1 == 1 {
-            return CellState::Played(Player::O);
-        }
-        CellState::Empty
     }
 
     // The boards with one more cell of a player's.
+    #[tactic(auto, using(crate::proofs::With::with_past_board, crate::proofs::With::with_past_cell, crate::proofs::With::with_row))]
     pub fn set(self, global: usize, local: usize, who: Player) -> LocalBoards
         ensures { result ≡ with_cell self global local who }
     {
-        if local > 8 {
+        if global > 8 || local > 8 {
             return self;
         }
         let idx = ((global % 3) * 9 + local) as u32;
         let mut rows = self.rows;
-        // By a constant index, as in `row`.
-        match global / 3 {
-            0 => rows[0] = rows[0].with(idx, who),
-            1 => rows[1] = rows[1].with(idx, who),
-            2 => rows[2] = rows[2].with(idx, who),
-            _ => {}
-        }
+        rows[global / 3] = rows[global / 3].with(idx, who);
         LocalBoards { rows }
     }
 

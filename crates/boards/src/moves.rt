@@ -1,9 +1,9 @@
 // Moves, and the iterator over a list of moves.
 // Ported from src/lib/game.rs of nelhage/ultimattt at commit 87ef0d9c7c (Apache-2.0, see NOTICE), changed: refusals have numbers, and
 // the iterator holds the cells still to be listed.
-ghost use Rattle.std.specs.Prelude.{◌≡◌, not, ◌-◌, ◌<◌, eqb, length};
+ghost use Rattle.std.specs.Prelude.{◌≡◌, not, ◌-◌, ◌<◌, eqb, length, ⊤};
 ghost use Rattle.std.specs.Int.Bits.{bit_and};
-ghost use Rattle.std.specs.Iterator.{item_count};
+ghost use Rattle.std.specs.Iterator.{MakesProgress, item_count};
 ghost use Rattle.rules.specs.Play.{move_of, board_of, cell_of, no_move};
 ghost use Rattle.boards.specs.Answers.{move_error_number, in_range, within};
 ghost use Rattle.boards.specs.Cursor.{move_at, moves_left, Lists};
@@ -28,7 +28,9 @@ impl Refusal for MoveError {
 
     ghost never_0 = { Prim.search rules };
 
-    fn number(self) -> u64 {
+    fn number(self) -> u64
+        ensures { result ≡ move_error_number self }
+    {
         match self {
             MoveError::OutOfBounds => 9,
             MoveError::GameOver => 10,
@@ -39,7 +41,7 @@ impl Refusal for MoveError {
     }
 }
 
-// 16 times board plus cell; 0xff is the empty move.
+// 16 times board plus cell; 0xff is the empty move. A move is one byte in tables and lines (document 01): an `Option` would take two.
 #[derive(Clone, Copy, PartialEq, Eq)]
 pub struct Move {
     pub bits: u8,
@@ -97,7 +99,7 @@ impl Move {
     }
 }
 
-// The cells still to be listed: 27 bits for each row of boards, the low bits first.
+// The cells still to be listed: 27 bits for each row of boards, the low bits first. Fields: an array would be walked by index.
 #[derive(Clone, Copy)]
 pub struct MoveIterator {
     pub top: u32,
@@ -135,7 +137,10 @@ impl Iterator for MoveIterator {
     ghost remaining = { item_count moves_left };
 
     // Bits above the 27 count for nothing.
-    fn next(&mut self) -> Option<Move> {
+    fn next(&mut self) -> Option<Move>
+        ensures steps { Lists self.old result self.new }
+        ensures goes { MakesProgress (λ _. ⊤) (item_count moves_left) self.old result self.new }
+    {
         let top = self.top & ROW_MASK;
         let middle = self.middle & ROW_MASK;
         let bottom = self.bottom & ROW_MASK;

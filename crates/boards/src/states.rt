@@ -1,6 +1,7 @@
 // The states of the nine boards as two 9-bit numbers.
 // Ported from src/lib/game.rs of nelhage/ultimattt at commit 87ef0d9c7c (Apache-2.0, see NOTICE), changed: state goes in and comes back
-// by value, bits beyond the boards count for nothing, and a board over 8 reads as open.
+// by value, bits beyond the boards count for nothing, and a board over 8 reads as open. The pairs for X and O, and `check_winner` here and
+// of a board's cells, are the Rust's, for code that reads beside it.
 ghost use Rattle.std.specs.Prelude.{◌≡◌, not};
 ghost use Rattle.base.specs.Bits.{digits};
 ghost use Rattle.rules.specs.Board.{in_play, won_by, drawn, result_of};

@@ -172,5 +172,3 @@ pub ruleset critical_sets = (none_critical, any_critical)
 pub ruleset attacks = (critical_sets, no_attack, attack_free)
 
 pub ruleset losses = (critical_sets, no_threat, not_forced)
-
-pub ruleset judgements = (critical_sets, known_critical, judged_safe, judged_blocking)

@@ -30,7 +30,7 @@ use lines::{WIN_MASKS, has_line};
 use rules::{Player, Refusal};
 use status::Status;
 
-// What one analysis found: each 0 or 1, `unwinnable` up to 2.
+// What one analysis found: each 0 or 1, `unwinnable` up to 2. Numbers, since document 01 counts them, as the Rust does.
 #[derive(Clone, Copy)]
 pub struct EndgameStats {
     pub attacker_critical: usize,
@@ -50,12 +50,14 @@ impl Refusal for Unsound {
 
     ghost never_0 = { Prim.search rules };
 
-    fn number(self) -> u64 {
+    fn number(self) -> u64
+        ensures { result ≡ unsound_number self }
+    {
         14
     }
 }
 
-// Of a finished game: the full set and no counts.
+// What is proved of a position: the results that are left, and how it was found. Of a finished game the full set and no counts.
 #[derive(Clone, Copy)]
 pub struct Analysis {
     pub proven: Status,
@@ -74,7 +76,9 @@ impl Refusal for MoveStatusError {
 
     ghost never_0 = { Prim.search rules };
 
-    fn number(self) -> u64 {
+    fn number(self) -> u64
+        ensures { result ≡ move_status_number self }
+    {
         match self {
             MoveStatusError::Unsound => Unsound.number(),
             MoveStatusError::Refused(why) => why.number(),
@@ -83,11 +87,13 @@ impl Refusal for MoveStatusError {
 }
 
 impl From<Unsound> for MoveStatusError {
-    ghost use Rattle.endgame.specs.declared.MoveStatusError.TheVariants.{Unsound};
+    ghost use Rattle.endgame.specs.declared.MoveStatusError.TheVariants.{Unsound as NotSound};
 
-    ghost from_gives = { λ _ error. error ≡ Unsound };
+    ghost from_gives = { λ _ error. error ≡ NotSound };
 
-    fn from(_why: Unsound) -> MoveStatusError {
+    fn from(_why: Unsound) -> MoveStatusError
+        ensures { result ≡ NotSound }
+    {
         MoveStatusError::Unsound
     }
 }
@@ -97,7 +103,9 @@ impl From<MoveError> for MoveStatusError {
 
     ghost from_gives = { λ why error. error ≡ Refused why };
 
-    fn from(why: MoveError) -> MoveStatusError {
+    fn from(why: MoveError) -> MoveStatusError
+        ensures { result ≡ Refused why }
+    {
         MoveStatusError::Refused(why)
     }
 }
@@ -177,12 +185,12 @@ impl Analysis {
 }
 
 // A move is judged if the position is not refused and play accepts it.
-pub fn evaluate_move(pos: Game, m: Move) -> Result<Status, MoveStatusError>
-    ensures { Judges pos m result }
+pub fn evaluate_move(game: Game, m: Move) -> Result<Status, MoveStatusError>
+    ensures { Judges game m result }
 {
-    check_sound(pos)?;
-    pos.make_move(m)?;
-    Ok(Critical::of(pos).evaluate_move(m))
+    check_sound(game)?;
+    game.make_move(m)?;
+    Ok(Critical::of(game).evaluate_move(m))
 }
 
 // A sound position, with the critical boards of the side to move and of the other side.
@@ -234,25 +242,19 @@ impl Critical {
     }
 
     // As the Rust gives it, for a move that play accepts.
-    #[tactic(auto, using(crate::proofs::PartsAttack::judgements))]
     fn evaluate_move(self, m: Move) -> Status
         requires { cell_of m.bits < 9 }
         ensures { result ≡ status_of (judge (position_of self.pos) m.bits) }
     {
-        if self.defender == 0 {
-            return Status::unproven();
-        }
-        // A move there could block or take the board: it is left to the search.
-        if holds(self.defender, m.global()) {
-            return Status::unproven();
-        }
         let bad = self.pos.global_states.donebits() | self.defender;
-        if holds(bad, m.local()) {
+        // A move in a critical board could block or take it: it is left to the search.
+        if self.defender != 0 && !holds(self.defender, m.global()) && holds(bad, m.local()) {
             return Status::for_player(self.pos.player().other());
         }
         Status::unproven()
     }
 
+    // By guards, as in `forced_loss`: one chain would hold all that is said of the due board, with its sets, in a closure.
     #[tactic(auto, using(crate::proofs::PartsAttack::attacks))]
     fn prove_attacker(self) -> bool
         ensures { result ≡ prove_attacker (position_of self.pos) }
@@ -292,7 +294,7 @@ impl Critical {
     }
 }
 
-// What is proved of the side to move, who wins, or loses, or neither.
+// What is proved of the side to move, who wins, or loses, or neither. Two facts and no `Option<Player>`: each is also counted by itself.
 #[tactic(auto, using(crate::proofs::MeansStatuses::proofs_of_a_side))]
 fn proven_of(who: Player, wins: bool, loses: bool) -> Status
     ensures { result ≡ status_of (proven who wins loses) }
@@ -365,18 +367,17 @@ fn any_sends_to(pos: Game, dests: u32, want: u32) -> bool
 }
 
 // Whether the line of a mask lacks one place only, which is empty.
-fn is_critical(player: u32, empty: u32, mask: u32) -> bool
+fn lacks_one(player: u32, empty: u32, mask: u32) -> bool
     ensures { result ≡ lacks_one player empty mask }
 {
     (player | empty) & mask == mask && (empty & mask).count_ones() == 1
 }
 
-fn has_critical(player: u32, empty: u32) -> bool
+// Whether one of the eight lines does.
+fn has_line_lacking_one(player: u32, empty: u32) -> bool
     ensures { result ≡ list_any (lacks_one player empty) masks }
 {
-    WIN_MASKS
-        .iter()
-        .any(|&mask| is_critical(player, empty, mask))
+    WIN_MASKS.iter().any(|&mask| lacks_one(player, empty, mask))
 }
 
 // The board that a line lacks only, if the player could win it at once.
@@ -386,12 +387,12 @@ fn critical_board(pos: Game, who: Player, mask: u32) -> u32
 {
     let boards = pos.local_boards;
     let open = pos.global_states.openbits();
-    if !is_critical(pos.global_states.playerbits(who), open, mask) {
+    if !lacks_one(pos.global_states.playerbits(who), open, mask) {
         return 0;
     }
     let lacked = open & mask;
     let board = lacked.trailing_zeros() as usize;
-    if has_critical(boards.playerbits(who, board), boards.free_squares(board)) {
+    if has_line_lacking_one(boards.playerbits(who, board), boards.free_squares(board)) {
         lacked
     } else {
         0

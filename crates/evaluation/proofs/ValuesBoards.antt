@@ -1,17 +1,16 @@
 -- The value of a board: its score while it is in play, and its weight for the side that has won it.
 use mathlib.Core.Path.{◌≡◌, refl, sym, ap, ◌∙◌}
 use mathlib.Core.Bool.{Bool, not, cond}
-use mathlib.Core.List.{map}
-use Prim.Native.Nat.{ℕ, zero, suc, ◌+◌, ◌*◌, ◌<◌}
+use Prim.Native.Nat.{ℕ, ◌+◌, ◌*◌, ◌<◌}
 use native.Mathlib.Omega.{arith}
 use lib.Dec.{T}
-use lib.IntN.{ℤ, pos}
-use lib.ListN.{get_or}
+use lib.IntN.{pos}
+use Rattle.base.proofs.ListsPlaces.{run_at}
 use Rattle.base.specs.Branch.{when◌then◌else◌}
 use Rattle.base.specs.Bits.{bit, digits}
 use Rattle.base.specs.Integers.{sum}
-use Rattle.base.specs.Lists.{from}
 use Rattle.base.proofs.Integers.{hi, lo, ng}
+use Rattle.base.proofs.Sums.{sum_same}
 use Rattle.rules.specs.declared.Player.TheVariants.{X, O}
 use Rattle.rules.specs.declared.GameState.{GameState}
 use Rattle.rules.specs.declared.GameState.TheVariants.{InPlay, Drawn, Won}
@@ -20,14 +19,14 @@ use Rattle.rules.specs.Board.{in_play, won_by, lines}
 use Rattle.rules.specs.Position.{Position, has, won_boards}
 use Rattle.rules.specs.Evaluation.{board_line, board_score}
 use Rattle.evaluation.specs.Values.{value_in, board_value, values_of, value_at}
-use Rattle.evaluation.proofs.ValuesLines.{count_digits, sum_same}
+use Rattle.evaluation.proofs.ValuesLines.{count_digits}
 
 -- the lines of a board, by the nine digits of each side
 pub board_sum : (w : Weights) (f g : ℕ → Bool) (x o : ℕ) → x ≡ digits f 9 → o ≡ digits g 9 →
     sum (board_line w (bit x) (bit o)) lines ≡ sum (board_line w f g) lines
 unfolding board_line
 board_sum w f g x o e d =
-    sum_same (board_line w (bit x) (bit o)) (board_line w f g) (λ i h. rw (count_digits f x i e h, count_digits g o i d h))
+    sum_same (board_line w (bit x) (bit o)) (board_line w f g) lines (λ l i. rw (count_digits f x l e i, count_digits g o l d i))
 
 module _ (w : Weights) (p : Position) (b : ℕ) where
   pub value_is : (s : GameState) → p.states b ≡ s → value_in w p b s ≡ board_value w p b
@@ -59,11 +58,6 @@ module _ (w : Weights) (p : Position) (b : ℕ) where
       go (Won O) e = rw (e tt) (omega (arith, ng (pos w.board)))
 
 -- ---- the nine values
-at_from : (f : ℕ → ℤ) (d : ℤ) (i n b : ℕ) → b < n → get_or (map f (from i n)) b d ≡ f (i + b)
-at_from f d i zero b h = absurd (omega arith)
-at_from f d i (suc n) zero h = let e : i ≡ i + 0 = omega arith in ap f e
-at_from f d i (suc n) (suc b) h = let e : suc i + b ≡ i + suc b = omega arith in at_from f d (suc i) n b (omega arith) ∙ ap f e
-
 pub nine_values : (w : Weights) (p : Position) (b : ℕ) → b < 9 → value_at (values_of w p) b ≡ board_value w p b
 unfolding values_of
-nine_values w p b h = let e : 0 + b ≡ b = omega arith in at_from (board_value w p) (pos 0) 0 9 b h ∙ ap (board_value w p) e
+nine_values w p b h = let e : 0 + b ≡ b = omega arith in run_at (board_value w p) (pos 0) 0 9 b h ∙ ap (board_value w p) e

@@ -1,42 +1,60 @@
 -- A line's three places in the digits of a number: its mask finds them, and only the nine low digits count.
 use native.Mathlib.Numerals.{unary_clauses}
 use mathlib.Core.Path.{◌≡◌, refl, sym, ap, ◌∙◌}
-use mathlib.Core.Bool.{Bool, and-false}
+use mathlib.Core.Bool.{Bool, ◌&&◌, and-false}
 use mathlib.Core.List.{[], ◌∷◌}
 use Prim.Native.Nat.{ℕ, zero, suc, ◌+◌, ◌-◌, ◌%◌, ◌<◌}
 use native.Mathlib.Nat.{mod-lt}
 use native.Mathlib.Omega.{arith}
 use lib.Bits.{bit_and, and_mask, and_mod, and_le_r}
 use lib.Dec.{eqb, eqb→eq, ltb, ltb→lt, lit<}
+use lib.ListN.{get_or}
 use lib.IntN.{ℤ, pos, neg_ℤ, ◌+ℤ◌, ◌-ℤ◌, +ℤ_idl, +ℤ_idr}
 use borrow.Author.Tests.{eq-eqb, ne_eqb, eqb-true, eqb-false, lt-ltb}
 use Rattle.base.specs.Branch.{when◌then◌else◌}
 use Rattle.base.specs.Bits.{bit, digits}
 use Rattle.base.specs.Integers.{sum}
+use Rattle.base.specs.Lists.{In, all}
+use Rattle.base.proofs.Bool.{and→}
+use Rattle.base.proofs.Lists.{all_each}
+use Rattle.base.proofs.ListsPlaces.{in_at}
 use Rattle.base.proofs.Integers.{left_sum}
 use Rattle.base.proofs.ListsEvery.{up_to, up_to_at, same_b, same_b_eq}
 use Rattle.base.proofs.Bits.{bit_masked, bit_digits}
 use Rattle.rules.specs.declared.Weights.{Weights}
 use Rattle.rules.specs.Board.{Line, lines}
 use Rattle.rules.specs.Evaluation.{places_in, unless_both, worth, board_line}
-use Rattle.lines.specs.Masks.{line_at}
-use Rattle.lines.proofs.Masks.{mask_at, Low, low}
+use Rattle.lines.specs.Masks.{line_at, masks, mask_of}
+use Rattle.lines.proofs.Masks.{Low}
+
+-- ---- the lines' places
+low_test : Line → Bool
+low_test l = ltb l.i 9 && (ltb l.j 9 && ltb l.k 9)
+
+pub low : (l : Line) → In l lines → Low l
+unfolding low_test all
+low l i =
+    let t = and→ (ltb l.i 9) _ (all_each low_test l lines tt i) in
+    let u = and→ (ltb l.j 9) _ t.1 in
+    (ltb→lt _ 9 t.0, ltb→lt _ 9 u.0, ltb→lt _ 9 u.1)
+
+-- the mask of line i is that of one of the lines
+pub line_in : (i : ℕ) → i < 8 → In (line_at i) lines
+line_in i h = in_at lines i _ h
+
+pub mask_is : (i : ℕ) → i < 8 → get_or masks i 0 ≡ mask_of (line_at i)
+mask_is i h = eqb→eq _ _ (up_to_at (λ i. eqb (get_or masks i 0) (mask_of (line_at i))) 8 tt i h)
 
 -- ---- only the nine low digits count
 count_same : (f g : ℕ → Bool) → ((k : ℕ) → k < 9 → f k ≡ g k) → (l : Line) → Low l → places_in f l ≡ places_in g l
 unfolding places_in
 count_same f g e l h = rw (e l.i h.0, e l.j h.1, e l.k h.2)
 
-pub count_digits : (f : ℕ → Bool) (n i : ℕ) → n ≡ digits f 9 → i < 8 → places_in (bit n) (line_at i)
-    ≡ places_in f (line_at i)
-count_digits f n i e h =
-    ap (λ (m : ℕ). places_in (bit m) (line_at i)) e ∙ count_same (bit (digits f 9)) f (bit_digits f 9) (line_at i) (low i h)
+pub count_digits : (f : ℕ → Bool) (n : ℕ) (l : Line) → n ≡ digits f 9 → In l lines → places_in (bit n) l ≡ places_in f l
+count_digits f n l e i =
+    ap (λ (m : ℕ). places_in (bit m) l) e ∙ count_same (bit (digits f 9)) f (bit_digits f 9) l (low l i)
 
 -- eight terms, one for each line
-pub sum_same : (f g : Line → ℤ) → ((i : ℕ) → i < 8 → f (line_at i) ≡ g (line_at i)) → sum f lines ≡ sum g lines
-unfolding sum
-sum_same f g e = rw (e 0 (lit< tt), e 1 (lit< tt), e 2 (lit< tt), e 3 (lit< tt), e 4 (lit< tt), e 5 (lit< tt), e 6 (lit< tt), e 7 (lit< tt))
-
 pub eight : (f : Line → ℤ) → f (line_at 0) +ℤ f (line_at 1) +ℤ f (line_at 2) +ℤ f (line_at 3) +ℤ f (line_at 4) +ℤ f
     (line_at 5) +ℤ f (line_at 6) +ℤ f (line_at 7) ≡ sum f lines
 unfolding sum
@@ -66,67 +84,77 @@ found m p =
     when eqb p 0 then (λ _. 0) else λ _. when eqb (bit_and p (p - 1)) 0 then (λ _. 1) else λ _. when eqb p m then (λ _. 3) else λ _. 2
 
 -- computed for each line and each board of nine digits
-found_test : ℕ → ℕ → Bool
-found_test i n = eqb (found (mask_at i) (bit_and n (mask_at i))) (places_in (bit n) (line_at i))
+found_test : Line → ℕ → Bool
+found_test l n = eqb (found (mask_of l) (bit_and n (mask_of l))) (places_in (bit n) l)
 
-none_test : ℕ → ℕ → Bool
-none_test i n = same_b (eqb (bit_and n (mask_at i)) 0) (eqb (places_in (bit n) (line_at i)) 0)
+none_test : Line → ℕ → Bool
+none_test l n = same_b (eqb (bit_and n (mask_of l)) 0) (eqb (places_in (bit n) l) 0)
 
-small_found : (i n : ℕ) → i < 8 → n < 512 → found (mask_at i) (bit_and n (mask_at i)) ≡ places_in (bit n) (line_at i)
-unfolding found_test found when◌then◌else◌ places_in bit
-small_found i n h k = eqb→eq _ _ (up_to_at (found_test i) 512 (up_to_at (λ i. up_to (found_test i) 512) 8 tt i h) n k)
+module _ (l : Line) (i : In l lines) where
+  small_found : (n : ℕ) → n < 512 → found (mask_of l) (bit_and n (mask_of l)) ≡ places_in (bit n) l
+  unfolding found_test found when◌then◌else◌ places_in bit all
+  small_found n k = eqb→eq _ _ (up_to_at (found_test l) 512 (all_each (λ l. up_to (found_test l) 512) l lines tt i) n k)
 
-small_none : (i n : ℕ) → i < 8 → n < 512 → eqb (bit_and n (mask_at i)) 0 ≡ eqb (places_in (bit n) (line_at i)) 0
-unfolding none_test places_in bit
-small_none i n h k = same_b_eq _ _ (up_to_at (none_test i) 512 (up_to_at (λ i. up_to (none_test i) 512) 8 tt i h) n k)
+  small_none : (n : ℕ) → n < 512 → eqb (bit_and n (mask_of l)) 0 ≡ eqb (places_in (bit n) l) 0
+  unfolding none_test places_in bit all
+  small_none n k = same_b_eq _ _ (up_to_at (none_test l) 512 (all_each (λ l. up_to (none_test l) 512) l lines tt i) n k)
 
-module _ (i n : ℕ) (h : i < 8) where
-  low_mask : bit_and n (mask_at i) ≡ bit_and (n % 512) (mask_at i)
+  small_mask : mask_of l < 512
+  unfolding all
+  small_mask = ltb→lt (mask_of l) 512 (all_each (λ l. ltb (mask_of l) 512) l lines tt i)
+
+module _ (l : Line) (n : ℕ) (i : In l lines) where
+  low_mask : bit_and n (mask_of l) ≡ bit_and (n % 512) (mask_of l)
   low_mask =
-      let a = and_mod n (mask_at i) 9 in
-      let b = and_le_r n (mask_at i) in
-      let s = ltb→lt (mask_at i) 512 (up_to_at (λ i. ltb (mask_at i) 512) 8 tt i h) in
-      let c : mask_at i % 512 ≡ mask_at i = omega arith in
+      let a = and_mod n (mask_of l) 9 in
+      let b = and_le_r n (mask_of l) in
+      let s = small_mask l i in
+      let c : mask_of l % 512 ≡ mask_of l = omega arith in
       let d = ap (bit_and (n % 512)) c in
       omega arith
 
-  low_count : places_in (bit n) (line_at i) ≡ places_in (bit (n % 512)) (line_at i)
-  low_count = count_same (bit n) (bit (n % 512)) (λ k l. rw (← and_mask n 9) (sym (bit_masked 9 n k l))) (line_at i) (low i h)
+  low_count : places_in (bit n) l ≡ places_in (bit (n % 512)) l
+  low_count = count_same (bit n) (bit (n % 512)) (λ k h. rw (← and_mask n 9) (sym (bit_masked 9 n k h))) l (low l i)
 
-  count_found : (k : ℕ) → found (mask_at i) (bit_and n (mask_at i)) ≡ k → k ≡ places_in (bit n) (line_at i)
-  count_found k e = sym e ∙ ap (found (mask_at i)) low_mask ∙ small_found i (n % 512) h (mod-lt n (lit< tt)) ∙ sym low_count
+  count_found : (k : ℕ) → found (mask_of l) (bit_and n (mask_of l)) ≡ k → k ≡ places_in (bit n) l
+  count_found k e = sym e ∙ ap (found (mask_of l)) low_mask ∙ small_found l i (n % 512) (mod-lt n (lit< tt)) ∙ sym low_count
 
-  none_found : eqb (bit_and n (mask_at i)) 0 ≡ eqb (places_in (bit n) (line_at i)) 0
+  none_found : eqb (bit_and n (mask_of l)) 0 ≡ eqb (places_in (bit n) l) 0
   none_found =
-      ap (λ (p : ℕ). eqb p 0) low_mask ∙ small_none i (n % 512) h (mod-lt n (lit< tt)) ∙ ap (λ (p : ℕ). eqb p 0) (sym low_count)
+      ap (λ (p : ℕ). eqb p 0) low_mask ∙ small_none l i (n % 512) (mod-lt n (lit< tt)) ∙ ap (λ (p : ℕ). eqb p 0) (sym low_count)
 
-  abbrev p : ℕ
-  p = bit_and n (mask_at i)
+  module _ (m : ℕ) (masked : m ≡ mask_of l) where
+    abbrev p : ℕ
+    p = bit_and n m
 
-  -- what the code's tests say of them
-  pub worth_none : (w : Weights) → p ≡ 0 → 0 ≡ worth w (places_in (bit n) (line_at i))
-  unfolding found when◌then◌else◌
-  worth_none w e = ap (worth w) (count_found 0 (rw (eq-eqb p 0 e)))
+    -- what the code's tests say of them
+    counted : (k : ℕ) → found m p ≡ k → k ≡ places_in (bit n) l
+    counted k e = count_found k (rw (← masked) e)
 
-  pub worth_one : (w : Weights) → (p ≡ 0 → ⊥) → bit_and p (p - 1) ≡ 0 → w.one ≡ worth w (places_in (bit n) (line_at i))
-  unfolding found when◌then◌else◌
-  worth_one w q e = ap (worth w) (count_found 1 (rw (ne_eqb p 0 q, eq-eqb (bit_and p (p - 1)) 0 e)))
+    pub worth_none : (w : Weights) → p ≡ 0 → 0 ≡ worth w (places_in (bit n) l)
+    unfolding found when◌then◌else◌
+    worth_none w e = ap (worth w) (counted 0 (rw (eq-eqb p 0 e)))
 
-  pub worth_all : (w : Weights) → (p ≡ 0 → ⊥) → (bit_and p (p - 1) ≡ 0 → ⊥) → p ≡ mask_at i →
-      0 ≡ worth w (places_in (bit n) (line_at i))
-  unfolding found when◌then◌else◌
-  worth_all w q r e = ap (worth w) (count_found 3 (rw (ne_eqb p 0 q, ne_eqb (bit_and p (p - 1)) 0 r, eq-eqb p (mask_at i) e)))
+    pub worth_one : (w : Weights) → (p ≡ 0 → ⊥) → bit_and p (p - 1) ≡ 0 → w.one ≡ worth w (places_in (bit n) l)
+    unfolding found when◌then◌else◌
+    worth_one w q e = ap (worth w) (counted 1 (rw (ne_eqb p 0 q, eq-eqb (bit_and p (p - 1)) 0 e)))
 
-  pub worth_two : (w : Weights) → (p ≡ 0 → ⊥) → (bit_and p (p - 1) ≡ 0 → ⊥) → (p ≡ mask_at i → ⊥) →
-      w.two ≡ worth w (places_in (bit n) (line_at i))
-  unfolding found when◌then◌else◌
-  worth_two w q r e = ap (worth w) (count_found 2 (rw (ne_eqb p 0 q, ne_eqb (bit_and p (p - 1)) 0 r, ne_eqb p (mask_at i) e)))
+    pub worth_all : (w : Weights) → (p ≡ 0 → ⊥) → (bit_and p (p - 1) ≡ 0 → ⊥) → p ≡ m → 0 ≡ worth w (places_in (bit n) l)
+    unfolding found when◌then◌else◌
+    worth_all w q r e = ap (worth w) (counted 3 (rw (ne_eqb p 0 q, ne_eqb (bit_and p (p - 1)) 0 r, eq-eqb p m e)))
 
-  pub none_there : p ≡ 0 → places_in (bit n) (line_at i) ≡ 0
-  none_there e = eqb-true _ 0 (sym none_found ∙ eq-eqb p 0 e)
+    pub worth_two : (w : Weights) → (p ≡ 0 → ⊥) → (bit_and p (p - 1) ≡ 0 → ⊥) → (p ≡ m → ⊥) → w.two ≡ worth w (places_in (bit n) l)
+    unfolding found when◌then◌else◌
+    worth_two w q r e = ap (worth w) (counted 2 (rw (ne_eqb p 0 q, ne_eqb (bit_and p (p - 1)) 0 r, ne_eqb p m e)))
 
-  pub some_there : (p ≡ 0 → ⊥) → 0 < places_in (bit n) (line_at i)
-  some_there q = let r = eqb-false (places_in (bit n) (line_at i)) 0 (sym none_found ∙ ne_eqb p 0 q) in omega (arith, r)
+    none_here : eqb p 0 ≡ eqb (places_in (bit n) l) 0
+    none_here = ap (λ (k : ℕ). eqb (bit_and n k) 0) masked ∙ none_found
+
+    pub none_there : p ≡ 0 → places_in (bit n) l ≡ 0
+    none_there e = eqb-true _ 0 (sym none_here ∙ eq-eqb p 0 e)
+
+    pub some_there : (p ≡ 0 → ⊥) → 0 < places_in (bit n) l
+    some_there q = let r = eqb-false (places_in (bit n) l) 0 (sym none_here ∙ ne_eqb p 0 q) in omega (arith, r)
 
 -- ---- a line of a board
 module _ (w : Weights) (x o : ℕ) where
@@ -152,17 +180,16 @@ pub no_o : (x o : ℕ) (z : ℤ) → o ≡ 0 → z ≡ unless_both x o z
 unfolding unless_both when◌then◌else◌
 no_o x o z e = rw (e, and-false (ltb 0 x))
 
-module _ (w : Weights) (i x o : ℕ) (h : i < 8) where
-  pub line_x : bit_and o (mask_at i) ≡ 0 → pos (worth w (places_in (bit x) (line_at i))) ≡ board_line w (bit x) (bit o) (line_at i)
+module _ (w : Weights) (l : Line) (x o m : ℕ) (i : In l lines) (masked : m ≡ mask_of l) where
+  pub line_x : bit_and o m ≡ 0 → pos (worth w (places_in (bit x) l)) ≡ board_line w (bit x) (bit o) l
   unfolding board_line
-  line_x e = only_x w (places_in (bit x) (line_at i)) (places_in (bit o) (line_at i)) (none_there i o h e)
+  line_x e = only_x w (places_in (bit x) l) (places_in (bit o) l) (none_there l o i m masked e)
 
-  pub line_o : bit_and x (mask_at i) ≡ 0 → neg_ℤ (pos (worth w (places_in (bit o) (line_at i))))
-      ≡ board_line w (bit x) (bit o) (line_at i)
+  pub line_o : bit_and x m ≡ 0 → neg_ℤ (pos (worth w (places_in (bit o) l))) ≡ board_line w (bit x) (bit o) l
   unfolding board_line
-  line_o e = only_o w (places_in (bit x) (line_at i)) (places_in (bit o) (line_at i)) (none_there i x h e)
+  line_o e = only_o w (places_in (bit x) l) (places_in (bit o) l) (none_there l x i m masked e)
 
-  pub line_both : (bit_and x (mask_at i) ≡ 0 → ⊥) → (bit_and o (mask_at i) ≡ 0 → ⊥) →
-      pos 0 ≡ board_line w (bit x) (bit o) (line_at i)
+  pub line_both : (bit_and x m ≡ 0 → ⊥) → (bit_and o m ≡ 0 → ⊥) → pos 0 ≡ board_line w (bit x) (bit o) l
   unfolding board_line
-  line_both q r = both_sides (places_in (bit x) (line_at i)) (places_in (bit o) (line_at i)) _ (some_there i x h q) (some_there i o h r)
+  line_both q r =
+      both_sides (places_in (bit x) l) (places_in (bit o) l) _ (some_there l x i m masked q) (some_there l o i m masked r)

@@ -6,13 +6,19 @@ use Rattle.rules.specs.declared.GameState.TheVariants.{InPlay, Drawn, Won}
 use Rattle.rules.specs.declared.Weights.{Weights}
 use Rattle.base.specs.Branch.{when◌then◌else◌}
 use Rattle.base.specs.Integers.{sum}
+use Rattle.base.specs.Lists.{In}
 use Rattle.rules.specs.Board.{nine, Line, lines}
 use Rattle.rules.specs.Position.{Position, unfinished, won_boards}
 use Rattle.rules.specs.Refusal.{answer_number}
 use Rattle.rules.specs.Evaluation.{Scoring, places_in, unless_both, board_score, seen_by, evaluate, evaluated}
+use Rattle.lines.specs.Masks.{mask_of}
 use Rattle.game.specs.declared.Game.{Game}
 use Rattle.game.specs.Meaning.{position_of}
 use Rattle.evaluation.specs.declared.BadWeight.{BadWeight}
+
+-- what is said of the line whose mask it is
+abbrev pub OfLine : ℕ → (Line → Type 0) → Type 0
+OfLine mask P = (l : Line) → In l lines → mask ≡ mask_of l → P l
 
 -- ---- the values
 -- the weight of a board that a side has won, and the score of one in play

@@ -5,21 +5,22 @@
 #![tactic(auto)]
 
 ghost use Rattle.std.proofs.Common.{rules};
-ghost use Rattle.std.specs.Prelude.{◌≡◌, ◌≤◌, ◌<◌, pos, nat_abs, set};
+ghost use Rattle.std.specs.Prelude.{◌≡◌, ◌≤◌, pos, nat_abs, set};
 ghost use Rattle.base.specs.Bits.{bit};
 ghost use Rattle.base.specs.Integers.{sum};
 ghost use Rattle.rules.specs.Board.{lines, mine};
 ghost use Rattle.rules.specs.Evaluation.{won, scoring_with, places_in, worth, board_line, seen_by, draw_value};
 ghost use Rattle.boards.specs.Packed.{cell_at};
 ghost use Rattle.game.specs.Meaning.{position_of};
-ghost use Rattle.lines.specs.Masks.{line_at};
-ghost use Rattle.evaluation.specs.Values.{board_value, values_of, overall_value, score_by, evaluate_by};
+ghost use Rattle.lines.specs.Masks.{indices};
+ghost use Rattle.evaluation.specs.Values.{OfLine, board_value, values_of, value_at, overall_value, score_by, evaluate_by};
 ghost use Rattle.evaluation.specs.Values.{bad_weight_number, Evaluates};
 
 use boards::LocalBoards;
 use game::Game;
 use lines::{WIN_MASKS, WIN_PATTERNS};
 use rules::{GameState, Player, Refusal, Weights};
+use std::array;
 
 pub const EVAL_WON: i64 = 1152921504606846976;
 
@@ -38,43 +39,35 @@ fn drawn(draw_winner: Option<Player>, turn: Player) -> i64
     draw_winner.map_or(0, |who| won_by(who, turn))
 }
 
-// A weight as a term of a sum, which fits whatever the weights are.
-fn weight(w: u16) -> i32
-    ensures { (result ≡ pos w) × (nat_abs result ≤ 65535) }
+// What a side's places in a line, given by its mask, give if the other side has none there: nothing for three. They are counted by their
+// lowest bit: with `count_ones`, as in the Rust, the search takes 1 to 4 % more instructions.
+fn potential(bits: u32, mask: u32, weights: Weights) -> i32
+    ensures gives { OfLine mask (λ l. result ≡ pos (worth weights (places_in (bit bits) l))) }
+    ensures bounded { nat_abs result ≤ 65535 }
 {
-    w as i32
-}
-
-// What a side's places in line i give, if the other side has none there: nothing for three.
-fn potential(bits: u32, i: usize, weights: Weights) -> i32
-    requires { i < 8 }
-    ensures { (result ≡ pos (worth weights (places_in (bit bits) (line_at i)))) × (nat_abs result ≤ 65535) }
-{
-    let mask = WIN_MASKS[i];
     let places = bits & mask;
     if places == 0 {
         return 0;
     }
     if places & (places - 1) == 0 {
-        return weight(weights.one);
+        return i32::from(weights.one);
     }
     if places == mask {
         return 0;
     }
-    weight(weights.two)
+    i32::from(weights.two)
 }
 
 // A line with both sides in it gives nothing.
-fn score_line(i: usize, xbits: u32, obits: u32, weights: Weights) -> i32
-    requires { i < 8 }
-    ensures { (result ≡ board_line weights (bit xbits) (bit obits) (line_at i)) × (nat_abs result ≤ 65535) }
+fn score_line(mask: u32, xbits: u32, obits: u32, weights: Weights) -> i32
+    ensures gives { OfLine mask (λ l. result ≡ board_line weights (bit xbits) (bit obits) l) }
+    ensures bounded { nat_abs result ≤ 65535 }
 {
-    let mask = WIN_MASKS[i];
     if obits & mask == 0 {
-        return potential(xbits, i, weights);
+        return potential(xbits, mask, weights);
     }
     if xbits & mask == 0 {
-        return -potential(obits, i, weights);
+        return -potential(obits, mask, weights);
     }
     0
 }
@@ -87,8 +80,8 @@ fn score_board(boards: LocalBoards, board: usize, weights: Weights) -> i32
     let x = boards.xbits(board);
     let o = boards.obits(board);
     let mut score = 0;
-    for i in 0..8 {
-        score += score_line(i, x, o, weights);
+    for &mask in &WIN_MASKS {
+        score += score_line(mask, x, o, weights);
     }
     score
 }
@@ -100,29 +93,28 @@ fn value_of(g: Game, board: usize, weights: Weights) -> i32
     match g.global_states.at(board) {
         GameState::InPlay => score_board(g.local_boards, board, weights),
         GameState::Drawn => 0,
-        GameState::Won(Player::X) => weight(weights.board),
-        GameState::Won(Player::O) => -weight(weights.board),
+        GameState::Won(Player::X) => i32::from(weights.board),
+        GameState::Won(Player::O) => -i32::from(weights.board),
     }
 }
 
-// A value as a term of a sum, which fits whatever the values are.
-fn wide(v: i32) -> i64
-    ensures { (result ≡ v) × (nat_abs result ≤ 2147483648) }
+// The value of a board as a term of a sum, 0 where there is none.
+fn value_at(values: &[i32; 9], board: usize) -> i64
+    ensures { (result ≡ value_at values.now board) × (nat_abs result ≤ 2147483648) }
 {
-    v as i64
+    values.get(board).map_or(0, |&value| i64::from(value))
 }
 
-// An overall line with both sides in it gives nothing.
-fn score_overall(i: usize, x: u32, o: u32, values: [i32; 9]) -> i64
-    requires { i < 8 }
-    ensures { (result ≡ overall_value (bit x) (bit o) values (line_at i)) × (nat_abs result ≤ 6442450944) }
+// An overall line, given by its mask and its boards, which stand in two tables (document 01). One with both sides in it gives nothing.
+fn score_overall(mask: u32, boards: [usize; 3], x: u32, o: u32, values: [i32; 9]) -> i64
+    ensures gives { OfLine mask (λ l. boards ≡ indices l → result ≡ overall_value (bit x) (bit o) values l) }
+    ensures bounded { nat_abs result ≤ 6442450944 }
 {
-    let mask = WIN_MASKS[i];
     if x & mask != 0 && o & mask != 0 {
         return 0;
     }
-    let [a, b, c] = WIN_PATTERNS[i];
-    wide(values[a]) + wide(values[b]) + wide(values[c])
+    let [a, b, c] = boards;
+    value_at(&values, a) + value_at(&values, b) + value_at(&values, c)
 }
 
 // The values of the nine boards, and the weights by which they are worked out.
@@ -141,7 +133,9 @@ impl Refusal for BadWeight {
 
     ghost never_0 = { Prim.search rules };
 
-    fn number(self) -> u64 {
+    fn number(self) -> u64
+        ensures { result ≡ bad_weight_number self }
+    {
         20
     }
 }
@@ -151,18 +145,7 @@ impl Values {
         ensures { result ≡ record { boards = values_of weights (position_of g); weights = weights } }
     {
         Values {
-            // one by one: the closure of an `array::from_fn` would need this clause again as its own, and be no shorter
-            boards: [
-                value_of(g, 0, weights),
-                value_of(g, 1, weights),
-                value_of(g, 2, weights),
-                value_of(g, 3, weights),
-                value_of(g, 4, weights),
-                value_of(g, 5, weights),
-                value_of(g, 6, weights),
-                value_of(g, 7, weights),
-                value_of(g, 8, weights),
-            ],
+            boards: array::from_fn(|board| value_of(g, board, weights)),
             weights,
         }
     }
@@ -189,14 +172,14 @@ impl Values {
         let o = g.global_states.obits();
         let values = self.boards;
         // written out: with a loop the search takes 23 % more instructions
-        score_overall(0, x, o, values)
-            + score_overall(1, x, o, values)
-            + score_overall(2, x, o, values)
-            + score_overall(3, x, o, values)
-            + score_overall(4, x, o, values)
-            + score_overall(5, x, o, values)
-            + score_overall(6, x, o, values)
-            + score_overall(7, x, o, values)
+        score_overall(WIN_MASKS[0], WIN_PATTERNS[0], x, o, values)
+            + score_overall(WIN_MASKS[1], WIN_PATTERNS[1], x, o, values)
+            + score_overall(WIN_MASKS[2], WIN_PATTERNS[2], x, o, values)
+            + score_overall(WIN_MASKS[3], WIN_PATTERNS[3], x, o, values)
+            + score_overall(WIN_MASKS[4], WIN_PATTERNS[4], x, o, values)
+            + score_overall(WIN_MASKS[5], WIN_PATTERNS[5], x, o, values)
+            + score_overall(WIN_MASKS[6], WIN_PATTERNS[6], x, o, values)
+            + score_overall(WIN_MASKS[7], WIN_PATTERNS[7], x, o, values)
     }
 
     // The evaluation of a position whose boards are said to have these values.

@@ -1,6 +1,7 @@
 -- A list of moves, tried on the struct: it means what the rules reach, has the fresh hash and is neat.
 use mathlib.Core.Path.{◌≡◌, refl, sym, ap, ◌∙◌}
 use mathlib.Core.List.{List, [], ◌∷◌, ◌++◌}
+use Rattle.std.specs.List.{fold}
 use Prim.Native.Nat.{ℕ, ◌+◌, ◌≤◌, ◌<◌}
 use native.Mathlib.Numerals.{add-one}
 use lib.Dec.{T}
@@ -10,7 +11,11 @@ use Rattle.rules.specs.Position.{Position, start}
 use Rattle.rules.specs.Play.{reached}
 use Rattle.game.specs.declared.Game.{Game}
 use Rattle.game.specs.Meaning.{position_of}
-use Rattle.game.specs.After.{game_after, games_after}
+use Rattle.std.specs.Prelude.{Result, Ok, Err}
+use Rattle.std.specs.Result.{result_unwrap_or}
+use Rattle.boards.specs.declared.moves.Move.{Move}
+use Rattle.boards.specs.declared.moves.MoveError.{MoveError}
+use Rattle.game.specs.After.{game_after, games_after, game_left, Plays}
 use Rattle.game.specs.Built.{new_game}
 use Rattle.game.specs.Neat.{neat}
 use Rattle.game.proofs.Meaning.{game_after_means, new_game_means}
@@ -30,6 +35,20 @@ games_more g ms i d h =
 pub games_all : (g : Game) (ms : List ℕ) (i : ℕ) → length ms ≤ i → games_after g (drop i ms) ≡ g
 unfolding games_after
 games_all g ms i h = ap (games_after g) (drop_of_length-le ms h)
+
+-- the game that a move leaves
+pub left_or : (g : Game) (r : Result Game MoveError) → result_unwrap_or r g ≡ game_left g r
+left_or g (Ok after) = refl
+left_or g (Err why) = refl
+
+-- all, as a fold
+pub left_as_tried : (g : Game) (m : Move) (r : Result Game MoveError) → Plays g m r → result_unwrap_or r g ≡ game_after g m.bits
+left_as_tried g m r p = left_or g r ∙ p.exact
+
+pub games_folded : (g : Game) (ms : List ℕ) → fold game_after g ms ≡ games_after g ms
+unfolding games_after
+games_folded g [] = refl
+games_folded g (m ∷ ms) = games_folded (game_after g m) ms
 
 -- one list, then another
 pub games_joined : (g : Game) (ns ms : List ℕ) → games_after (games_after g ns) ms ≡ games_after g (ns ++ ms)

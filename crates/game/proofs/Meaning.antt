@@ -1,6 +1,7 @@
 -- The struct after a move means the position after it: the new bits change the cells and states of the board that is played, and nothing
 -- else.
 use Rattle.std.specs.Prelude.{Option, None, Some}
+use Rattle.std.specs.Bool.{then_some}
 use mathlib.Core.Path.{◌≡◌, refl, sym, ap, ◌∙◌}
 use mathlib.Core.Bool.{Bool, true, false, not}
 use mathlib.Core.Logic.{inl, inr}
@@ -41,14 +42,11 @@ use Rattle.game.specs.After.{after_move, game_after}
 use Rattle.game.specs.Built.{no_boards, no_states, new_game}
 
 -- the cell's board is due if it is in play
-module _ (s : GlobalStates) (c : ℕ) (ok : Bool) (e : ok ≡ in_play (state_at s c)) where
-  pub next_only : ok ≡ true → Some c ≡ (when in_play (state_at s c) then (λ _. Some c) else λ _. None)
-  unfolding when◌then◌else◌
-  next_only f = rw (sym e ∙ f)
-
-  pub next_any : ok ≡ false → None ≡ (when in_play (state_at s c) then (λ _. Some c) else λ _. None)
-  unfolding when◌then◌else◌
-  next_any f = rw (sym e ∙ f)
+pub next_due : (s : GlobalStates) (c : ℕ) (ok : Bool) → ok ≡ in_play (state_at s c) →
+    then_some ok c ≡ (when in_play (state_at s c) then (λ _. Some c) else λ _. None)
+unfolding when◌then◌else◌
+next_due s c true e = rw (sym e)
+next_due s c false e = rw (sym e)
 
 turned : (h k r s : ℕ) → bit_xor (bit_xor (bit_xor h k) r) s ≡ bit_xor s (bit_xor r (bit_xor k h))
 turned h k r s = xor_comm (bit_xor (bit_xor h k) r) s ∙ ap (bit_xor s) (xor_comm (bit_xor h k) r ∙ ap (bit_xor r) (xor_comm h k))

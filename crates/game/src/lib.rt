@@ -47,7 +47,7 @@ impl Game {
         Game::NEW
     }
 
-    // A game from its parts, with its hash worked out.
+    // A game from its parts, with its hash worked out. Document 01 leaves out the Rust's `Unpacked`, the struct of them.
     pub fn pack(
         next_player: Player,
         next_board: Option<u8>,
@@ -106,14 +106,9 @@ impl Game {
     pub fn play_all(self, moves: &[u8]) -> Game
         ensures { result ≡ games_after self moves.now }
     {
-        let mut game = self;
-        for m in moves {
-            game = match game.make_move(Move { bits: *m }) {
-                Ok(after) => after,
-                Err(_) => game,
-            };
-        }
-        game
+        moves.iter().fold(self, |game, &m| {
+            game.make_move(Move { bits: m }).unwrap_or(game)
+        })
     }
 
     // The game after a move that is accepted.
@@ -129,12 +124,7 @@ impl Game {
         let played = self.hash ^ keys::for_square(9 * global + local, who);
         let hash = local_boards.hash_after(played, global, state);
         let game_state = global_states.check_winner(who);
-        let next_board = if global_states.in_play(local) {
-            let due = local as u8;
-            Some(due)
-        } else {
-            None
-        };
+        let next_board = global_states.in_play(local).then_some(local as u8);
         Game {
             next_player: who.other(),
             next_board,
@@ -145,7 +135,7 @@ impl Game {
         }
     }
 
-    // Looks only at the side not to move.
+    // The same game, its state worked out from the boards that the side not to move has won, as after its move.
     #[tactic(auto, unfolding(crate::specs::Built::recalculated))]
     pub fn recalc_winner(self) -> Game
         ensures { result ≡ recalculated self }

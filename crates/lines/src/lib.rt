@@ -22,7 +22,7 @@ pub const WIN_PATTERNS: [[usize; 3]; 8] = [
     [6, 4, 2],
 ];
 
-// Place j of line i, 9 where there is none.
+// Place j of line i, 9 where there is none. No code calls it, nor `win_mask`: they are the promise of the two tables (document 01).
 pub fn win_pattern(i: usize, j: usize) -> usize
     ensures { result ≡ pattern_at i j }
 {

@@ -1,8 +1,7 @@
 -- Reading a move from two bytes, as the code has it.
 use Rattle.std.specs.Prelude.{Ok, Err}
 use mathlib.Core.Path.{◌≡◌, refl, ap}
-use mathlib.Core.Bool.{Bool, true, false}
-use mathlib.Core.Logic.{◌⊎◌, inl, inr}
+use mathlib.Core.Bool.{Bool, true, false, and-false}
 use mathlib.Core.List.{List, [], ◌∷◌}
 use Prim.Native.Nat.{ℕ, ◌+◌, ◌-◌, ◌*◌, ◌≤◌, ◌<◌}
 use native.Mathlib.Omega.{arith}
@@ -20,10 +19,13 @@ use Rattle.notation.specs.Parts.{coordinate_of}
 
 -- ---- a letter
 module _ (c : ℕ) where
-  pub no_letter : (c < 0x61) ⊎ ((0x61 ≤ c) × (0x69 < c)) → Err (BadCharacter c) ≡ coordinate_of c
+  pub below_letters : c < 0x61 → Err (BadCharacter c) ≡ coordinate_of c
   unfolding coordinate_of when◌then◌else◌
-  no_letter (inl h) = rw (lt-leb 0x61 c h)
-  no_letter (inr h) = rw (le-leb 0x61 c h.0, lt-leb c 0x69 h.1)
+  below_letters h = rw (lt-leb 0x61 c h)
+
+  pub above_letters : 0x69 < c → Err (BadCharacter c) ≡ coordinate_of c
+  unfolding coordinate_of when◌then◌else◌
+  above_letters h = rw (lt-leb c 0x69 h, and-false (leb 0x61 c))
 
   pub a_letter : 0x61 ≤ c → c ≤ 0x69 → Ok (c - 0x61) ≡ coordinate_of c
   unfolding coordinate_of when◌then◌else◌
@@ -50,6 +52,9 @@ module _ (c : ℕ) where
   pub coordinate_small : (n : ℕ) → coordinate_of c ≡ Ok n → n ≤ 8
   coordinate_small n q =
       let g = good n q in let r = and→ (leb 0x61 c) (leb c 0x69) (rw g.0 tt) in omega (arith, g.1, leb→le c 0x69 r.1)
+
+-- what a byte is, from the test of its letter
+pub ruleset letters = (below_letters, above_letters, a_letter)
 
 -- ---- two
 two : (t : List ℕ) → length t ≡ 2 → read_move t ≡ read_letters (get_or t 0 0) (get_or t 1 0)

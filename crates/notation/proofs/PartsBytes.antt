@@ -67,15 +67,3 @@ module _ (p : Position) (i : ℕ) where
 pub same_due : (d : Option ℕ) (b : ℕ) → option_eq nat_eq d (Some b) ≡ same_next_board d (Some b)
 same_due None b = refl
 same_due (Some c) b = refl
-
--- ---- an array from a function of the place
-module _ {F : Type 0} (g : Mut F (ℕ × Unit {0}) ℕ) (f : F) (h : ℕ → ℕ)
-    (computes : (i y : ℕ) (q : F) → Called g f (i, tt) y q → (y ≡ h i) × (q ≡ f)) where
-  pub from_fn_gives : (ys : List ℕ) (i n : ℕ) → IsFromFnResultFrom g f ys i n → (k : ℕ) → i ≤ k → k < i + n → get_or ys k 0 ≡ h k
-  from_fn_gives ys i zero r k l m = absurd (omega arith)
-  from_fn_gives ys i (suc n) r k l m =
-      let c = computes i r.1 r.0 r.3 in
-      elim (ℕ_discrete k i) [
-        | yes e ↦ rw e (r.2.1 0 ∙ c.0)
-        | no e ↦ from_fn_gives ys (i + 1) n (subst (λ (q : F). IsFromFnResultFrom g q ys (i + 1) n) c.1 r.4) k (omega arith) (omega arith)
-      ]

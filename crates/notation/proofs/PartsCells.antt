@@ -31,7 +31,7 @@ use Rattle.game.proofs.Neat.{with_cell_neat}
 use Rattle.notation.specs.declared.ErrorKind.{ErrorKind}
 use Rattle.notation.specs.Parsed.{kind_number}
 use Rattle.notation.specs.declared.ErrorKind.TheVariants.{BadPlayer}
-use Rattle.notation.specs.Parts.{with_state, ReadsCell, CellsSay}
+use Rattle.notation.specs.Parts.{with_cell_state, ReadsCell, CellsSay}
 use Rattle.notation.proofs.PartsMarks.{no_cell}
 
 -- ---- one byte
@@ -51,7 +51,7 @@ mark_said cs i n h r e = rw e (go (cell_mark (get_or cs i 0)) refl)
 -- ---- one cell more
 module _ (l : LocalBoards) (b c : ℕ) where
   -- beyond the ninth nothing changes
-  unmarked : (s : CellState) → 9 ≤ c → with_state l b c s ≡ l
+  unmarked : (s : CellState) → 9 ≤ c → with_cell_state l b c s ≡ l
   unmarked Empty h = refl
   unmarked (Played w) h = sym (with_past_cell l b c w h)
 
@@ -59,13 +59,13 @@ module _ (l : LocalBoards) (b c : ℕ) where
     free : T (blank (cell_at l b c))
     free = rw e tt
 
-    marked_here : (s : CellState) → cell_at (with_state l b c s) b c ≡ s
+    marked_here : (s : CellState) → cell_at (with_cell_state l b c s) b c ≡ s
     marked_here Empty = e
     marked_here (Played w) = ap (λ (f : ℕ → ℕ → CellState). f b c) (cell_after l b c w n hb hc free)
         ∙ update_at (λ (r : ℕ → CellState). r c ≡ Played w) (cell_at l) b (update (cell_at l b) c (Played w))
         (update_at (λ (s : CellState). s ≡ Played w) (cell_at l b) c (Played w) refl)
 
-    marked_there : (s : CellState) (i j : ℕ) → (i ≡ b → j ≡ c → ⊥) → cell_at (with_state l b c s) i j ≡ cell_at l i j
+    marked_there : (s : CellState) (i j : ℕ) → (i ≡ b → j ≡ c → ⊥) → cell_at (with_cell_state l b c s) i j ≡ cell_at l i j
     marked_there Empty i j h = refl
     marked_there (Played w) i j h =
         ap (λ (f : ℕ → ℕ → CellState). f i j) (cell_after l b c w n hb hc free) ∙ elim (ℕ_discrete i b) [
@@ -75,8 +75,8 @@ module _ (l : LocalBoards) (b c : ℕ) where
               (λ p. q (sym p)) refl
         ]
 
-    marked_neat : (s : CellState) → T (all neat_row l.rows) → (length (with_state l b c s).rows ≡ 3) ×
-        T (all neat_row (with_state l b c s).rows)
+    marked_neat : (s : CellState) → T (all neat_row l.rows) → (length (with_cell_state l b c s).rows ≡ 3) ×
+        T (all neat_row (with_cell_state l b c s).rows)
     marked_neat Empty a = (n, a)
     marked_neat (Played w) a = with_cell_neat l b c w hb hc free n a
 
@@ -109,7 +109,7 @@ module _ (cs : List ℕ) (l : LocalBoards) (i : ℕ) (h : i < 89) (m : CellsUpTo
   -- one byte more
   module _ (z : fault_at cs i ≡ 0) (s : CellState) (is_said : s ≡ or_else (cell_mark (get_or cs i 0)) Empty) where
     abbrev l' : LocalBoards
-    l' = with_state l (i / 10) (i % 10) s
+    l' = with_cell_state l (i / 10) (i % 10) s
 
     right : (j : ℕ) → j < i + 1 → fault_at cs j ≡ 0
     right j k = elim (ℕ_discrete j i) [ yes q ↦ rw q z | no q ↦ m.faultless j (omega arith) ]

@@ -50,9 +50,9 @@ ReadsOverall os (Err e) = FirstBad os e
 
 -- ---- the cells
 -- the boards with what is said of cell c of board b
-abbrev pub with_state : LocalBoards → ℕ → ℕ → CellState → LocalBoards
-with_state l b c Empty = l
-with_state l b c (Played w) = with_cell l b c w
+abbrev pub with_cell_state : LocalBoards → ℕ → ℕ → CellState → LocalBoards
+with_cell_state l b c Empty = l
+with_cell_state l b c (Played w) = with_cell l b c w
 
 -- what byte i says of a cell, or its fault
 abbrev pub ReadsCell : List ℕ → ℕ → Result CellState ErrorKind → Type 0

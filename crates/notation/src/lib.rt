@@ -1,7 +1,6 @@
 // Positions and moves as text.
 // Ported from src/lib/game/notation.rs of nelhage/ultimattt at commit 87ef0d9c7c (Apache-2.0, see NOTICE), changed: bytes for characters,
-// at most 256 of them, refusals with number, offset and length, the rows set directly, and the text written byte by
-// byte into an array.
+// at most 256 of them, refusals with number, offset and length, and the text written byte by byte into an array.
 #![tactic(auto)]
 
 ghost use Rattle.std.specs.Prelude.{◌≡◌, ◌<◌, length};
@@ -12,7 +11,7 @@ ghost use Rattle.text.specs.Writing.{state_byte, cell_byte, text_of, byte_at};
 ghost use Rattle.text.specs.MoveText.{move_text};
 ghost use Rattle.game.specs.Meaning.{position_of};
 ghost use Rattle.notation.specs.Parsed.{kind_number, parse_number, move_number, Parses, ParsesMove};
-ghost use Rattle.notation.specs.Parts.{error_at, AnswersReading, ReadsOverall, with_state, ReadsCell, ReadsCells, coordinate_of};
+ghost use Rattle.notation.specs.Parts.{error_at, AnswersReading, ReadsOverall, with_cell_state, ReadsCell, ReadsCells, coordinate_of};
 
 use boards::{GlobalStates, LocalBoards, Move};
 use game::Game;
@@ -37,7 +36,9 @@ impl Refusal for ErrorKind {
 
     ghost never_0 = { Prim.search rules };
 
-    fn number(self) -> u64 {
+    fn number(self) -> u64
+        ensures { result ≡ kind_number self }
+    {
         match self {
             ErrorKind::TooLong => 1,
             ErrorKind::MissingSection => 2,
@@ -74,11 +75,14 @@ impl Refusal for ParseError {
 
     ghost never_0 = { Prim.search rules };
 
-    fn number(self) -> u64 {
+    fn number(self) -> u64
+        ensures { result ≡ parse_number self }
+    {
         self.why.number()
     }
 }
 
+// The position that a text says, or the first fault of the text.
 pub fn parse(text: &[u8]) -> Result<Game, ParseError>
     ensures { Parses text.now result }
 {
@@ -123,6 +127,7 @@ fn parse_player(side: &[u8]) -> Option<Player>
     }
 }
 
+// No `TryFrom<u8>`, here and for a cell: each would need an error type, in place of which its caller has its own.
 fn mark_of(byte: u8) -> Option<GameState>
     ensures { result ≡ overall_mark byte }
 {
@@ -179,8 +184,8 @@ fn parse_cell(cells: &[u8], i: usize) -> Result<CellState, ErrorKind>
 }
 
 // The boards with what is said of one more cell.
-fn with_state(boards: LocalBoards, board: usize, cell: usize, state: CellState) -> LocalBoards
-    ensures { result ≡ with_state boards board cell state }
+fn with_cell_state(boards: LocalBoards, board: usize, cell: usize, state: CellState) -> LocalBoards
+    ensures { result ≡ with_cell_state boards board cell state }
 {
     match state {
         CellState::Empty => boards,
@@ -193,14 +198,15 @@ fn parse_cells(cells: &[u8]) -> Result<LocalBoards, ErrorKind>
     ensures { ReadsCells cells.now result }
 {
     let mut boards = LocalBoards::EMPTY;
+    // by place: a walk over the bytes would end where one is lacking, and need a second test of which fault that is
     for i in 0..89 {
         let state = parse_cell(cells, i)?;
-        boards = with_state(boards, i / 10, i % 10, state);
+        boards = with_cell_state(boards, i / 10, i % 10, state);
     }
     Ok(boards)
 }
 
-// A side's letter.
+// A side's letter. No `From`: a byte of a text is not the number of a side, which is 0 or 1.
 pub fn letter(who: Player) -> u8
     ensures { result ≡ letter who }
 {
@@ -210,6 +216,7 @@ pub fn letter(who: Player) -> u8
     }
 }
 
+// A function as `letter` is: the number of a state is another (`From<GameState> for u64`).
 fn state_byte(state: GameState) -> u8
     ensures { result ≡ state_byte state }
 {
@@ -220,6 +227,7 @@ fn state_byte(state: GameState) -> u8
     }
 }
 
+// No `From`, as for a side and a state: a byte of a text is no number of a cell's.
 fn cell_byte(cell: CellState) -> u8
     ensures { result ≡ cell_byte cell }
 {
@@ -256,6 +264,7 @@ fn render_at(g: Game, i: usize) -> u8
     }
 }
 
+// The text of a position; `parse` reads it back.
 pub fn render(g: Game) -> [u8; 101]
     ensures { result ≡ text_of (position_of g) }
 {
@@ -282,7 +291,9 @@ impl Refusal for ParseMoveError {
 
     ghost never_0 = { Prim.search rules };
 
-    fn number(self) -> u64 {
+    fn number(self) -> u64
+        ensures { result ≡ move_number self }
+    {
         match self {
             ParseMoveError::BadLength => 7,
             ParseMoveError::BadCharacter(_) => 8,
@@ -290,13 +301,14 @@ impl Refusal for ParseMoveError {
     }
 }
 
+#[tactic(auto, using(crate::proofs::ParsedMoves::letters))]
 fn parse_coord(byte: u8) -> Result<u8, ParseMoveError>
     ensures { result ≡ coordinate_of byte }
 {
-    if byte < b'a' || byte > b'i' {
-        return Err(ParseMoveError::BadCharacter(byte));
+    match byte {
+        b'a'..=b'i' => Ok(byte - b'a'),
+        _ => Err(ParseMoveError::BadCharacter(byte)),
     }
-    Ok(byte - b'a')
 }
 
 pub fn parse_move(text: &[u8]) -> Result<Move, ParseMoveError>

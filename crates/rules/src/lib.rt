@@ -1,4 +1,5 @@
-// The sides, the cells, the states of a board or of the game, the next board, what a move did, the weights, and numbered refusals.
+// The sides, the cells, the states of a board or of the game, where a next board allows a move, what a move did, the weights, and
+// numbered refusals.
 // Ported from src/lib/game.rs, the weights from src/lib/minimax.rs, of nelhage/ultimattt at commit 87ef0d9c7c (Apache-2.0, see NOTICE),
 // changed: methods take `self` by value, the evaluation's weights are a struct, refusals have numbers, and the effect of a move is added.
 #![tactic(auto)]
@@ -28,6 +29,7 @@ impl Player {
         }
     }
 
+    // The Rust's name; `usize::from(player)` would not say that it is a bit.
     pub fn as_bit(self) -> usize
         ensures { result ≡ side_number self }
     {
@@ -37,7 +39,7 @@ impl Player {
         }
     }
 
-    // X for 0, O for any other number.
+    // X for 0, O for any other number; `Player::from(n)` would read as if each number were a side's own.
     pub fn from_number(n: u64) -> Player
         ensures { result ≡ side_from n }
     {
@@ -66,7 +68,7 @@ impl GameState {
         self != GameState::InPlay
     }
 
-    // The state of a number in a list; won by O for those over 3.
+    // The state of a number in a list; won by O for those over 3, so that `GameState::from(n)` would be no plainer, as with a side.
     pub fn from_number(n: u64) -> GameState
         ensures { result ≡ state_from n }
     {
@@ -82,7 +84,9 @@ impl GameState {
 impl From<GameState> for u64 {
     ghost from_gives = { λ state number. number ≡ state_number state };
 
-    fn from(state: GameState) -> u64 {
+    fn from(state: GameState) -> u64
+        ensures { result ≡ state_number state }
+    {
         match state {
             GameState::InPlay => 0,
             GameState::Drawn => 1,
@@ -99,7 +103,7 @@ pub fn allows(next_board: Option<u8>, board: usize) -> bool
     next_board.is_none_or(|due| due as usize == board)
 }
 
-// What a move did: the state of the board played in, and whether no board is due, both after it.
+// What a move did: the state of the board played in, and whether no board is due, both after it. No function answers it yet.
 #[derive(Clone, Copy)]
 pub struct Effect {
     pub board: GameState,
@@ -118,7 +122,9 @@ impl Effect {
 impl From<Effect> for u64 {
     ghost from_gives = { λ effect number. number ≡ effect_number effect };
 
-    fn from(effect: Effect) -> u64 {
+    fn from(effect: Effect) -> u64
+        ensures { result ≡ effect_number effect }
+    {
         let state = u64::from(effect.board);
         if effect.free_choice { state + 4 } else { state }
     }

@@ -1,11 +1,12 @@
 -- Bytes and the sets that they mean.
-use mathlib.Core.Path.{◌≡◌, refl, sym, ap, ap₂, ◌∙◌}
+use mathlib.Core.Path.{◌≡◌, refl, sym, ap, ◌∙◌}
 use mathlib.Core.Bool.{Bool, not, ◌&&◌}
 use Prim.Native.Nat.{ℕ, zero, suc, ◌+◌, ◌*◌, ◌/◌, ◌%◌, ◌≤◌, ◌<◌, min}
 use native.Mathlib.Omega.{arith}
 use mathlib.Core.Logic.{◌⊎◌, inl, inr}
 use lib.Bits.{bit_and, and_mask, and_step}
-use lib.Dec.{eqb, eqb→eq}
+use lib.Dec.{eqb, eqb→eq, eqb-suc-zero}
+use Rattle.std.proofs.lemmas.Bool.{ne_eqb}
 use Rattle.std.specs.Prelude.{None, Some, option_map}
 use Rattle.base.specs.Branch.{when◌then◌else◌}
 use Rattle.base.specs.Bits.{bit}
@@ -38,27 +39,30 @@ byte_is_set (suc (suc (suc (suc (suc (suc zero)))))) h m n = refl
 byte_is_set (suc (suc (suc (suc (suc (suc (suc zero))))))) h m n = refl
 byte_is_set (suc (suc (suc (suc (suc (suc (suc (suc v)))))))) h m n = absurd (omega arith)
 
--- a byte and the mask of its lowest bit, or of the next, is not 0 exactly where that bit is set
-one_or_none : (d : ℕ) → d < 2 → not (eqb d 0) ≡ eqb d 1
-one_or_none zero h = refl
-one_or_none (suc zero) h = refl
-one_or_none (suc (suc d)) h = absurd (omega arith)
-
-twice_or_none : (d : ℕ) → d < 2 → not (eqb (d * 2 + 0) 0) ≡ eqb d 1
-twice_or_none zero h = refl
-twice_or_none (suc zero) h = refl
-twice_or_none (suc (suc d)) h = absurd (omega arith)
-
+-- a byte and the mask of one of its three low bits is not 0 exactly where that bit is set
 pub lowest_bit_test : (n : ℕ) → not (eqb (bit_and n 1) 0) ≡ bit n 0
 lowest_bit_test n = ap (λ (d : ℕ). not (eqb d 0)) (and_mask n 1) ∙ one_or_none (n % 2) (omega arith) ∙ sym (bit_low n)
+  where
+    one_or_none : (d : ℕ) → d < 2 → not (eqb d 0) ≡ eqb d 1
+    one_or_none zero h = refl
+    one_or_none (suc zero) h = refl
+    one_or_none (suc (suc d)) h = absurd (omega arith)
+
+-- a mask that is even asks for a bit of the half
+even_mask : (n m : ℕ) → m % 2 ≡ 0 → not (eqb (bit_and n m) 0) ≡ not (eqb (bit_and (n / 2) (m / 2)) 0)
+even_mask n m e =
+    ap (λ (d : ℕ). not (eqb d 0)) (and_step n m ∙ ap (λ (d : ℕ). bit_and (n / 2) (m / 2) * 2 + min (n % 2) d) e)
+    ∙ halved (bit_and (n / 2) (m / 2)) _ (omega arith)
+  where
+    halved : (x y : ℕ) → y ≡ 0 → not (eqb (x * 2 + y) 0) ≡ not (eqb x 0)
+    halved zero y h = rw h
+    halved (suc x) y h = ap not (ne_eqb _ _ (omega arith) ∙ sym (eqb-suc-zero x))
 
 pub next_bit_test : (n : ℕ) → not (eqb (bit_and n 2) 0) ≡ bit n 1
-next_bit_test n =
-    ap (λ (d : ℕ). not (eqb d 0)) (and_step n 2 ∙ ap₂ (λ (x y : ℕ). x * 2 + y) (and_mask (n / 2) 1) (min_zero (n % 2)))
-    ∙ twice_or_none (n / 2 % 2) (omega arith) ∙ sym (bit_suc n 0 ∙ bit_low (n / 2))
-  where
-    min_zero : (d : ℕ) → min d 0 ≡ 0
-    min_zero d = omega arith
+next_bit_test n = even_mask n 2 refl ∙ lowest_bit_test (n / 2) ∙ sym (bit_suc n 0)
+
+pub draw_bit_test : (n : ℕ) → not (eqb (bit_and n 4) 0) ≡ bit n 2
+draw_bit_test n = even_mask n 4 refl ∙ next_bit_test (n / 2) ∙ sym (bit_suc n 1)
 
 -- the bytes of two sets have the byte of their common part in common
 pub bytes_in_common : (s t : Status) → bit_and (as_byte s) (as_byte t) ≡ as_byte

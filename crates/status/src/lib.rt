@@ -15,8 +15,6 @@ const MAYBE_O: u8 = 0b0010;
 
 const MAYBE_DRAW: u8 = 0b0100;
 
-const VALID_BITS: u8 = 0b0111;
-
 #[derive(Clone, Copy, PartialEq, Eq)]
 pub struct Status {
     pub bits: u8,
@@ -77,17 +75,15 @@ impl Status {
         }
     }
 
+    // Not 0, where none is left, and not 3, either side but no draw.
     #[tactic(auto, using(crate::proofs::Sets::over_7_is_nothing, crate::proofs::Sets::no_set, crate::proofs::Sets::byte_is_set))]
     pub fn from_byte(v: u8) -> Option<Status>
         ensures { result ≡ option_map status_of (from_byte v) }
     {
-        if v > VALID_BITS {
-            return None;
+        match v {
+            1 | 2 | 4..=7 => Some(Status { bits: v }),
+            _ => None,
         }
-        if v == MAYBE_X | MAYBE_O || v == 0 {
-            return None;
-        }
-        Some(Status { bits: v })
     }
 
     pub fn as_byte(self) -> u8
@@ -111,6 +107,13 @@ impl Status {
             Player::X => self.bits & MAYBE_X != 0,
             Player::O => self.bits & MAYBE_O != 0,
         }
+    }
+
+    #[tactic(auto, using(crate::proofs::Sets::draw_bit_test))]
+    pub fn may_draw(self) -> bool
+        ensures { result ≡ (set_of self).draw }
+    {
+        self.bits & MAYBE_DRAW != 0
     }
 
     pub fn is_won(self, who: Player) -> bool

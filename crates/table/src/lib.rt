@@ -57,7 +57,9 @@ fn slot(hash: u64, words: usize) -> Option<usize>
 impl From<Bound> for u64 {
     ghost from_gives = { λ bound number. number ≡ bound_number bound };
 
-    fn from(bound: Bound) -> u64 {
+    fn from(bound: Bound) -> u64
+        ensures { result ≡ bound_number bound }
+    {
         match bound {
             Bound::Exact => 0,
             Bound::AtLeast => 1,
@@ -66,7 +68,7 @@ impl From<Bound> for u64 {
     }
 }
 
-// The bound of a number, if it is one's.
+// The bound of a number, if it is one's. As `TryFrom<u64>` it would need an error type, which `entry_of` would only drop.
 fn bound_of(number: u64) -> Option<Bound>
     ensures { MatchOption result (2 < number) (λ bound. bound_number bound ≡ number) }
 {

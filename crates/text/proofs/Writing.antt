@@ -1,28 +1,17 @@
 -- Laws of a position's text: it is byte_at at 0 to 100, which antt computes byte by byte.
 use mathlib.Core.Path.{◌≡◌, refl, ap, ◌∙◌}
 use mathlib.Core.List.{List, map}
-use Prim.Native.Nat.{ℕ, zero, suc, ◌+◌, ◌/◌, ◌%◌, ◌<◌}
+use Prim.Native.Nat.{ℕ, ◌/◌, ◌%◌, ◌<◌}
 use native.Mathlib.Omega.{arith}
 use borrow.Author.Tests.{eq-eqb, ne_eqb}
 use lib.ListN.{length, get_or}
 use Rattle.base.specs.Branch.{when◌then◌else◌}
 use Rattle.base.specs.Lists.{from}
+use Rattle.base.proofs.ListsPlaces.{run_length, run_at}
 use Rattle.rules.specs.Board.{nine}
 use Rattle.rules.specs.Position.{Position}
 use Rattle.text.specs.Bytes.{slash}
 use Rattle.text.specs.Writing.{cell_byte, overall_byte, board_text, joined_by, text_of, cells_byte, byte_at}
-
--- ---- a list made from a run of numbers
--- it has as many elements
-pub run_length : {A : Type 0} (f : ℕ → A) (i n : ℕ) → length (map f (from i n)) ≡ n
-run_length f i zero = refl
-run_length f i (suc n) = ap suc (run_length f (suc i) n)
-
--- and at each place what the number there gives
-pub run_at : {A : Type 0} (f : ℕ → A) (d : A) (i n k : ℕ) → k < n → get_or (map f (from i n)) k d ≡ f (i + k)
-run_at f d i zero k h = absurd (omega arith)
-run_at f d i (suc n) zero h = ap f (omega arith)
-run_at f d i (suc n) (suc k) h = run_at f d (suc i) n k (omega arith) ∙ ap f (omega arith)
 
 -- each tenth byte is a `/`
 pub slash_every_tenth : (p : Position) (k : ℕ) → k % 10 ≡ 9 → cells_byte p k ≡ slash

@@ -14,24 +14,24 @@ use Rattle.endgame.proofs.evaluate_move.Goals as goal
 pub returns-in_err-check_sound : goal.returns-in_err-check_sound
 returns-in_err-check_sound c =
     let e : c.from_residual.result ≡ Err NotSound = search rules in
-    rw e (judges_as _ _ _ _ (tried_first (position_of c.args.pos) _ c.in_err-check_sound.ensures) refl refl)
+    rw e (judges_as _ _ _ _ (tried_first (position_of c.args.game) _ c.in_err-check_sound.ensures) refl refl)
 
 pub returns-in_err-make_move : goal.returns-in_err-make_move
 returns-in_err-make_move c =
     let why = c.in_err-make_move.field-0.0 in
     let e : c.from_residual-in_err-make_move.result ≡ Err (Refused why) = search rules in
-    rw e (judges_as _ _ _ _ (judged_refused (position_of c.args.pos) _ (sym c.in_ok-check_sound.ensures) _ (error_not_0 why)
+    rw e (judges_as _ _ _ _ (judged_refused (position_of c.args.game) _ (sym c.in_ok-check_sound.ensures) _ (error_not_0 why)
     c.in_err-make_move.ensures.number) refl refl)
 
 pub of-requires : goal.of-requires
 of-requires c =
-    (may_judge (position_of c.args.pos) _ (sym c.in_ok-check_sound.ensures) (sym c.in_ok-make_move.ensures.number)).0
+    (may_judge (position_of c.args.game) _ (sym c.in_ok-check_sound.ensures) (sym c.in_ok-make_move.ensures.number)).0
 
 pub evaluate_move-requires : goal.evaluate_move-requires
 evaluate_move-requires c =
-    (may_judge (position_of c.args.pos) _ (sym c.in_ok-check_sound.ensures) (sym c.in_ok-make_move.ensures.number)).1
+    (may_judge (position_of c.args.game) _ (sym c.in_ok-check_sound.ensures) (sym c.in_ok-make_move.ensures.number)).1
 
 pub returns : goal.returns
 returns c =
-    judges_as _ _ _ _ (judged_played (position_of c.args.pos) _ (sym c.in_ok-check_sound.ensures) (sym c.in_ok-make_move.ensures.number))
+    judges_as _ _ _ _ (judged_played (position_of c.args.game) _ (sym c.in_ok-check_sound.ensures) (sym c.in_ok-make_move.ensures.number))
     refl (c.evaluate_move.ensures ∙ ap (λ (g : Game). status_of (judge (position_of g) c.args.m.bits)) c.of.ensures)

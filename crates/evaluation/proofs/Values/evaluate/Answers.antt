@@ -3,14 +3,9 @@ use mathlib.Core.Path.{◌∙◌}
 use mir.Syntax.{w64}
 use Rattle.rules.specs.declared.Player.TheVariants.{X, O}
 use Rattle.game.specs.Meaning.{position_of}
-use Rattle.base.proofs.Signed.{result, Held, held_promised, held_fits, held_reads, minus}
+use Rattle.base.proofs.Signed.{result, Held, held_promised, held_reads, minus}
 use Rattle.evaluation.proofs.ValuesEnds.{eval_ended, eval_open}
 use Rattle.evaluation.proofs.Values.evaluate.Goals as goal
-
-pub overflow_sub-result : goal.overflow_sub-result
-overflow_sub-result c =
-    let for-o : Held w64 51539607552 = minus (held_promised c.score-score.ensures) tt in
-    held_fits for-o tt
 
 pub returns-in-Drawn : goal.returns-in-Drawn
 returns-in-Drawn c =
