@@ -3,6 +3,9 @@ use mathlib.Core.Path.{◌≡◌, refl, sym, ap, ap₂, ◌∙◌, subst}
 use mathlib.Core.Bool.{Bool, true, false}
 use mathlib.Core.List.{List, [], ◌∷◌, ◌++◌}
 use Prim.Native.Nat.{ℕ, suc, ◌+◌, ◌-◌, ◌≤◌, ◌<◌}
+use Rattle.std.specs.Prelude.{Option, None, Some}
+use Rattle.std.proofs.lemmas.List.{drop-map}
+use lib.IntN.{ℤ}
 use native.Mathlib.Omega.{arith}
 use lib.Dec.{T}
 use lib.ListN.{length, drop, replicate}
@@ -25,15 +28,13 @@ use Rattle.game.specs.Meaning.{position_of}
 use Rattle.evaluation.specs.declared.Values.{Values}
 use Rattle.evaluation.specs.Values.{values_of}
 use Rattle.minimax.specs.declared.search.Node.{Node}
-use Rattle.minimax.specs.declared.search.NodeResult.{NodeResult}
+use Rattle.minimax.specs.declared.search.Pv.{Pv}
 use Rattle.minimax.specs.Structs.{structs}
 use Rattle.minimax.specs.State.{memory_of, pv_of, outcome_of, node_outcome, NodeFits, Counted, NodeGives}
-use Rattle.minimax.specs.State.{tally_of}
-use Rattle.minimax.specs.Completed.{completed_of, EmptyOn}
-use Rattle.minimax.specs.Report.{scoring_of, answer_of, bytes_of, responses_of}
-use Rattle.minimax.proofs.StateOutcomes.{outcome_stopped, outcome_found}
+use Rattle.minimax.specs.Completed.{completed_of}
+use Rattle.minimax.specs.Report.{tally_of, scoring_of, answer_of, byte_of, bytes_of, responses_of}
 use Rattle.minimax.proofs.ReportPlaces.{take_next, rest_next}
-use Rattle.minimax.proofs.ReportAnswers.{drop_bytes, bytes_empty}
+use Rattle.minimax.proofs.ReportAnswers.{bytes_empty}
 
 -- k depths more, after the completed ones, w
 abbrev deepened : Game → Config → ℕ → Completed → Memory → SearchAnswer
@@ -46,7 +47,6 @@ left_from g c w m = deepened g c (c.max_depth - w.depth) w m
 pub record Going (g : Game) (c : Config) (words₀ : List ℕ) (whole₀ : CompletedDepths) (s₀ : SearchState) (words : List ℕ)
     (whole : CompletedDepths) (s : SearchState) : Type 0 where
   pub same : left_from g c (completed_of whole) (memory_of s words) ≡ left_from g c (completed_of whole₀) (memory_of s₀ words₀)
-  pub empty : EmptyOn whole
   pub most : whole.depth ≤ c.max_depth
   pub allowed : s.count ≤ c.allowance
   pub long : length words ≡ length words₀
@@ -66,7 +66,7 @@ pub record Begun : Type 0 where
   pub values_are : values ≡ root_values g c
   pub whole : CompletedDepths
   pub s : SearchState
-  pub none : (completed_of whole ≡ nothing_yet) × EmptyOn whole
+  pub none : completed_of whole ≡ nothing_yet
   pub fresh : (ws : List ℕ) → memory_of s ws ≡ fresh_memory (responses_of m.responses) ws
 
 module _ (b : Begun) where
@@ -78,9 +78,9 @@ module _ (b : Begun) where
 
   pub going_first : Goes b.words b.whole b.s
   going_first =
-      let d : b.whole.depth ≡ 0 = ap (λ (w : Completed). w.depth) b.none.0 in
+      let d : b.whole.depth ≡ 0 = ap (λ (w : Completed). w.depth) b.none in
       let n : b.s.count ≡ 0 = ap (λ (x : Memory). x.count) (b.fresh []) in
-      record { same = refl; empty = b.none.1; most = omega arith; allowed = omega arith; long = refl }
+      record { same = refl; most = omega arith; allowed = omega arith; long = refl }
 
   abbrev left_first : SearchAnswer
   left_first = left_from b.g b.c (completed_of b.whole) (memory_of b.s b.words)
@@ -88,7 +88,7 @@ module _ (b : Begun) where
   going_all : left_first ≡ all_of_it
   unfolding analyze
   going_all = let e : b.c.max_depth - 0 ≡ b.c.max_depth = omega arith in
-      ap₂ (λ (w : Completed) (x : Memory). left_from b.g b.c w x) b.none.0 (b.fresh b.words)
+      ap₂ (λ (w : Completed) (x : Memory). left_from b.g b.c w x) b.none (b.fresh b.words)
       ∙ ap (λ (k : ℕ). deepened b.g b.c k nothing_yet (fresh_memory (responses_of b.m.responses) b.words)) e
 
   -- the limit is reached
@@ -157,11 +157,11 @@ module _ (x : Turn) where
   unfolding begin
   root_counted =
       let n : x.t.count ≡ x.s.count = ap (λ (y : Memory). y.count) (x.begins []) in
-      let v : x.t.visited ≡ 0 = ap (λ (y : Memory). y.tally.visited) (x.begins []) in
-      let l : x.t.terminal ≡ 0 = ap (λ (y : Memory). y.tally.terminal) (x.begins []) in
-      let k : x.t.cuts ≡ 0 = ap (λ (y : Memory). y.tally.cuts) (x.begins []) in
-      let h : x.t.tt_hit ≡ 0 = ap (λ (y : Memory). y.tally.tt_hit) (x.begins []) in
-      let f : x.t.tt_suffice ≡ 0 = ap (λ (y : Memory). y.tally.tt_suffice) (x.begins []) in
+      let v : x.t.stats.visited ≡ 0 = ap (λ (y : Memory). y.tally.visited) (x.begins []) in
+      let l : x.t.stats.terminal ≡ 0 = ap (λ (y : Memory). y.tally.terminal) (x.begins []) in
+      let k : x.t.stats.cuts ≡ 0 = ap (λ (y : Memory). y.tally.cuts) (x.begins []) in
+      let h : x.t.stats.tt_hit ≡ 0 = ap (λ (y : Memory). y.tally.tt_hit) (x.begins []) in
+      let f : x.t.stats.tt_suffice ≡ 0 = ap (λ (y : Memory). y.tally.tt_suffice) (x.begins []) in
       let a : x.root.allowance ≡ c.allowance = ap (λ (y : Node). y.allowance) root_valued in
       record {
         within = omega (arith, x.going.allowed);
@@ -185,7 +185,7 @@ module _ (x : Turn) where
   -- the variation is longer by an empty move
   line_longer : pv_of whole.pv (suc whole.depth) ≡ pv_of whole.pv whole.depth ++ (no_move ∷ [])
   line_longer = take_next whole.depth (bytes_of whole.pv.moves) (replicate (81 - (whole.depth + 1)) no_move) no_move
-      (drop_bytes whole.depth whole.pv.moves ∙ ap bytes_of x.going.empty.line_empty ∙ bytes_empty (81 - whole.depth)
+      (drop-map byte_of whole.depth whole.pv.moves ∙ ap bytes_of whole.pv_empty ∙ bytes_empty (81 - whole.depth)
       ∙ rest_next whole.depth no_move (omega (arith, x.begun.limits.0, x.more)))
 
   abbrev rest : ℕ
@@ -197,77 +197,77 @@ module _ (x : Turn) where
       (λ z pv y. let w = one_deeper (completed_of whole) z pv y.tally in
       when decided z then (λ _. record { is_stopped = false; completed = w; memory = y }) else λ _. deepened g c rest w y)
 
-  module _ {r : NodeResult} {words : List ℕ}
-      (gives : NodeGives x.root whole.pv r words (node_outcome x.root x.t whole.pv x.words))
-      (long : length words ≡ length x.words) where
-    outcome_is : searched_next ≡ outcome_of x.root r words
+  module _ {r : Option ℤ} {s : SearchState} {pv : Pv} {words : List ℕ}
+      (gives : NodeGives x.root whole.pv r s pv words (node_outcome x.root x.t whole.pv x.words)) where
+    outcome_is : searched_next ≡ outcome_of x.root r s pv words
     unfolding node_outcome
     outcome_is =
         (λ i. searched (suc whole.depth) (sym line_longer i) (sym (x.begins x.words) i))
         ∙ ap (λ (d : ℕ). searched d (pv_of whole.pv d) (memory_of x.t x.words)) (sym one)
         ∙ sym (ap (λ (y : Node). node_outcome y x.t whole.pv x.words) root_valued) ∙ sym gives.same
 
-    next_is : next_depth (outcome_of x.root r words) ≡ left_first x.begun
+    next_is : next_depth (outcome_of x.root r s pv words) ≡ left_first x.begun
     unfolding deepen
     next_is =
         let e : suc rest ≡ c.max_depth - whole.depth = omega (arith, x.more) in
         ap next_depth (sym outcome_is) ∙ ap (λ (k : ℕ). deepened g c k (completed_of whole) (memory_of x.s x.words)) e
         ∙ x.going.same
 
-    -- the allowance is spent
-    pub going_stopped : r.stopped ≡ true → record {
-      is_stopped = true;
-      completed = completed_of whole;
-      memory = memory_of r.state words;
-    } ≡ all_of_it x.begun
-    unfolding on_outcome
-    going_stopped e = sym (ap next_depth (outcome_stopped x.root r words e)) ∙ next_is ∙ going_all x.begun
+  -- the allowance is spent
+  pub going_stopped : {s : SearchState} {pv : Pv} {words : List ℕ} →
+      NodeGives x.root whole.pv None s pv words (node_outcome x.root x.t whole.pv x.words) →
+      record { is_stopped = true; completed = completed_of whole; memory = memory_of s words } ≡ all_of_it x.begun
+  unfolding on_outcome
+  going_stopped gives = next_is gives ∙ going_all x.begun
 
-    module _ (e : r.stopped ≡ false) where
-      depth_is : x.root.depth ≡ whole.depth + 1
-      depth_is = ap (λ (y : Node). y.depth) root_valued
+  module _ {score : ℤ} {s : SearchState} {pv : Pv} {words : List ℕ}
+      (gives : NodeGives x.root whole.pv (Some score) s pv words (node_outcome x.root x.t whole.pv x.words))
+      (long : length words ≡ length x.words) where
+    depth_is : x.root.depth ≡ whole.depth + 1
+    depth_is = ap (λ (y : Node). y.depth) root_valued
 
-      pub line_kept : drop (whole.depth + 1) r.pv.moves ≡ drop (whole.depth + 1) whole.pv.moves
-      line_kept = subst (λ (d : ℕ). drop d r.pv.moves ≡ drop d whole.pv.moves) depth_is (gives.places e)
+    pub line_kept : drop (whole.depth + 1) pv.moves ≡ drop (whole.depth + 1) whole.pv.moves
+    line_kept = subst (λ (d : ℕ). drop d pv.moves ≡ drop d whole.pv.moves) depth_is gives.places
 
-      found_is : outcome_of x.root r words ≡ found r.score (pv_of r.pv (whole.depth + 1)) (memory_of r.state words)
-      found_is =
-          outcome_found x.root r words e ∙ ap (λ (d : ℕ). found r.score (pv_of r.pv d) (memory_of r.state words)) depth_is
+    found_is : outcome_of x.root (Some score) s pv words ≡ found score (pv_of pv (whole.depth + 1)) (memory_of s words)
+    found_is = ap (λ (d : ℕ). found score (pv_of pv d) (memory_of s words)) depth_is
 
-      allowed_on : r.state.count ≤ c.allowance
-      unfolding Ends begin
-      allowed_on =
-          subst (Ends (λ y. y.count ≤ c.allowance)) (outcome_is ∙ found_is) (search_allowed _ _ _ _ _ _ _ _ _ x.going.allowed)
+    allowed_on : s.count ≤ c.allowance
+    unfolding Ends begin
+    allowed_on =
+        subst (Ends (λ y. y.count ≤ c.allowance)) (outcome_is gives ∙ found_is) (search_allowed _ _ _ _ _ _ _ _ _ x.going.allowed)
 
-      module _ {whole' : CompletedDepths}
-          (deeper : (completed_of whole' ≡ one_deeper (completed_of whole) r.score (pv_of r.pv (whole.depth + 1))
-          (tally_of r.state)) × EmptyOn whole' × (whole'.pv ≡ r.pv)) {b : Bool} (b_is : b ≡ decided whole'.score) where
-        decided_is : {a : Bool} → b ≡ a → decided r.score ≡ a
-        decided_is q = ap decided (sym (ap (λ (w : Completed). w.score) deeper.0)) ∙ sym b_is ∙ q
+    module _ {z : ℤ} (z_is : z ≡ score) (whole' : CompletedDepths)
+        (deeper : completed_of whole' ≡ one_deeper (completed_of whole) z (pv_of pv (whole.depth + 1)) (tally_of s.stats))
+        {b : Bool} (b_is : b ≡ decided whole'.score) where
+      deeper_is : completed_of whole' ≡ one_deeper (completed_of whole) score (pv_of pv (whole.depth + 1)) (tally_of s.stats)
+      deeper_is = deeper ∙ ap (λ (y : ℤ). one_deeper (completed_of whole) y (pv_of pv (whole.depth + 1)) (tally_of s.stats)) z_is
 
-        -- the score ends the search
-        pub going_decided : b ≡ true → record {
-          is_stopped = false;
-          completed = completed_of whole';
-          memory = memory_of r.state words;
-        } ≡ all_of_it x.begun
-        unfolding on_outcome when◌then◌else◌
-        going_decided q =
-            ap (λ (w : Completed). record { is_stopped = false; completed = w; memory = memory_of r.state words }) deeper.0
-            ∙ sym (ap next_depth found_is ∙ rw (decided_is q)) ∙ next_is ∙ going_all x.begun
+      decided_is : {a : Bool} → b ≡ a → decided score ≡ a
+      decided_is q = ap decided (sym (ap (λ (w : Completed). w.score) deeper_is)) ∙ sym b_is ∙ q
 
-        -- it does not
-        pub going_on : b ≡ false → Goes x.begun words whole' r.state
-        unfolding on_outcome when◌then◌else◌
-        going_on q =
-            let d : whole'.depth ≡ suc whole.depth = ap (λ (w : Completed). w.depth) deeper.0 in
-            let k : c.max_depth - whole'.depth ≡ rest = omega arith in
-            record {
-              same =
-                  (λ i. deepened g c (k i) (deeper.0 i) (memory_of r.state words))
-                  ∙ sym (ap next_depth found_is ∙ rw (decided_is q)) ∙ next_is;
-              empty = deeper.1;
-              most = omega (arith, x.more);
-              allowed = allowed_on;
-              long = long ∙ x.going.long;
-            }
+      -- the score ends the search
+      pub going_decided : b ≡ true → record {
+        is_stopped = false;
+        completed = completed_of whole';
+        memory = memory_of s words;
+      } ≡ all_of_it x.begun
+      unfolding on_outcome when◌then◌else◌
+      going_decided q =
+          ap (λ (w : Completed). record { is_stopped = false; completed = w; memory = memory_of s words }) deeper_is
+          ∙ sym (ap next_depth found_is ∙ rw (decided_is q)) ∙ next_is gives ∙ going_all x.begun
+
+      -- it does not
+      pub going_on : b ≡ false → Goes x.begun words whole' s
+      unfolding on_outcome when◌then◌else◌
+      going_on q =
+          let d : whole'.depth ≡ suc whole.depth = ap (λ (w : Completed). w.depth) deeper_is in
+          let k : c.max_depth - whole'.depth ≡ rest = omega arith in
+          record {
+            same =
+                (λ i. deepened g c (k i) (deeper_is i) (memory_of s words))
+                ∙ sym (ap next_depth found_is ∙ rw (decided_is q)) ∙ next_is gives;
+            most = omega (arith, x.more);
+            allowed = allowed_on;
+            long = long ∙ x.going.long;
+          }

@@ -1,9 +1,10 @@
 -- Lists of 81 places: the first d, and the empty ones from there on.
-use mathlib.Core.Path.{◌≡◌, refl, ap}
+use mathlib.Core.Path.{◌≡◌, ap}
 use mathlib.Core.List.{List, [], ◌∷◌, ◌++◌}
-use Prim.Native.Nat.{ℕ, zero, suc, ◌+◌, ◌-◌, ◌≤◌, ◌<◌}
+use Prim.Native.Nat.{ℕ, zero, suc, ◌+◌, ◌-◌, ◌<◌}
 use native.Mathlib.Omega.{arith}
-use lib.ListN.{length, set, take, drop, replicate}
+use lib.ListN.{set, take, drop, replicate}
+use Rattle.std.proofs.lemmas.List.{map-set}
 use Rattle.boards.specs.declared.moves.Move.{Move}
 use Rattle.minimax.specs.Report.{byte_of, bytes_of}
 
@@ -21,27 +22,6 @@ module _ {A : Type 0} where
   take_next (suc d) [] ys y e = absurd (let z : ◌≡◌ {A = ℕ} 0 1 = cc in omega arith)
   take_next (suc d) (x ∷ xs) ys y e = ap (◌∷◌ x) (take_next d xs ys y e)
 
-  pub take_drop : (d : ℕ) (xs : List A) → xs ≡ take d xs ++ drop d xs
-  take_drop zero xs = refl
-  take_drop (suc d) [] = refl
-  take_drop (suc d) (x ∷ xs) = ap (◌∷◌ x) (take_drop d xs)
-
-  pub length_of_take : (d : ℕ) (xs : List A) → d ≤ length xs → length (take d xs) ≡ d
-  length_of_take zero xs h = refl
-  length_of_take (suc d) [] h = absurd (omega arith)
-  length_of_take (suc d) (x ∷ xs) h = ap suc (length_of_take d xs (omega arith))
-
-  -- one place is set
-  pub take_set : (d : ℕ) (xs : List A) (y : A) → d < length xs → take (suc d) (set xs d y) ≡ take d xs ++ (y ∷ [])
-  take_set d [] y h = absurd (omega arith)
-  take_set zero (x ∷ xs) y h = refl
-  take_set (suc d) (x ∷ xs) y h = ap (◌∷◌ x) (take_set d xs y (omega arith))
-
-  pub drop_set : (d : ℕ) (xs : List A) (y : A) → drop (suc d) (set xs d y) ≡ drop (suc d) xs
-  drop_set d [] y = refl
-  drop_set zero (x ∷ xs) y = refl
-  drop_set (suc d) (x ∷ xs) y = drop_set d xs y
-
 -- the rest of 81 empty places
 pub rest_next : {A : Type 0} (d : ℕ) (y : A) → d < 81 → replicate (81 - d) y ≡ y ∷ replicate (81 - (d + 1)) y
 rest_next {A} d y h = ap (λ (n : ℕ). replicate n y) e
@@ -51,6 +31,4 @@ rest_next {A} d y h = ap (λ (n : ℕ). replicate n y) e
 
 -- ---- moves as bytes, one of them changed
 pub bytes_set : (ms : List Move) (i : ℕ) (m : Move) → bytes_of (set ms i m) ≡ set (bytes_of ms) i (byte_of m)
-bytes_set [] i m = refl
-bytes_set (x ∷ ms) zero m = refl
-bytes_set (x ∷ ms) (suc i) m = ap (λ (l : List ℕ). x.bits ∷ l) (bytes_set ms i m)
+bytes_set ms i m = map-set byte_of ms i m

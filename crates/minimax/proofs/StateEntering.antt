@@ -6,20 +6,17 @@ use mathlib.Core.List.{List, []}
 use Prim.Native.Nat.{ℕ, suc, ◌+◌, ◌-◌, ◌≤◌, ◌<◌}
 use native.Mathlib.Omega.{arith}
 use lib.Dec.{eqb}
-use lib.IntN.{pos}
+use lib.IntN.{ℤ}
 use lib.ListN.{set, replicate}
 use borrow.Author.Tests.{lt-ltb, le-ltb, eqb-true, eqb-false}
-use Rattle.base.specs.Checks.{all_pass}
-use Rattle.base.specs.Lists.{all}
 use Rattle.rules.specs.Position.{unfinished}
-use Rattle.rules.specs.Play.{accepts, no_move}
+use Rattle.rules.specs.Play.{no_move}
 use Rattle.rules.specs.Evaluation.{evaluate}
 use Rattle.theory.specs.Table.{Entry as Meant, look_up, suffices}
-use Rattle.theory.specs.Memory.{Memory, enter, leaf, hit, answered, some_move}
+use Rattle.theory.specs.Memory.{Memory, enter, leaf, hit, answered}
 use Rattle.theory.specs.OrderedSearch.{at_most, has_room, Outcome, found, unless_stopped, with_stored, candidates, over_moves}
 use Rattle.theory.specs.OrderedSearch.{search}
 use Rattle.theory.proofs.OrderedSearchArms.{search_stopped, search_leaf_zero, search_leaf_over, search_known, search_none, search_some}
-use Rattle.theory.proofs.OrderedSearchArms.{candidates_some}
 use Rattle.boards.specs.declared.moves.Move.{Move}
 use Rattle.game.specs.Meaning.{position_of}
 use Rattle.table.specs.declared.Entry.{Entry}
@@ -27,26 +24,19 @@ use Rattle.table.specs.Entries.{entry_means}
 use Rattle.minimax.specs.declared.search.SearchState.{SearchState}
 use Rattle.minimax.specs.declared.search.Pv.{Pv}
 use Rattle.minimax.specs.declared.search.Node.{Node}
-use Rattle.minimax.specs.declared.search.NodeResult.{NodeResult}
 use Rattle.minimax.specs.State.{node_scoring, memory_of, pv_of, node_game, node_outcome, over_left, over_all, outcome_of}
 use Rattle.minimax.specs.State.{then_stored, NodeFits, Counted, Ready, NodeGives}
-use Rattle.minimax.proofs.StateOutcomes.{outcome_stopped, outcome_found}
-use Rattle.order.proofs.OrderCandidates.{emptied}
+use Rattle.order.specs.Order.{listed}
 use Rattle.minimax.proofs.StatePv.{set_first_place, set_first_drop, empty_places}
-
--- ---- the empty move is not accepted
-none_refused : (a : Node) → (node_game a).accepts a.game no_move ≡ false
-unfolding accepts all_pass all
-none_refused a = refl
 
 -- ---- counts: from s to m a position is entered, and k entries of the table are met
 pub record Paid (k : ℕ) (s : SearchState) (m : Memory) : Type 0 where
   pub count_is : m.count ≡ suc s.count
-  pub visited_is : m.tally.visited ≡ suc s.visited
-  pub terminal_is : m.tally.terminal ≡ s.terminal
-  pub cuts_is : m.tally.cuts ≡ s.cuts
-  pub hits_is : m.tally.tt_hit ≡ s.tt_hit + k
-  pub suffice_is : m.tally.tt_suffice ≡ s.tt_suffice
+  pub visited_is : m.tally.visited ≡ suc s.stats.visited
+  pub terminal_is : m.tally.terminal ≡ s.stats.terminal
+  pub cuts_is : m.tally.cuts ≡ s.stats.cuts
+  pub hits_is : m.tally.tt_hit ≡ s.stats.tt_hit + k
+  pub suffice_is : m.tally.tt_suffice ≡ s.stats.tt_suffice
 
 module _ (s t : SearchState) (e : memory_of t [] ≡ enter (memory_of s [])) where
   pub entered_paid : Paid 0 s (memory_of t [])
@@ -82,13 +72,9 @@ more_is a s more = lt-ltb s.count a.allowance more
 
 module _ (a : Node) (s : SearchState) (l : Pv) (words : List ℕ) where
   -- no position more may be entered
-  pub stop_gives : (f : NodeResult) → a.allowance ≤ s.count → f ≡ record { state = s; pv = l; score = pos 0; stopped = true } →
-      NodeGives a l f words (node_outcome a s l words)
+  pub stop_gives : a.allowance ≤ s.count → NodeGives a l None s l words (node_outcome a s l words)
   unfolding node_outcome
-  stop_gives f h q = subst (λ (x : NodeResult). NodeGives a l x words (node_outcome a s l words)) (sym q) (record {
-    same = outcome_stopped a _ words refl ∙ sym (search_stopped _ _ _ _ _ _ _ _ _ (le-ltb s.count a.allowance h));
-    places = λ z. absurd (true≢false z);
-  })
+  stop_gives h = record { same = sym (search_stopped _ _ _ _ _ _ _ _ _ (le-ltb s.count a.allowance h)); places = refl }
 
   module _ (more : s.count < a.allowance) where
     leaf_is : (z : (eqb a.depth 0 || not (unfinished (position_of a.game))) ≡ true) →
@@ -107,21 +93,12 @@ module _ (a : Node) (s : SearchState) (l : Pv) (words : List ℕ) where
     -- a leaf
     pub leaf_gives : (s₁ : SearchState) → ((ws : List ℕ) → memory_of s₁ ws ≡ enter (memory_of s ws)) →
         (s₂ : SearchState) → ((ws : List ℕ) → memory_of s₂ ws ≡ leaf (memory_of s₁ ws))
-        → (x : Bool) → x ≡ (eqb a.depth 0 || not (unfinished (position_of a.game))) → x ≡ true
-        → (f : NodeResult) → f ≡ record {
-          state = s₂;
-          pv = l;
-          score = evaluate (node_scoring a) (position_of a.game);
-          stopped = false;
-        } → NodeGives a l f words (node_outcome a s l words)
-    leaf_gives s₁ entered s₂ w x t u f q =
-        subst (λ (y : NodeResult). NodeGives a l y words (node_outcome a s l words)) (sym q) (record {
-          same = outcome_found a _ words refl
-              ∙ ap (λ (m : Memory). found (evaluate (node_scoring a) (position_of a.game)) (pv_of l a.depth) m)
-              (w words ∙ ap leaf (entered words))
-              ∙ sym (leaf_is (sym t ∙ u));
-          places = λ _. refl;
-        })
+        → (eqb a.depth 0 || not (unfinished (position_of a.game))) ≡ true
+        → (z : ℤ) → z ≡ evaluate (node_scoring a) (position_of a.game) → NodeGives a l (Some z) s₂ l words (node_outcome a s l words)
+    leaf_gives s₁ entered s₂ w t z q = record {
+      same = ap₂ (λ (v : ℤ) (m : Memory). found v (pv_of l a.depth) m) q (w words ∙ ap leaf (entered words)) ∙ sym (leaf_is t);
+      places = refl;
+    }
 
 -- ---- a position that may be entered, and the state after it is counted
 pub record Begun : Type 0 where
@@ -155,28 +132,25 @@ pub record Knows {c : Begun} (k : Looked c) : Type 0 where
   pub told_suffices : b ≡ suffices (entry_means entry) c.a.depth c.a.alpha c.a.beta
 
 -- what is left to search, with the table's move, from the state t
-pub record Goes (c : Begun) (first : Move) (t : SearchState) : Type 0 where
+pub record Goes (c : Begun) (first : Option Move) (t : SearchState) : Type 0 where
   pub ready : Ready c.a t
   pub same : then_stored c.a (over_all c.a first t c.l c.words) ≡ node_outcome c.a c.s c.l c.words
 
 -- ---- each count has room
-pub may_enter : (a : Node) (s : SearchState) → NodeFits a → Counted a s → s.count < a.allowance → (s.count < 1000000000) ×
-    (s.visited < 1000000000)
-may_enter a s asked counted more = (omega (arith, asked.allowed), omega (arith, counted.visited_within, asked.allowed))
+pub may_leaf : (a : Node) (s s₁ : SearchState) → NodeFits a → Counted a s → s.count < a.allowance →
+    memory_of s₁ [] ≡ enter (memory_of s []) → s₁.stats.terminal < 1000000000
+may_leaf a s s₁ asked counted more e =
+    omega (arith, (entered_paid s s₁ e).terminal_is, counted.terminal_within, more, asked.allowed)
 
 module _ (c : Begun) where
   paid : Paid 0 c.s (memory_of c.s₁ [])
   paid = entered_paid c.s c.s₁ (c.entered [])
 
-  pub may_leaf : c.s₁.terminal < 1000000000
-  may_leaf = omega (arith, paid.terminal_is, c.counted.terminal_within, c.more, c.asked.allowed)
-
-  pub may_hit : c.s₁.tt_hit < 1000000000
+  pub may_hit : c.s₁.stats.tt_hit < 1000000000
   may_hit = omega (arith, paid.hits_is, c.counted.hits_within, c.more, c.asked.allowed)
 
-  pub may_suffice : (s₂ : SearchState) → memory_of s₂ [] ≡ hit (memory_of c.s₁ []) → s₂.tt_suffice < 1000000000
-  may_suffice s₂ e =
-      omega (arith, (hit_paid c.s c.s₁ (c.entered []) s₂ e).suffice_is, c.counted.suffice_within, c.more, c.asked.allowed)
+  pub may_suffice : c.s₁.stats.tt_suffice < 1000000000
+  may_suffice = omega (arith, paid.suffice_is, c.counted.suffice_within, c.more, c.asked.allowed)
 
 -- ---- the table is asked
 module _ {c : Begun} (k : Looked c) where
@@ -206,23 +180,22 @@ module _ {c : Begun} (k : Looked c) where
   abbrev tried : List ℕ → Memory → List ℕ
   tried first m = candidates (node_game a) first m a.game a.prev.bits (pv_of c.l a.depth)
 
-  over_same : (first : Move) (s₂ : SearchState) (m : Memory) → memory_of s₂ c.words ≡ m →
-      then_stored a (over_all a first s₂ c.l c.words) ≡ from_memory (tried (some_move first.bits) m) m
+  over_same : (first : Option Move) (s₂ : SearchState) (m : Memory) → memory_of s₂ c.words ≡ m →
+      then_stored a (over_all a first s₂ c.l c.words) ≡ from_memory (tried (listed first) m) m
   unfolding then_stored over_all over_left
   over_same first s₂ m q = λ i. unless_stopped
       (over_moves (node_game a) (search (node_game a) (at_most a.allowance) (a.depth - 1)) a.game a.beta a.prev.bits
-      (tried (some_move first.bits) (q i)) a.alpha (pv_of c.l a.depth)
+      (tried (listed first) (q i)) a.alpha (pv_of c.l a.depth)
       (sym (empty_places (a.depth - 1) 81 (omega (arith, c.asked.deep))) i) (q i))
       (λ r pv m'. found r pv (with_stored m' ((node_game a).key a.game) a.depth a.alpha a.beta r pv))
 
   -- it knows nothing
-  pub none_goes : k.held ≡ None → (first : Move) → first.bits ≡ no_move → Goes c first c.s₁
+  pub none_goes : k.held ≡ None → Goes c None c.s₁
   unfolding node_outcome
-  none_goes h first n = let entered = enter (memory_of c.s c.words) in record {
+  none_goes h = record {
     ready = paid_ready a c.s c.s₁ 0 (omega arith) c.counted c.more deep_enough (paid c);
     same =
-        over_same first c.s₁ _ (c.entered c.words) ∙ ap (λ (ms : List ℕ). from_memory (tried ms entered) entered)
-        (emptied first.bits n)
+        over_same None c.s₁ _ (c.entered c.words)
         ∙ sym (search_none _ _ _ _ _ _ _ _ _ (more_is a c.s c.more) deep_enough not_leaf.1
         (look_up_is None (ap (option_map entry_means) h)));
   }
@@ -236,48 +209,51 @@ module _ {c : Begun} {k : Looked c} (e : Knows k) where
 
   -- what it knows suffices
   pub known_gives : e.b ≡ true → (s₃ : SearchState) → ((ws : List ℕ) → memory_of s₃ ws ≡ answered (memory_of e.s₂ ws))
-      → (f : NodeResult) → f ≡ record {
-        state = s₃;
-        pv = record { moves = set c.l.moves 0 e.entry.pv };
-        score = e.entry.value;
-        stopped = false;
-      }
-      → NodeGives c.a c.l f c.words (node_outcome c.a c.s c.l c.words)
+      → (z : ℤ) → z ≡ e.entry.value → NodeGives c.a c.l (Some z) s₃ (record { moves = set c.l.moves 0 e.entry.pv }) c.words
+      (node_outcome c.a c.s c.l c.words)
   unfolding node_outcome
-  known_gives t s₃ w f q =
-      subst (λ (y : NodeResult). NodeGives c.a c.l y c.words (node_outcome c.a c.s c.l c.words)) (sym q) (record {
-        same = outcome_found c.a _ c.words refl
-            ∙ ap₂ (λ (pv : List ℕ) (m : Memory). found e.entry.value pv m)
-            (set_first_place c.l.moves e.entry.pv c.a.depth) (w c.words ∙ ap answered (met_is c.words))
-            ∙ sym (search_known _ _ _ _ _ _ _ _ _ (more_is c.a c.s c.more) (deep_enough k) (not_leaf k).1 (entry_means e.entry)
-            (look_up_is k _ (ap (option_map entry_means) e.is_held)) (sym e.told_suffices ∙ t));
-        places = λ _. set_first_drop c.l.moves e.entry.pv c.a.depth (deep_enough k);
-      })
+  known_gives t s₃ w z q = record {
+    same = (λ i. found (q i) (set_first_place c.l.moves e.entry.pv c.a.depth i) ((w c.words ∙ ap answered (met_is c.words)) i))
+        ∙ sym (search_known _ _ _ _ _ _ _ _ _ (more_is c.a c.s c.more) (deep_enough k) (not_leaf k).1 (entry_means e.entry)
+        (look_up_is k _ (ap (option_map entry_means) e.is_held)) (sym e.told_suffices ∙ t));
+    places = set_first_drop c.l.moves e.entry.pv c.a.depth (deep_enough k);
+  }
 
   -- it does not
-  pub some_goes : e.b ≡ false → (first : Move) → first ≡ e.entry.pv → Goes c first e.s₂
+  pub some_goes : e.b ≡ false → Goes c (Some e.entry.pv) e.s₂
   unfolding node_outcome
-  some_goes t first n = record {
+  some_goes t = record {
     ready =
         paid_ready c.a c.s e.s₂ 1 (omega arith) c.counted c.more (deep_enough k)
         (hit_paid c.s c.s₁ (c.entered []) e.s₂ (e.was_hit []));
-    same = over_same k first e.s₂ _ (met_is c.words)
-        ∙ ap (λ (ms : List ℕ). from_memory k ms (met c.words)) (ap (λ (m : Move). tried k (some_move m.bits) (met c.words)) n
-        ∙ sym (candidates_some (node_game c.a) (met c.words) c.a.game c.a.prev.bits (pv_of c.l c.a.depth)
-        e.entry.pv.bits (none_refused c.a)))
+    same = over_same k (Some e.entry.pv) e.s₂ _ (met_is c.words)
         ∙ sym (search_some _ _ _ _ _ _ _ _ _ (more_is c.a c.s c.more) (deep_enough k) (not_leaf k).1 (entry_means e.entry)
         (look_up_is k _ (ap (option_map entry_means) e.is_held)) (sym e.told_suffices ∙ t));
   }
 
 -- ---- searched over its moves, and the table told
-pub goes_gives : {c : Begun} {first : Move} {t : SearchState} → Goes c first t → {r : NodeResult} {words₁ words₂ : List ℕ}
-    → NodeGives c.a c.l r words₁ (over_all c.a first t c.l c.words) →
-    outcome_of c.a r words₂ ≡ then_stored c.a (outcome_of c.a r words₁)
-    → NodeGives c.a c.l r words₂ (node_outcome c.a c.s c.l c.words)
-goes_gives {c} h g t = record { same = t ∙ ap (then_stored c.a) g.same ∙ h.same; places = g.places }
+module _ {c : Begun} {first : Option Move} {t : SearchState} (h : Goes c first t) {s : SearchState} {pv : Pv} {words₁ : List ℕ} where
+  -- what was found is stored
+  pub goes_gives : {z : ℤ} → NodeGives c.a c.l (Some z) s pv words₁ (over_all c.a first t c.l c.words) → {y : ℤ} → y ≡ z →
+      {words₂ : List ℕ} →
+      ((u : SearchState) → outcome_of c.a (Some y) u pv words₂ ≡ then_stored c.a (outcome_of c.a (Some y) u pv words₁))
+      → NodeGives c.a c.l (Some y) s pv words₂ (node_outcome c.a c.s c.l c.words)
+  goes_gives g q w = record {
+    same = w s ∙ ap (then_stored c.a) (ap (λ (x : ℤ). outcome_of c.a (Some x) s pv words₁) q ∙ g.same) ∙ h.same;
+    places = g.places;
+  }
+
+  -- nothing, where the search was stopped
+  pub goes_stops : NodeGives c.a c.l None s pv words₁ (over_all c.a first t c.l c.words) → {f : Option ℤ} → f ≡ None →
+      NodeGives c.a c.l f s pv words₁ (node_outcome c.a c.s c.l c.words)
+  unfolding then_stored unless_stopped
+  goes_stops g q = record {
+    same = ap (λ (x : Option ℤ). outcome_of c.a x s pv words₁) q ∙ ap (then_stored c.a) g.same ∙ h.same;
+    places = g.places;
+  }
 
 -- the same, of another name for the move and the state
-pub goes_on : {c : Begun} {first first' : Move} {t t' : SearchState} → first ≡ first' → t ≡ t' → Goes c first' t' →
+pub goes_on : {c : Begun} {first first' : Option Move} {t t' : SearchState} → first ≡ first' → t ≡ t' → Goes c first' t' →
     Goes c first t
 goes_on {c} {first} {first'} {t} {t'} p q g =
-    subst (λ (x : Move). Goes c x t) (sym p) (subst (λ (y : SearchState). Goes c first' y) (sym q) g)
+    subst (λ (x : Option Move). Goes c x t) (sym p) (subst (λ (y : SearchState). Goes c first' y) (sym q) g)

@@ -1,5 +1,5 @@
 -- Scores within the root's window in the machine: each is read back, and its negative is the exact one.
-use mathlib.Core.Path.{◌≡◌, sym, ap, ap₂, ◌∙◌}
+use mathlib.Core.Path.{◌≡◌, sym, ap₂, ◌∙◌}
 use mathlib.Core.Bool.{Bool}
 use Prim.Native.Nat.{◌^◌, ◌<◌}
 use native.Mathlib.Omega.{arith}
@@ -30,11 +30,11 @@ within_fits (pos n) h = record { sfits = omega (arith, hi_le (pos n) _ h.high) }
 within_fits (negsuc n) h = record { sfits = omega (arith, lo_le (negsuc n) _ h.low) }
 
 module _ (z : ℤ) (h : Within z) where
-  minus : pos 0 -ℤ reads z ≡ neg_ℤ z
-  minus = +ℤ_idl (neg_ℤ (reads z)) ∙ ap neg_ℤ (to_z-of_z (within_fits z h))
+  minus : pos 0 -ℤ z ≡ neg_ℤ z
+  minus = +ℤ_idl (neg_ℤ z)
 
-  pub minus_fits : SFits w64 (pos 0 -ℤ reads z)
+  pub minus_fits : SFits w64 (pos 0 -ℤ z)
   minus_fits = rw minus (within_fits (neg_ℤ z) (neg_within z h))
 
-  pub minus_reads : reads (pos 0 -ℤ reads z) ≡ neg_ℤ z
+  pub minus_reads : reads (pos 0 -ℤ z) ≡ neg_ℤ z
   minus_reads = to_z-of_z minus_fits ∙ minus

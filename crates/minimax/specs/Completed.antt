@@ -1,5 +1,5 @@
 -- The structs inside `analyze`: what a refusal reports, and what the completed depths mean.
-use Rattle.std.specs.Prelude.{◌≡◌, List, map, ℕ, ◌-◌, ◌≤◌, pos, take, drop, replicate}
+use Rattle.std.specs.Prelude.{List, map, ℕ, pos, take, replicate}
 use Rattle.rules.specs.Play.{no_move}
 use Rattle.theory.specs.Limits.{console}
 use Rattle.theory.specs.Memory.{Responses}
@@ -32,9 +32,3 @@ completed_of d = record {
   pv = pv_of d.pv d.depth;
   stats = take d.depth (map stats_of d.stats);
 }
-
--- the places after the last completed depth are empty
-pub record EmptyOn (d : CompletedDepths) : Type 0 where
-  pub most : d.depth ≤ console.deepest
-  pub line_empty : drop d.depth d.pv.moves ≡ replicate (console.deepest - d.depth) (record { bits = no_move })
-  pub stats_empty : drop d.depth (map stats_of d.stats) ≡ replicate (console.deepest - d.depth) no_stats

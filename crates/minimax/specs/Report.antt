@@ -2,7 +2,7 @@
 use Rattle.std.specs.Prelude.{Bool, true, false, List, map, ℕ, replicate}
 use Rattle.rules.specs.Play.{no_move}
 use Rattle.rules.specs.Evaluation.{Scoring, scoring_with}
-use Rattle.theory.specs.Memory.{Responses, fresh_memory, counts}
+use Rattle.theory.specs.Memory.{Responses, Tally, fresh_memory, counts}
 use Rattle.theory.specs.OrderedSearch.{at_most}
 use Rattle.theory.specs.Deepening.{Stats as Meant, SearchAnswer, analyze}
 use Rattle.theory.specs.Reported.{Settings, Reported, reported}
@@ -56,12 +56,11 @@ ending_stopped Stopped = true
 ending_stopped (Refused e) = is_spent e
 
 -- ---- settings, and what is reported
+abbrev pub tally_of : Stats → Tally
+tally_of s = counts s.visited s.terminal s.cuts s.tt_hit s.tt_suffice
+
 abbrev pub stats_of : Stats → Meant
-stats_of s = record {
-  depth = s.depth;
-  score = s.score;
-  tally = counts s.visited s.terminal s.cuts s.tt_hit s.tt_suffice;
-}
+stats_of s = record { depth = s.depth; score = s.score; tally = tally_of s }
 
 abbrev pub settings_of : Config → Settings
 settings_of c = record { max_depth = c.max_depth; allowance = c.allowance; weights = c.weights }

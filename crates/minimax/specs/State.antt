@@ -1,34 +1,29 @@
 -- What the structs of the search mean, and what the search of a position gives.
-use Rattle.std.specs.Prelude.{◌≡◌, false, List, ℕ, ◌-◌, ◌≤◌, ◌<◌, T, ℤ, take, drop, replicate, set, ◌≤ℤ◌}
-use Rattle.base.specs.Branch.{when◌then◌else◌}
+use Rattle.std.specs.Prelude.{◌≡◌, List, ℕ, ◌-◌, ◌≤◌, ◌<◌, T, ℤ, take, drop, replicate, set, ◌≤ℤ◌, Option, None, Some}
 use Rattle.rules.specs.Play.{board_of, no_move}
 use Rattle.rules.specs.Evaluation.{accepted_weights, Scoring, scoring_with}
 use Rattle.theory.specs.Limits.{console}
 use Rattle.theory.specs.Game.{Game as Searched}
 use Rattle.theory.specs.PlainMinimax.{lowest, highest}
-use Rattle.theory.specs.Memory.{Memory, some_move, Tally, counts}
+use Rattle.theory.specs.Memory.{Memory}
 use Rattle.theory.specs.OrderedSearch.{at_most, Outcome, stopped, found, unless_stopped, with_stored, candidates, over_moves, search}
 use Rattle.boards.specs.declared.moves.Move.{Move}
 use Rattle.game.specs.Meaning.{position_of}
 use Rattle.evaluation.specs.declared.Values.{Values}
 use Rattle.evaluation.specs.Values.{board_value, values_of}
 use Rattle.order.specs.declared.NextMove.{NextMove}
+use Rattle.order.specs.Order.{listed}
 use Rattle.minimax.specs.declared.search.SearchState.{SearchState}
 use Rattle.minimax.specs.declared.search.Pv.{Pv}
 use Rattle.minimax.specs.declared.search.Node.{Node}
-use Rattle.minimax.specs.declared.search.Best.{Best}
-use Rattle.minimax.specs.declared.search.NodeResult.{NodeResult}
 use Rattle.minimax.specs.Structs.{structs}
-use Rattle.minimax.specs.Report.{bytes_of, responses_of}
+use Rattle.minimax.specs.Report.{bytes_of, responses_of, tally_of}
 
 -- ---- the state
-abbrev pub tally_of : SearchState → Tally
-tally_of s = counts s.visited s.terminal s.cuts s.tt_hit s.tt_suffice
-
 abbrev pub memory_of : SearchState → List ℕ → Memory
 memory_of s words = record {
   count = s.count;
-  tally = tally_of s;
+  tally = tally_of s.stats;
   responses = responses_of s.responses;
   table = words;
 }
@@ -40,17 +35,17 @@ pv_of l d = take d (bytes_of l.moves)
 abbrev pub empty_pv : Pv
 empty_pv = record { moves = replicate console.deepest (record { bits = no_move }) }
 
--- ---- nodes and their results
+-- ---- nodes, and what was found at one
 abbrev pub node_scoring : Node → Scoring
 node_scoring a = scoring_with a.draw_winner a.values.weights
 
 abbrev pub node_game : Node → Searched
 node_game a = structs (node_scoring a)
 
-unfoldable pub outcome_of : Node → NodeResult → List ℕ → Outcome
-outcome_of a r words =
-    when r.stopped then (λ _. stopped (memory_of r.state words)) else
-    λ _. found r.score (pv_of r.pv a.depth) (memory_of r.state words)
+-- a score, or none where the search was stopped; and the state, the variation and the table's words by then
+abbrev pub outcome_of : Node → Option ℤ → SearchState → Pv → List ℕ → Outcome
+outcome_of a None s l words = stopped (memory_of s words)
+outcome_of a (Some score) s l words = found score (pv_of l a.depth) (memory_of s words)
 
 -- the values after a move: its own board's anew
 abbrev pub values_below : Node → NextMove → Values
@@ -65,17 +60,17 @@ node_outcome a s l words =
     search (node_game a) (at_most a.allowance) a.depth a.game a.alpha a.beta (pv_of l a.depth) a.prev.bits
     (memory_of s words)
 
--- over the moves left
-unfoldable pub over_left : Node → List ℕ → Best → Pv → SearchState → List ℕ → Outcome
-over_left a ms best local s words =
+-- over the moves left: the lower edge by now, the variation, and that of the position below
+unfoldable pub over_left : Node → List ℕ → ℤ → Pv → Pv → SearchState → List ℕ → Outcome
+over_left a ms alpha l below s words =
     over_moves (node_game a) (search (node_game a) (at_most a.allowance) (a.depth - 1)) a.game a.beta a.prev.bits ms
-    best.score (pv_of best.pv a.depth) (pv_of local (a.depth - 1)) (memory_of s words)
+    alpha (pv_of l a.depth) (pv_of below (a.depth - 1)) (memory_of s words)
 
 -- over all moves, the table's move first
-unfoldable pub over_all : Node → Move → SearchState → Pv → List ℕ → Outcome
+unfoldable pub over_all : Node → Option Move → SearchState → Pv → List ℕ → Outcome
 over_all a first s l words =
-    over_left a (candidates (node_game a) (some_move first.bits) (memory_of s words) a.game a.prev.bits (pv_of l a.depth))
-    (record { pv = l; score = a.alpha }) empty_pv s words
+    over_left a (candidates (node_game a) (listed first) (memory_of s words) a.game a.prev.bits (pv_of l a.depth))
+    a.alpha l empty_pv s words
 
 -- and the result stored
 unfoldable pub then_stored : Node → Outcome → Outcome
@@ -108,20 +103,21 @@ pub record NodeFits (a : Node) : Type 0 where
 -- no count is beyond the positions entered, so none wraps
 pub record Counted (a : Node) (s : SearchState) : Type 0 where
   pub within : s.count ≤ a.allowance
-  pub visited_within : s.visited ≤ s.count
-  pub terminal_within : s.terminal ≤ s.count
-  pub cuts_within : s.cuts ≤ s.count
-  pub hits_within : s.tt_hit ≤ s.count
-  pub suffice_within : s.tt_suffice ≤ s.count
+  pub visited_within : s.stats.visited ≤ s.count
+  pub terminal_within : s.stats.terminal ≤ s.count
+  pub cuts_within : s.stats.cuts ≤ s.count
+  pub hits_within : s.stats.tt_hit ≤ s.count
+  pub suffice_within : s.stats.tt_suffice ≤ s.count
 
 -- a position that is entered and not answered
 pub record Ready (a : Node) (s : SearchState) : Type 0 where
   pub deep : 0 < a.depth
   pub counted : Counted a s
-  pub room : s.cuts < s.count
+  pub room : s.stats.cuts < s.count
 
 -- ---- promises
--- the definition's outcome; unless stopped, the variation's places from the depth on are as they were
-pub record NodeGives (a : Node) (l : Pv) (r : NodeResult) (words : List ℕ) (o : Outcome) : Type 0 where
-  pub same : outcome_of a r words ≡ o
-  pub places : r.stopped ≡ false → drop a.depth r.pv.moves ≡ drop a.depth l.moves
+-- from the variation l: the definition's outcome, and the variation's places from the depth on are as they were. Of a stopped search the
+-- places before are free
+pub record NodeGives (a : Node) (l : Pv) (r : Option ℤ) (s : SearchState) (pv : Pv) (words : List ℕ) (o : Outcome) : Type 0 where
+  pub same : outcome_of a r s pv words ≡ o
+  pub places : drop a.depth pv.moves ≡ drop a.depth l.moves

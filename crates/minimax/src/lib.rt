@@ -6,7 +6,7 @@
 mod search;
 
 ghost use Rattle.std.proofs.Common.{rules};
-ghost use Rattle.std.specs.Prelude.{◌≡◌, ◌&&◌, List, ℕ, ◌+◌, ◌≤◌, ◌<◌, T, eqb, drop};
+ghost use Rattle.std.specs.Prelude.{◌≡◌, ◌&&◌, List, map, ℕ, ◌+◌, ◌-◌, ◌≤◌, ◌<◌, T, eqb, drop, replicate};
 ghost use Rattle.base.specs.Branch.{when◌then◌else◌};
 ghost use Rattle.rules.specs.Play.{no_move};
 ghost use Rattle.rules.specs.Refusal.{answer_number};
@@ -15,23 +15,24 @@ ghost use Rattle.theory.specs.Limits.{console};
 ghost use Rattle.theory.specs.PlainMinimax.{lowest, highest};
 ghost use Rattle.theory.specs.Memory.{fresh_memory};
 ghost use Rattle.theory.specs.Deepening.{nothing_yet, one_deeper, decided};
-ghost use Rattle.theory.specs.Reported.{entry_refusal, report};
-ghost use Rattle.minimax.specs.State.{memory_of, pv_of, tally_of};
-ghost use Rattle.minimax.specs.Completed.{completed_of, EmptyOn, refused_with};
-ghost use Rattle.minimax.specs.Report.{search_error_number, ending_number, ending_stopped, stats_of, settings_of, responses_of};
-ghost use Rattle.minimax.specs.Report.{scoring_of, empty_responses, report_of, answer_of};
+ghost use Rattle.theory.specs.Reported.{no_stats, entry_refusal, report};
+ghost use Rattle.minimax.specs.State.{memory_of, pv_of};
+ghost use Rattle.minimax.specs.Report.{search_error_number, ending_number, ending_stopped, tally_of, stats_of, settings_of};
+ghost use Rattle.minimax.specs.Report.{responses_of, scoring_of, empty_responses, report_of, answer_of};
 ghost use Rattle.minimax.specs.Report.{reported_of};
 ghost use Rattle.minimax.specs.Structs.{structs};
 
 use boards::{Move, PLACES};
-use evaluation::{EVAL_LOST, EVAL_WON, Values};
+use evaluation::{BadWeight, EVAL_LOST, EVAL_WON, Values};
 use game::Game;
 use rules::{Player, Refusal, Weights};
-use search::{Node, NodeResult, Pv, SearchState};
+use search::{Node, Pv, SearchState};
 use table::DEEPEST;
 
+// The most positions that a search may be allowed to enter.
 pub const MOST_POSITIONS: u64 = 1000000000;
 
+// The most words of a table, three to an entry.
 pub const MOST_WORDS: usize = 196608;
 
 // Of one completed depth.
@@ -54,7 +55,8 @@ pub struct Config {
     pub weights: Weights,
 }
 
-// The responses to X's moves and to O's, by the move's byte.
+// The responses to X's moves and to O's, by the move's byte. Document 01 has arrays of 256 empty moves: the empty one stands for none;
+// an `Option<Move>` would take two bytes in place of one.
 #[derive(Clone, Copy)]
 pub struct ResponseTables {
     pub x: [Move; 256],
@@ -81,18 +83,22 @@ impl Refusal for SearchError {
 
     ghost never_0 = { Prim.search rules };
 
-    fn number(self) -> u64 {
+    fn number(self) -> u64
+        ensures { result ≡ search_error_number self }
+    {
         match self {
             SearchError::Depth => 15,
             SearchError::Allowance => 16,
             SearchError::Words => 17,
-            SearchError::Weights => 20,
+            SearchError::Weights => BadWeight.number(),
             SearchError::Spent => 18,
         }
     }
 }
 
-// Three ways, and no `Result`: a search that is stopped has an answer, and so is neither whole nor refused.
+// `Stopped` is by the allowance with a depth completed. Three ways, and no `Result`: such a search has an answer, and so is neither whole
+// nor refused. Nor is a refused search an `Err`: one refused by 18 has entered positions, and by document 01 its report has their count and
+// the memory that it leaves.
 #[derive(Clone, Copy, PartialEq, Eq)]
 pub enum Ending {
     Whole,
@@ -112,7 +118,8 @@ impl Ending {
     }
 }
 
-// The last completed depth with its score and variation, the positions entered, and the stats of each completed depth.
+// The last completed depth with its score and variation, the positions entered, and the stats of each completed depth. By document 01 the
+// variation has a fixed 81 moves, a place for each depth, and so have the stats; the places after `depth` are empty.
 #[derive(Clone, Copy)]
 pub struct Report {
     pub state: Minimax,
@@ -124,13 +131,17 @@ pub struct Report {
     pub stats: [Stats; PLACES],
 }
 
-// What the completed depths have come to: the last one, its score and variation, and the stats of each.
+// What the completed depths have come to: the last one, its score and variation, and the stats of each. The places after the last one are
+// empty.
 #[derive(Clone, Copy)]
 struct CompletedDepths {
     pub pv: Pv,
     pub stats: [Stats; PLACES],
     pub depth: u8,
     pub score: i64,
+    ghost at_most: { depth ≤ console.deepest },
+    ghost pv_empty: { drop depth pv.moves ≡ replicate (console.deepest - depth) (record { bits = no_move }) },
+    ghost stats_empty: { drop depth (map stats_of stats) ≡ replicate (console.deepest - depth) no_stats },
 }
 
 impl Stats {
@@ -143,24 +154,10 @@ impl Stats {
         tt_hit: 0,
         tt_suffice: 0,
     };
-
-    fn of(depth: u8, r: NodeResult) -> Stats
-        ensures { stats_of result ≡ record { depth = depth; score = r.score; tally = tally_of r.state } }
-    {
-        Stats {
-            depth: depth as u64,
-            score: r.score,
-            visited: r.state.visited,
-            terminal: r.state.terminal,
-            cuts: r.state.cuts,
-            tt_hit: r.state.tt_hit,
-            tt_suffice: r.state.tt_suffice,
-        }
-    }
 }
 
 impl Config {
-    // Whether a search may begin: refusals 15 to 17, and 20.
+    // Whether a search may begin with so many words: refusals 15 to 17, and 20.
     fn check(self, words: usize) -> Result<(), SearchError>
         ensures { answer_number search_error_number result ≡ entry_refusal (settings_of self) words }
     {
@@ -207,8 +204,10 @@ impl Config {
 }
 
 impl CompletedDepths {
+    ghost use Rattle.minimax.specs.Completed.{completed_of};
+
     fn none() -> CompletedDepths
-        ensures { (completed_of result ≡ nothing_yet) × EmptyOn result }
+        ensures { completed_of result ≡ nothing_yet }
     {
         CompletedDepths {
             pv: Pv::empty(),
@@ -218,23 +217,24 @@ impl CompletedDepths {
         }
     }
 
-    // One depth more.
-    fn deeper(self, r: NodeResult) -> CompletedDepths
-        requires { (self.depth < console.deepest) × EmptyOn self
-            × (drop (self.depth + 1) r.pv.moves ≡ drop (self.depth + 1) self.pv.moves) }
-        ensures { (completed_of result ≡ one_deeper (completed_of self) r.score (pv_of r.pv (self.depth + 1))
-            (tally_of r.state))
-            × EmptyOn result × (result.pv ≡ r.pv) }
+    // One depth more, which found this and left the state so.
+    fn deeper(self, score: i64, pv: Pv, state: &SearchState) -> CompletedDepths
+        requires { (self.depth < console.deepest) × (drop (self.depth + 1) pv.moves ≡ drop (self.depth + 1) self.pv.moves) }
+        ensures { completed_of result ≡ one_deeper (completed_of self) score (pv_of pv (self.depth + 1)) (tally_of state.now.stats) }
     {
         let mut stats = self.stats;
         let at = self.depth as usize;
         let depth = self.depth + 1;
-        stats[at] = Stats::of(depth, r);
+        stats[at] = Stats {
+            depth: depth as u64,
+            score,
+            ..state.stats
+        };
         CompletedDepths {
-            pv: r.pv,
+            pv,
             stats,
             depth,
-            score: r.score,
+            score,
         }
     }
 
@@ -258,17 +258,17 @@ impl CompletedDepths {
         Ending::Stopped
     }
 
-    fn report(self, state: SearchState, stopped: bool) -> Report
-        requires { EmptyOn self }
+    fn report(self, state: &SearchState, stopped: bool) -> Report
         ensures { (sc : Scoring) (game : Game) (words : List ℕ) → report_of result words
-            ≡ report (structs sc) game (record { is_stopped = stopped; completed = completed_of self; memory = memory_of state words }) }
+            ≡ report (structs sc) game
+            (record { is_stopped = stopped; completed = completed_of self; memory = memory_of state.now words }) }
     {
+        // By variables: the borrow checker takes no array from a field into a struct.
+        let responses = state.responses;
         let pv = self.pv.moves;
         let stats = self.stats;
         Report {
-            state: Minimax {
-                responses: state.responses,
-            },
+            state: Minimax { responses },
             ending: self.ending(stopped),
             depth: self.depth as u64,
             score: self.score,
@@ -280,6 +280,8 @@ impl CompletedDepths {
 }
 
 impl Minimax {
+    ghost use Rattle.minimax.specs.Completed.{refused_with};
+
     pub fn new() -> Minimax
         ensures { result ≡ empty_responses }
     {
@@ -305,21 +307,6 @@ impl Minimax {
         }
     }
 
-    // The search's state before its first depth.
-    fn begin(self) -> SearchState
-        ensures { (words : List ℕ) → memory_of result words ≡ fresh_memory (responses_of self.responses) words }
-    {
-        SearchState {
-            responses: self.responses,
-            count: 0,
-            visited: 0,
-            terminal: 0,
-            cuts: 0,
-            tt_hit: 0,
-            tt_suffice: 0,
-        }
-    }
-
     fn deepen(self, game: Game, config: Config, words: &mut [u64]) -> Report
         requires { (config.max_depth ≤ console.deepest) × (config.allowance ≤ console.positions)
             × T (accepted_weights config.weights) }
@@ -328,24 +315,25 @@ impl Minimax {
     {
         let values = Values::new(game, config.weights);
         let mut completed = CompletedDepths::none();
-        let mut s = self.begin();
+        let mut state = SearchState::new(self.responses);
+        // A `for` over the depths would count beside `completed`, which has the last one.
         while (completed.depth as u64) < config.max_depth {
-            let r = search::minimax(
+            let mut pv = completed.pv;
+            state.begin();
+            let Some(score) = search::minimax(
                 config.root(game, values, completed),
-                s.begin(),
-                completed.pv,
+                &mut state,
+                &mut pv,
                 words,
-            );
-            if r.stopped {
-                return completed.report(r.state, true);
-            }
-            completed = completed.deeper(r);
-            s = r.state;
+            ) else {
+                return completed.report(&state, true);
+            };
+            completed = completed.deeper(score, pv, &state);
             if completed.is_decided() {
-                return completed.report(s, false);
+                return completed.report(&state, false);
             }
         }
-        completed.report(s, false)
+        completed.report(&state, false)
     }
 
     // Depth 1, 2, .. to the limit, ending sooner at a won or lost score, or when the allowance is spent.

@@ -1,25 +1,26 @@
-// The ordered search: of a position, and over its remaining moves. Its state goes in and comes back by value; only the table's words
-// are lent.
+// The ordered search: of a position, and over its remaining moves. Its state, its variation and the table's words are lent.
 // Ported from src/lib/minimax.rs of nelhage/ultimattt at commit 87ef0d9c7c (Apache-2.0, see NOTICE), changed: `minimax` is two functions
 // that call each other, variations have a place for each depth, and an allowance counts the positions entered.
-ghost use Rattle.std.specs.Prelude.{◌≡◌, true, false, not, ◌||◌, List, ◌∷◌, ℕ, ◌-◌, ◌<◌, ◌≤◌, eqb, pos, neg_ℤ, get_or, drop, set};
-ghost use Rattle.std.specs.Int.Signed.{le_z, lt_z};
+ghost use Rattle.std.specs.Prelude.{◌≡◌, true, not, ◌||◌, List, ◌∷◌, ℕ, ◌-◌, ◌<◌, eqb, neg_ℤ, get_or, drop, Some};
 ghost use Rattle.base.specs.Branch.{when◌then◌else◌};
 ghost use Rattle.rules.specs.Board.{other};
 ghost use Rattle.rules.specs.Position.{unfinished};
 ghost use Rattle.rules.specs.Play.{no_move};
 ghost use Rattle.rules.specs.Evaluation.{evaluate};
 ghost use Rattle.theory.specs.Limits.{console};
-ghost use Rattle.theory.specs.Memory.{some_move, begin, enter, leaf, hit, answered, responses_to, cut};
+ghost use Rattle.theory.specs.Memory.{some_move, fresh_memory, begin, enter, responses_to, cut};
 ghost use Rattle.theory.specs.Table.{suffices, bound_of};
 ghost use Rattle.theory.specs.OrderedSearch.{candidates};
 ghost use Rattle.table.specs.Entries.{bound_number, entry_means};
 ghost use Rattle.game.specs.Meaning.{position_of};
-ghost use Rattle.order.specs.Order.{order_left};
+ghost use Rattle.order.specs.Order.{listed, order_left};
+ghost use Rattle.minimax.specs.Report.{responses_of};
 ghost use Rattle.minimax.specs.State.{memory_of, pv_of, empty_pv, node_scoring, node_game, outcome_of, node_outcome, over_all};
 ghost use Rattle.minimax.specs.State.{then_stored, values_below, Valued, Within, Deep, NodeFits, Counted, Ready, NodeGives};
+ghost use Rattle.minimax.specs.declared.search.SearchState.{SearchState};
+ghost use Rattle.minimax.specs.declared.search.Pv.{Pv};
 
-use crate::ResponseTables;
+use crate::{ResponseTables, Stats};
 use boards::{Move, PLACES};
 use evaluation::Values;
 use game::Game;
@@ -27,24 +28,22 @@ use order::{MoveOrder, NextMove};
 use rules::Player;
 use table::{Bound, Entry};
 
-// The search's state: the two response tables, the positions entered over all depths, and the counts of `Stats`.
+// The search's state: the two response tables, the positions entered over all depths, and the counts of the depth that is searched.
 #[derive(Clone, Copy)]
 pub(crate) struct SearchState {
     pub responses: ResponseTables,
     pub count: u64,
-    pub visited: u64,
-    pub terminal: u64,
-    pub cuts: u64,
-    pub tt_hit: u64,
-    pub tt_suffice: u64,
+    pub stats: Stats,
 }
 
+// A variation: a place for each depth, with the empty move where there is none, as in the response tables.
 #[derive(Clone, Copy)]
 pub(crate) struct Pv {
     pub moves: [Move; PLACES],
 }
 
 // A position to be searched, and how; the values are those of its nine boards.
+// No ghost fact `NodeFits`: `below` would list all fields, and two contracts would be eight equations. Nor `Deep`: a leaf has depth 0.
 #[derive(Clone, Copy)]
 pub(crate) struct Node {
     pub game: Game,
@@ -57,23 +56,6 @@ pub(crate) struct Node {
     pub values: Values,
 }
 
-// What a search found. Of a stopped one only state and `stopped` are promised: no caller reads its variation or its score, and the
-// state is what `deepen` reports of it. `stopped` is a flag, since a `Result` would hold the state in each of its two arms.
-#[derive(Clone, Copy)]
-pub(crate) struct NodeResult {
-    pub state: SearchState,
-    pub pv: Pv,
-    pub score: i64,
-    pub stopped: bool,
-}
-
-// Where the search over a position's moves stands: the lower edge by now, and its variation.
-#[derive(Clone, Copy)]
-pub(crate) struct Best {
-    pub pv: Pv,
-    pub score: i64,
-}
-
 impl Pv {
     pub(crate) fn empty() -> Pv
         ensures { result ≡ empty_pv }
@@ -83,195 +65,88 @@ impl Pv {
         }
     }
 
-    fn first(self) -> Move
-        ensures { (d : ℕ) → 0 < d → result.bits ≡ get_or (pv_of self d) 0 no_move }
+    fn first(&self) -> Move
+        ensures { (d : ℕ) → 0 < d → result.bits ≡ get_or (pv_of self.now d) 0 no_move }
     {
         self.moves[0]
     }
 
-    // A table's answer sets the first place alone.
-    fn with_first(self, m: Move) -> Pv
-        ensures { result ≡ record { moves = set self.moves 0 m } }
-    {
-        let mut pv = self;
-        pv.moves[0] = m;
-        pv
-    }
-
-    // A move and the variation below it, in so many places; the others stay.
-    fn with_pv(self, m: Move, below: Pv, depth: u8) -> Pv
+    // A move and the variation below it, in the first `depth` places; the others stay.
+    fn put(&mut self, m: Move, below: &Pv, depth: u8)
         requires { Deep depth }
-        ensures { (pv_of result depth ≡ m.bits ∷ pv_of below (depth - 1)) ×
-            (drop depth result.moves ≡ drop depth self.moves) }
+        ensures { (pv_of self.new depth ≡ m.bits ∷ pv_of below.now (depth - 1)) ×
+            (drop depth self.new.moves ≡ drop depth self.old.moves) }
     {
-        let mut pv = self;
-        pv.moves[0] = m;
+        self.moves[0] = m;
         let n = depth as usize;
-        pv.moves[1..n].copy_from_slice(&below.moves[..n - 1]);
-        pv
+        self.moves[1..n].copy_from_slice(&below.moves[..n - 1]);
     }
 }
 
 impl SearchState {
-    // A depth begins.
-    pub(crate) fn begin(self) -> SearchState
-        ensures { (words : List ℕ) → memory_of result words ≡ begin (memory_of self words) }
+    // Before the first depth.
+    pub(crate) fn new(responses: ResponseTables) -> SearchState
+        ensures { (words : List ℕ) → memory_of result words ≡ fresh_memory (responses_of responses) words }
     {
         SearchState {
-            visited: 0,
-            terminal: 0,
-            cuts: 0,
-            tt_hit: 0,
-            tt_suffice: 0,
-            ..self
+            responses,
+            count: 0,
+            stats: Stats::NONE,
         }
+    }
+
+    // A depth begins.
+    #[tactic(auto, unfolding(theory::specs::Memory::begin))]
+    pub(crate) fn begin(&mut self)
+        ensures { (words : List ℕ) → memory_of self.new words ≡ begin (memory_of self.old words) }
+    {
+        self.stats = Stats::NONE;
     }
 
     // A position is entered.
-    fn enter(self) -> SearchState
-        requires { (self.count < console.positions) × (self.visited < console.positions) }
-        ensures { (words : List ℕ) → memory_of result words ≡ enter (memory_of self words) }
+    #[tactic(auto, unfolding(theory::specs::Memory::enter))]
+    fn enter(&mut self)
+        requires { (self.old.count < console.positions) × (self.old.stats.visited < console.positions) }
+        ensures { (words : List ℕ) → memory_of self.new words ≡ enter (memory_of self.old words) }
     {
-        SearchState {
-            count: self.count + 1,
-            visited: self.visited + 1,
-            ..self
-        }
+        self.count += 1;
+        self.stats.visited += 1;
     }
 
-    // It is not searched further.
-    fn leaf(self) -> SearchState
-        requires { self.terminal < console.positions }
-        ensures { (words : List ℕ) → memory_of result words ≡ leaf (memory_of self words) }
-    {
-        SearchState {
-            terminal: self.terminal + 1,
-            ..self
-        }
-    }
-
-    // The table has an entry for it.
-    fn hit(self) -> SearchState
-        requires { self.tt_hit < console.positions }
-        ensures { (words : List ℕ) → memory_of result words ≡ hit (memory_of self words) }
-    {
-        SearchState {
-            tt_hit: self.tt_hit + 1,
-            ..self
-        }
-    }
-
-    // Which suffices.
-    fn suffice(self) -> SearchState
-        requires { self.tt_suffice < console.positions }
-        ensures { (words : List ℕ) → memory_of result words ≡ answered (memory_of self words) }
-    {
-        SearchState {
-            tt_suffice: self.tt_suffice + 1,
-            ..self
-        }
-    }
-
-    // The response to the previous move, which the side not to move made.
-    fn response_to(self, turn: Player, prev: Move) -> Move
-        ensures { (words : List ℕ) → result.bits ≡ get_or (responses_to (memory_of self words) (other turn)) prev.bits
-            no_move }
+    // The response to the previous move, a move of the side not to move.
+    fn response_to(&self, turn: Player, prev: Move) -> Option<Move>
+        ensures { (words : List ℕ) → listed result ≡ some_move (get_or (responses_to (memory_of self.now words) (other turn)) prev.bits
+            no_move) }
     {
         let at = prev.bits as usize;
-        match turn {
+        let m = match turn {
             Player::X => self.responses.o[at],
             Player::O => self.responses.x[at],
-        }
+        };
+        unless_empty(m)
     }
 
     // A cut by a move, which becomes the response to the previous one.
-    fn cut(self, turn: Player, prev: Move, m: Move) -> SearchState
-        requires { self.cuts < console.positions }
-        ensures { (words : List ℕ) → memory_of result words ≡ cut turn (memory_of self words) prev.bits m.bits }
+    #[tactic(auto, using(crate::proofs::StateSteps::cut_x, crate::proofs::StateSteps::cut_o))]
+    fn cut(&mut self, turn: Player, prev: Move, m: Move)
+        requires { self.old.stats.cuts < console.positions }
+        ensures { (words : List ℕ) → memory_of self.new words ≡ cut turn (memory_of self.old words) prev.bits m.bits }
     {
+        self.stats.cuts += 1;
         let at = prev.bits as usize;
-        let mut s = self;
-        s.cuts += 1;
         match turn {
-            Player::X => {
-                s.responses.o[at] = m;
-            }
-            Player::O => {
-                s.responses.x[at] = m;
-            }
-        }
-        s
-    }
-}
-
-impl NodeResult {
-    fn stop(state: SearchState, pv: Pv) -> NodeResult
-        ensures { result ≡ record { state = state; pv = pv; score = pos 0; stopped = true } }
-    {
-        NodeResult {
-            state,
-            pv,
-            score: 0,
-            stopped: true,
-        }
-    }
-
-    // What the table knows.
-    fn known(state: SearchState, pv: Pv, e: Entry) -> NodeResult
-        ensures { result ≡ record {
-          state = state;
-          pv = record { moves = set pv.moves 0 e.pv };
-          score = e.value;
-          stopped = false;
-        } }
-    {
-        NodeResult {
-            state,
-            pv: pv.with_first(e.pv),
-            score: e.value,
-            stopped: false,
-        }
-    }
-
-    fn of(state: SearchState, best: Best) -> NodeResult
-        ensures { result ≡ record { state = state; pv = best.pv; score = best.score; stopped = false } }
-    {
-        NodeResult {
-            state,
-            pv: best.pv,
-            score: best.score,
-            stopped: false,
+            Player::X => self.responses.o[at] = m,
+            Player::O => self.responses.x[at] = m,
         }
     }
 }
 
-// The response, or lacking one the variation's move.
-fn hint(response: Move, pv: Move) -> Move
-    ensures { result ≡ (when eqb response.bits no_move then (λ _. pv) else λ _. response) }
+// A place of a variation or of a response table has the empty move where there is none.
+#[tactic(auto, using(crate::proofs::StateOutcomes::empty_listed, crate::proofs::StateOutcomes::move_listed))]
+fn unless_empty(m: Move) -> Option<Move>
+    ensures { listed result ≡ some_move m.bits }
 {
-    if response.is_none() { pv } else { response }
-}
-
-impl Best {
-    // Whether a move's score is above the lower edge.
-    fn is_below(self, score: i64) -> bool
-        requires { Within score }
-        ensures { result ≡ lt_z self.score (neg_ℤ score) }
-    {
-        -score > self.score
-    }
-
-    // It becomes that edge, and the variation is its move and the variation below.
-    fn raise(self, m: Move, score: i64, below: Pv, depth: u8) -> Best
-        requires { Within score × Deep depth }
-        ensures { (result.score ≡ neg_ℤ score) × (pv_of result.pv depth ≡ m.bits ∷ pv_of below (depth - 1))
-            × (drop depth result.pv.moves ≡ drop depth self.pv.moves) }
-    {
-        Best {
-            pv: self.pv.with_pv(m, below, depth),
-            score: -score,
-        }
-    }
+    if m.is_none() { None } else { Some(m) }
 }
 
 // ---- the steps of a search, none of which calls another search
@@ -290,97 +165,80 @@ impl Node {
         self.values.evaluate(self.game, self.draw_winner)
     }
 
-    fn evaluated(self, state: SearchState, pv: Pv) -> NodeResult
-        requires { Valued self }
-        ensures { result ≡ record {
-          state = state;
-          pv = pv;
-          score = evaluate (node_scoring self) (position_of self.game);
-          stopped = false;
-        } }
+    // What is found where it is a leaf, unless no position more may be entered.
+    fn leaf(self, state: &mut SearchState) -> Option<i64>
+        requires { NodeFits self × Counted self state.old × ((eqb self.depth 0 || not (unfinished (position_of self.game))) ≡ true) }
+        ensures { (l : Pv) (words : List ℕ) → NodeGives self l result state.new l words (node_outcome self state.old l words) }
     {
-        NodeResult {
-            state,
-            pv,
-            score: self.evaluate(),
-            stopped: false,
+        if state.count >= self.allowance {
+            return None;
         }
+        state.enter();
+        state.stats.terminal += 1;
+        Some(self.evaluate())
     }
 
     // Whether an entry answers.
+    #[tactic(auto, unfolding(theory::specs::Table::suffices))]
     fn suffices(self, e: Entry) -> bool
         ensures { result ≡ suffices (entry_means e) self.depth self.alpha self.beta }
     {
-        if e.depth < self.depth {
-            return false;
-        }
-        match e.bound {
-            Bound::Exact => true,
-            Bound::AtLeast => e.value >= self.beta,
-            Bound::AtMost => e.value <= self.alpha,
-        }
+        e.depth >= self.depth
+            && match e.bound {
+                Bound::Exact => true,
+                Bound::AtLeast => e.value >= self.beta,
+                Bound::AtMost => e.value <= self.alpha,
+            }
     }
 
     // What a score is for the window.
-    fn bound_of(self, r: NodeResult) -> Bound
-        ensures { bound_number result ≡ bound_of self.alpha self.beta r.score }
+    fn bound_of(self, score: i64) -> Bound
+        ensures { bound_number result ≡ bound_of self.alpha self.beta score }
     {
-        if r.score <= self.alpha {
-            return Bound::AtMost;
+        if score <= self.alpha {
+            Bound::AtMost
+        } else if score >= self.beta {
+            Bound::AtLeast
+        } else {
+            Bound::Exact
         }
-        if r.score >= self.beta {
-            return Bound::AtLeast;
-        }
-        Bound::Exact
     }
 
-    // Stores what the search over the moves found, unless it was stopped.
-    fn store(self, found: NodeResult, words: &mut [u64])
+    // Stores what the search over the moves found.
+    fn store(self, score: i64, pv: &Pv, words: &mut [u64])
         requires { Deep self.depth }
-        ensures { outcome_of self found words.new
-            ≡ then_stored self (outcome_of self found words.old) }
+        ensures { (s : SearchState) → outcome_of self (Some score) s pv.now words.new
+            ≡ then_stored self (outcome_of self (Some score) s pv.now words.old) }
     {
-        if found.stopped {
-            return;
-        }
         let entry = Entry {
-            value: found.score,
+            value: score,
             depth: self.depth,
-            bound: self.bound_of(found),
-            pv: found.pv.first(),
+            bound: self.bound_of(score),
+            pv: pv.first(),
         };
         table::store(words, self.game.zobrist(), entry);
     }
 
-    // The cursor over the moves: the table's move; the response, or lacking one the variation's move; then the list.
-    fn order(self, first: Move, state: SearchState, pv: Pv) -> MoveOrder
+    // The order of the moves: the table's move; the response, or lacking one the variation's move; then the list.
+    fn order(self, first: Option<Move>, state: &SearchState, pv: &Pv) -> MoveOrder
         requires { Deep self.depth }
         ensures { (words : List ℕ) → order_left self.game result
-            ≡ candidates (node_game self) (some_move first.bits) (memory_of state words) self.game self.prev.bits
-            (pv_of pv self.depth) }
+            ≡ candidates (node_game self) (listed first) (memory_of state.now words) self.game self.prev.bits
+            (pv_of pv.now self.depth) }
     {
         let response = state.response_to(self.game.next_player, self.prev);
-        let second = hint(response, pv.first());
+        let second = response.or(unless_empty(pv.first()));
         MoveOrder::new(self.game, first, second)
     }
 
-    fn best(self, pv: Pv) -> Best
-        ensures { result ≡ record { pv = pv; score = self.alpha } }
-    {
-        Best {
-            pv,
-            score: self.alpha,
-        }
-    }
-
-    // The node of the position after a move.
-    fn below(self, child: NextMove, best: Best) -> Node
-        requires { (0 < self.depth) × Within self.beta × Within best.score }
+    // The node of the position after a move, with the lower edge as it is by now.
+    fn below(self, child: NextMove, alpha: i64) -> Node
+        requires { (0 < self.depth) × Within self.beta × Within alpha }
         ensures { result ≡ record {
           game = child.game;
           depth = self.depth - 1;
           alpha = neg_ℤ self.beta;
-          beta = neg_ℤ best.score;
+          beta = neg_ℤ alpha;
           prev = child.m;
           draw_winner = self.draw_winner;
           allowance = self.allowance;
@@ -391,89 +249,78 @@ impl Node {
             game: child.game,
             depth: self.depth - 1,
             alpha: -self.beta,
-            beta: -best.score,
+            beta: -alpha,
             prev: child.m,
             values: self.values.after(child.game, child.m.global()),
             ..self
         }
     }
-
-    // Whether the lower edge has reached the upper one.
-    fn is_cut(self, best: Best) -> bool
-        ensures { result ≡ le_z self.beta best.score }
-    {
-        best.score >= self.beta
-    }
-
-    fn cut(self, state: SearchState, m: Move) -> SearchState
-        requires { state.cuts < console.positions }
-        ensures { (words : List ℕ) → memory_of result words
-            ≡ cut self.game.next_player (memory_of state words) self.prev.bits m.bits }
-    {
-        state.cut(self.game.next_player, self.prev, m)
-    }
 }
 
-// ---- the search of a position, and over its remaining moves
+// ---- the search of a position, and over its remaining moves; none is found where the allowance stops it
+// State, variation and words stay three arguments: each step takes one or two of them, and the variation is another at each depth.
 #[cycle(minimax_moves)]
-pub(crate) fn minimax(a: Node, state: SearchState, pv: Pv, words: &mut [u64]) -> NodeResult
-    requires { NodeFits a × Counted a state }
-    ensures { NodeGives a pv result words.new (node_outcome a state pv words.old) }
+pub(crate) fn minimax(
+    a: Node,
+    state: &mut SearchState,
+    pv: &mut Pv,
+    words: &mut [u64],
+) -> Option<i64>
+    requires { NodeFits a × Counted a state.old }
+    ensures { NodeGives a pv.old result state.new pv.new words.new (node_outcome a state.old pv.old words.old) }
 {
-    if state.count >= a.allowance {
-        return NodeResult::stop(state, pv);
-    }
-    let mut s = state.enter();
     if a.is_leaf() {
-        return a.evaluated(s.leaf(), pv);
+        return a.leaf(state);
     }
-    let mut first = Move::none();
-    let held = table::lookup(words, a.game.zobrist());
-    if let Some(e) = held {
-        s = s.hit();
+    if state.count >= a.allowance {
+        return None;
+    }
+    state.enter();
+    let mut first = None;
+    if let Some(e) = table::lookup(words, a.game.zobrist()) {
+        state.stats.tt_hit += 1;
         if a.suffices(e) {
-            return NodeResult::known(s.suffice(), pv, e);
+            state.stats.tt_suffice += 1;
+            pv.moves[0] = e.pv;
+            return Some(e.value);
         }
-        first = e.pv;
+        first = Some(e.pv);
     }
-    let f = moves(a, first, s, pv, words);
-    a.store(f, words);
-    f
+    let score = moves(a, first, state, pv, words)?;
+    a.store(score, pv, words);
+    Some(score)
 }
 
 #[cycle(minimax_moves)]
-fn moves(a: Node, first: Move, state: SearchState, pv: Pv, words: &mut [u64]) -> NodeResult
-    requires { NodeFits a × Ready a state }
-    ensures { NodeGives a pv result words.new (over_all a first state pv words.old) }
+fn moves(
+    a: Node,
+    first: Option<Move>,
+    state: &mut SearchState,
+    pv: &mut Pv,
+    words: &mut [u64],
+) -> Option<i64>
+    requires { NodeFits a × Ready a state.old }
+    ensures { NodeGives a pv.old result state.new pv.new words.new (over_all a first state.old pv.old words.old) }
 {
     let mut order = a.order(first, state, pv);
-    let mut s = state;
-    let mut best = a.best(pv);
+    let mut alpha = a.alpha;
     let mut local = Pv::empty();
     while let Some(child) = order.next(a.game) {
-        let below = a.below(child, best);
-        let mut score: i64 = 0;
-        if below.is_leaf() {
-            if s.count >= a.allowance {
-                return NodeResult::stop(s, local);
-            }
-            s = s.enter().leaf();
-            score = below.evaluate();
+        let below = a.below(child, alpha);
+        // A leaf by `minimax` too is plainer, and takes 2 to 3 % more instructions. `local` is left as it was, as in the Rust.
+        let score = if below.is_leaf() {
+            below.leaf(state)?
         } else {
-            let r = minimax(below, s, local, words);
-            if r.stopped {
-                return r;
-            }
-            s = r.state;
-            local = r.pv;
-            score = r.score;
-        }
-        if best.is_below(score) {
-            best = best.raise(child.m, score, local, a.depth);
-            if a.is_cut(best) {
-                return NodeResult::of(a.cut(s, child.m), best);
+            minimax(below, state, &mut local, words)?
+        };
+        if -score > alpha {
+            alpha = -score;
+            pv.put(child.m, &local, a.depth);
+            if alpha >= a.beta {
+                state.cut(a.game.next_player, a.prev, child.m);
+                return Some(alpha);
             }
         }
     }
-    NodeResult::of(s, best)
+    Some(alpha)
 }

@@ -1,3 +1,3 @@
 pub mod OrderMarks
-pub mod OrderCandidates
+pub mod OrderLeft
 pub mod OrderSteps

@@ -1,22 +1,19 @@
 -- One step of a move order, and what a move order has left by all its steps.
 use Rattle.std.specs.Prelude.{Option, None, Some, Ok, Err}
 use mathlib.Core.Path.{◌≡◌, refl, sym, ap, ◌∙◌, subst}
-use mathlib.Core.Bool.{Bool, true, false, not}
+use mathlib.Core.Bool.{Bool, true, false}
 use mathlib.Core.List.{List, [], ◌∷◌, ◌++◌}
 use Prim.Native.Nat.{ℕ, suc, ◌/◌, ◌≤◌, ◌<◌}
 use native.Mathlib.Omega.{arith}
 use lib.Dec.{T, T_not}
 use lib.ListN.{length, take}
-use Rattle.base.specs.Checks.{all_pass}
 use lib.Ieee.Bits.{is_true}
 use Rattle.base.specs.Branch.{when◌then◌else◌}
-use Rattle.base.specs.Lists.{all, elem}
+use Rattle.base.specs.Lists.{elem}
 use Rattle.base.proofs.ListsAgree.{false_by}
 use Rattle.base.proofs.Branch.{if_ind, if_both}
-use Rattle.rules.specs.Position.{Position}
-use Rattle.rules.specs.Play.{accepts, no_move}
+use Rattle.rules.specs.Play.{accepts}
 use Rattle.rules.specs.Moves.{moves}
-use Rattle.theory.specs.Memory.{some_move}
 use Rattle.theory.specs.OrderedSearch.{fresh}
 use Rattle.boards.specs.declared.moves.Move.{Move}
 use Rattle.boards.specs.declared.moves.MoveError.{MoveError}
@@ -27,16 +24,17 @@ use Rattle.game.specs.After.{Plays, game_after}
 use Rattle.game.proofs.AfterRefusals.{nought_accepts, refused_not_accepts}
 use Rattle.game.proofs.MeaningMoves.{all_moves_listed}
 use Rattle.order.specs.declared.Seen.{Seen}
-use Rattle.order.specs.declared.Candidates.{Candidates}
+use Rattle.order.specs.declared.MovesLeft.{MovesLeft}
 use Rattle.order.specs.declared.MoveOrder.{MoveOrder}
 use Rattle.order.specs.declared.NextMove.{NextMove}
 use Rattle.order.specs.Order.{
   marked,
-  candidates_left,
+  listed,
+  all_left,
   new_order,
   without_next,
   set_mark,
-  candidates_after,
+  left_after,
   set_marks,
   order_after,
   found_after,
@@ -52,10 +50,10 @@ use Rattle.order.specs.Order.{
 use Rattle.order.proofs.OrderMarks.{none_marked, seen_length, seen_again, one_more}
 
 -- ---- a new order
-pub new_order_means : (g : Game) (first second : Move) → (candidates_left (new_order g first second).left
-    ≡ some_move first.bits ++ (some_move second.bits ++ moves (position_of g)))
+pub new_order_means : (g : Game) (first second : Option Move) → (all_left (new_order g first second).left
+    ≡ listed first ++ (listed second ++ moves (position_of g)))
     × ((k : ℕ) → marked (new_order g first second).seen k ≡ false)
-unfolding candidates_left
+unfolding all_left
 new_order_means g first second = (rw (all_moves_listed g), none_marked)
 
 -- ---- one move met
@@ -88,16 +86,11 @@ ok g = accepts (position_of g)
 pub shorter : (ms : List ℕ) (m : ℕ) (rest : List ℕ) → ms ≡ m ∷ rest → length rest < length ms
 shorter ms m rest e = rw e (omega arith)
 
--- no game accepts the empty move
-pub none_refused : (p : Position) → T (not (accepts p no_move))
-unfolding accepts all_pass all
-none_refused p = tt
-
 some_none : {x : NextMove} → ◌≡◌ {A = Option NextMove} (Some x) None → ⊥
 some_none e = let z : ◌≡◌ {A = ℕ} 0 1 = cc in omega arith
 
 -- ---- two orders with the same step, which leaves the same
-abbrev pub order_of : Candidates → Seen → MoveOrder
+abbrev pub order_of : MovesLeft → Seen → MoveOrder
 order_of left seen = record { left = left; seen = seen }
 
 pub record SameStep (g : Game) (w v : MoveOrder) : Type 0 where
@@ -107,7 +100,7 @@ pub record SameStep (g : Game) (w v : MoveOrder) : Type 0 where
 -- what comes back, by what the step is
 next_by : (g : Game) (w : MoveOrder) (r : Option NextMove) (after : MoveOrder) (s : Step) → step_of g w ≡ s →
     r ≡ found_after g s.found → after ≡ order_after (number_met g w) w
-    → ((k : ℕ) → marked after.seen k ≡ s.marks k) → candidates_left after.left ≡ s.left → NextOf g w r after
+    → ((k : ℕ) → marked after.seen k ≡ s.marks k) → all_left after.left ≡ s.left → NextOf g w r after
 next_by g w r after s e m o k l = record {
   found_is = m ∙ sym (ap (λ (x : Step). found_after g x.found) e);
   order_is = o;
@@ -116,21 +109,21 @@ next_by g w r after s e m o k l = record {
 }
 
 -- the next move is met
-module _ (g : Game) (left : Candidates) (seen : Seen) (m : Move) (rest : Candidates)
-    (e : (candidates_left left ≡ m.bits ∷ candidates_left rest) × (rest ≡ without_next left)) where
+module _ (g : Game) (left : MovesLeft) (seen : Seen) (m : Move) (rest : MovesLeft)
+    (e : (all_left left ≡ m.bits ∷ all_left rest) × (rest ≡ without_next left)) where
   -- it is gone and marked, and the others are met from there
   after_one_met : (new : Seen) → new ≡ set_mark seen m.bits → (n : ℕ) → order_after n (order_of rest new)
       ≡ order_after (suc n) (order_of left seen)
-  unfolding candidates_after set_marks
+  unfolding left_after set_marks
   after_one_met new f n =
-      (λ i. record { left = candidates_after n (e.1 i); seen = set_marks (f i) (take n (candidates_left rest)) })
-      ∙ sym (λ i. record { left = candidates_after n (without_next left); seen = set_marks seen (take (suc n) (e.0 i)) })
+      (λ i. record { left = left_after n (e.1 i); seen = set_marks (f i) (take n (all_left rest)) })
+      ∙ sym (λ i. record { left = left_after n (without_next left); seen = set_marks seen (take (suc n) (e.0 i)) })
 
   module _ (w : MoveOrder) (s : SameStep g (order_of left seen) w) (b : Bool) (f : b ≡ marked seen m.bits) where
     goes_on : (new : Seen) → new ≡ set_mark seen m.bits → step_of g (order_of rest new) ≡ step_of g (order_of left seen)
         → SameStep g (order_of rest new) w
     goes_on new n t =
-        let l = step_left (ok g) (marked new) (candidates_left rest) in
+        let l = step_left (ok g) (marked new) (all_left rest) in
         let k : suc (number_met g (order_of rest new)) ≡ number_met g (order_of left seen) = omega (
           arith,
           ap length e.0,
@@ -144,7 +137,7 @@ module _ (g : Game) (left : Candidates) (seen : Seen) (m : Move) (rest : Candida
     pub repeated : b ≡ true → SameStep g (order_of rest seen) w
     repeated h =
         goes_on seen (sym (seen_again seen m.bits (sym f ∙ h)))
-        (sym (ap (step (ok g) (marked seen)) e.0 ∙ step_repeat (ok g) (marked seen) m.bits (candidates_left rest) (sym f ∙ h)))
+        (sym (ap (step (ok g) (marked seen)) e.0 ∙ step_repeat (ok g) (marked seen) m.bits (all_left rest) (sym f ∙ h)))
 
     module _ (h : b ≡ false) (new : Seen) (n : new ≡ set_mark seen m.bits) (fits : m.bits / 64 < length new.marks) where
       more : (k : ℕ) → marked new k ≡ with_mark (marked seen) m.bits k
@@ -156,24 +149,24 @@ module _ (g : Game) (left : Candidates) (seen : Seen) (m : Move) (rest : Candida
       refused r p =
           let a : ok g m.bits ≡ false = false_by (ok g m.bits) (T_not (ok g m.bits)
           (refused_not_accepts (position_of g) m.bits (λ z. omega (arith, p.number, error_not_0 r)))) in
-          goes_on new n ((λ i. step (ok g) (λ k. more k i) (candidates_left rest))
+          goes_on new n ((λ i. step (ok g) (λ k. more k i) (all_left rest))
           ∙ sym (ap (step (ok g) (marked seen)) e.0
-          ∙ step_refused (ok g) (marked seen) m.bits (candidates_left rest) (sym f ∙ h) a))
+          ∙ step_refused (ok g) (marked seen) m.bits (all_left rest) (sym f ∙ h) a))
 
       pub accepted : (after : Game) → Plays g m (Ok after) → NextOf g w (Some (record { game = after; m = m })) (order_of rest new)
-      unfolding candidates_after set_marks
+      unfolding left_after set_marks
       accepted after p =
           let a : ok g m.bits ≡ true = is_true (ok g m.bits) (nought_accepts (position_of g) m.bits (sym p.number)) in
           let t = ap (step (ok g) (marked seen)) e.0
-          ∙ step_accepted (ok g) (marked seen) m.bits (candidates_left rest) (sym f ∙ h) a in
+          ∙ step_accepted (ok g) (marked seen) m.bits (all_left rest) (sym f ∙ h) a in
           let one : 1 ≡ number_met g (order_of left seen) = omega (arith, ap length e.0, ap (λ (x : Step). length x.left) t) in
           next_by g w _ _ _ (sym s.step_is ∙ t)
           (ap (λ (x : Game). Some (record { game = x; m = m })) p.exact)
           (after_one_met new n 0 ∙ ap (λ (k : ℕ). order_after k (order_of left seen)) one ∙ s.order_is) more refl
 
-pub ended : (g : Game) (left last : Candidates) (seen : Seen) (w : MoveOrder) → (candidates_left left ≡ []) × (last ≡ left) →
+pub ended : (g : Game) (left last : MovesLeft) (seen : Seen) (w : MoveOrder) → (all_left left ≡ []) × (last ≡ left) →
     SameStep g (order_of left seen) w → NextOf g w None (order_of last seen)
-unfolding step candidates_after set_marks
+unfolding step left_after set_marks
 ended g left last seen w e s =
     let none : 0 ≡ number_met g (order_of left seen) = omega (arith, ap length e.0) in
     rw e.1 (next_by g w _ _ _ (sym s.step_is ∙ ap (step (ok g) (marked seen)) e.0) refl
@@ -207,7 +200,7 @@ module _ (ok : ℕ → Bool) where
       (λ _. if_both FirstOf (ok m) _ _ _ _ (λ _. (refl, refl)) (λ _. step_first (with_mark seen m) ms))
 
 -- with no mark, the order's moves with no repeat
-pub order_new : (g : Game) (w : MoveOrder) (ms : List ℕ) → (candidates_left w.left ≡ ms) ×
+pub order_new : (g : Game) (w : MoveOrder) (ms : List ℕ) → (all_left w.left ≡ ms) ×
     ((k : ℕ) → marked w.seen k ≡ false)
     → order_left g w ≡ fresh (accepts (position_of g)) [] ms
 unfolding elem
@@ -228,7 +221,7 @@ module _ (g : Game) (w : MoveOrder) (r : Option NextMove) (after : MoveOrder) (n
   )
 
   pub next_left : NextIs g (order_left g w) r after
-  next_left = by_first (order_left g w) (step_first (ok g) (marked w.seen) (candidates_left w.left))
+  next_left = by_first (order_left g w) (step_first (ok g) (marked w.seen) (all_left w.left))
 
 -- as the caller has it, by what came back
 module _ (g : Game) (w after : MoveOrder) where

@@ -1,19 +1,19 @@
 -- The order in which a position's moves are searched: what it means, and one step of it.
-use Rattle.std.specs.Prelude.{◌≡◌, Bool, not, ◌||◌, List, [], ◌∷◌, ◌++◌, ℕ, zero, suc, ◌-◌, ◌/◌, ◌%◌, ◌^◌, eqb, get_or}
+use Rattle.std.specs.Prelude.{◌≡◌, Bool, ◌||◌, List, [], ◌∷◌, ◌++◌, ℕ, zero, suc, ◌-◌, ◌/◌, ◌%◌, ◌^◌, eqb, get_or}
 use Rattle.std.specs.Prelude.{Option, None, Some, set, take, drop, length, replicate}
 use Rattle.std.specs.Int.Bits.{bit_or}
 use Rattle.base.specs.Branch.{when◌then◌else◌}
 use Rattle.base.specs.Bits.{bit}
-use Rattle.rules.specs.Play.{accepts, no_move}
+use Rattle.rules.specs.Play.{accepts}
 use Rattle.rules.specs.Moves.{moves}
-use Rattle.theory.specs.Memory.{some_move}
 use Rattle.boards.specs.declared.moves.Move.{Move}
+use Rattle.boards.specs.declared.moves.MoveIterator.{MoveIterator}
 use Rattle.boards.specs.Cursor.{moves_left, cursor_over}
 use Rattle.game.specs.declared.Game.{Game}
 use Rattle.game.specs.Meaning.{position_of}
 use Rattle.game.specs.After.{game_after}
 use Rattle.order.specs.declared.Seen.{Seen}
-use Rattle.order.specs.declared.Candidates.{Candidates}
+use Rattle.order.specs.declared.MovesLeft.{MovesLeft}
 use Rattle.order.specs.declared.MoveOrder.{MoveOrder}
 use Rattle.order.specs.declared.NextMove.{NextMove}
 
@@ -21,41 +21,45 @@ use Rattle.order.specs.declared.NextMove.{NextMove}
 unfoldable pub marked : Seen → ℕ → Bool
 marked s m = bit (get_or s.marks (m / 64) 0) (m % 64)
 
-unfoldable pub candidates_left : Candidates → List ℕ
-candidates_left o = some_move o.first.bits ++ (some_move o.second.bits ++ moves_left o.list)
+-- the move, if there is one
+abbrev pub listed : Option Move → List ℕ
+listed None = []
+listed (Some m) = m.bits ∷ []
+
+unfoldable pub all_left : MovesLeft → List ℕ
+all_left o = listed o.first ++ (listed o.second ++ moves_left o.list)
 
 -- ---- before the first move is met
 abbrev pub no_marks : Seen
 no_marks = record { marks = replicate 4 0 }
 
-abbrev pub new_order : Game → Move → Move → MoveOrder
+abbrev pub new_order : Game → Option Move → Option Move → MoveOrder
 new_order g first second =
     record { left = record { first = first; second = second; list = cursor_over (moves (position_of g)) }; seen = no_marks }
 
 -- ---- one move met
-abbrev pub empty_move : Move
-empty_move = record { bits = no_move }
+-- those left without the next: `first` or `second` is taken, or the list goes on
+abbrev pub rest : Option Move → Option Move → MoveIterator → MovesLeft
+rest (Some m) second list = record { first = None; second = second; list = list }
+rest None (Some m) list = record { first = None; second = None; list = list }
+rest None None list = record { first = None; second = None; list = cursor_over (drop 1 (moves_left list)) }
 
--- the candidates without the first of those left: `first` or `second` is emptied, or the list goes on
-unfoldable pub without_next : Candidates → Candidates
-without_next o =
-    when not (eqb o.first.bits no_move) then (λ _. record { first = empty_move; second = o.second; list = o.list }) else
-    λ _. when not (eqb o.second.bits no_move) then (λ _. record { first = o.first; second = empty_move; list = o.list }) else
-    λ _. record { first = o.first; second = o.second; list = cursor_over (drop 1 (moves_left o.list)) }
+abbrev pub without_next : MovesLeft → MovesLeft
+without_next o = rest o.first o.second o.list
 
--- the next of the moves left and the candidates without it, or nothing where nothing is left
-abbrev pub Meets : Candidates → Option Move → Candidates → Type 0
-Meets o None after = (candidates_left o ≡ []) × (after ≡ o)
-Meets o (Some m) after = (candidates_left o ≡ m.bits ∷ candidates_left after) × (after ≡ without_next o)
+-- the next of them and the others, or nothing where nothing is left
+abbrev pub Meets : MovesLeft → Option Move → MovesLeft → Type 0
+Meets o None after = (all_left o ≡ []) × (after ≡ o)
+Meets o (Some m) after = (all_left o ≡ m.bits ∷ all_left after) × (after ≡ without_next o)
 
 -- the marks with that of a move set
 unfoldable pub set_mark : Seen → ℕ → Seen
 set_mark s m = record { marks = set s.marks (m / 64) (bit_or (get_or s.marks (m / 64) 0) (2 ^ (m % 64))) }
 
--- ---- so many moves met: each is gone from the candidates, and marked
-unfoldable pub candidates_after : ℕ → Candidates → Candidates
-candidates_after zero o = o
-candidates_after (suc n) o = candidates_after n (without_next o)
+-- ---- so many moves met: each is gone from those left, and marked
+unfoldable pub left_after : ℕ → MovesLeft → MovesLeft
+left_after zero o = o
+left_after (suc n) o = left_after n (without_next o)
 
 unfoldable pub set_marks : Seen → List ℕ → Seen
 set_marks s [] = s
@@ -63,7 +67,7 @@ set_marks s (m ∷ ms) = set_marks (set_mark s m) ms
 
 abbrev pub order_after : ℕ → MoveOrder → MoveOrder
 order_after n w =
-    record { left = candidates_after n w.left; seen = set_marks w.seen (take n (candidates_left w.left)) }
+    record { left = left_after n w.left; seen = set_marks w.seen (take n (all_left w.left)) }
 
 -- ---- a step: the move found, if any; the marks by then; the moves left
 pub record Step : Type 0 where
@@ -84,11 +88,11 @@ step ok seen (m ∷ ms) =
 
 -- over the moves that a game accepts
 abbrev pub step_of : Game → MoveOrder → Step
-step_of g w = step (accepts (position_of g)) (marked w.seen) (candidates_left w.left)
+step_of g w = step (accepts (position_of g)) (marked w.seen) (all_left w.left)
 
 -- how many moves it meets
 abbrev pub number_met : Game → MoveOrder → ℕ
-number_met g w = length (candidates_left w.left) - length (step_of g w).left
+number_met g w = length (all_left w.left) - length (step_of g w).left
 
 -- a move found, and the game after it
 abbrev pub found_after : Game → Option ℕ → Option NextMove
@@ -100,7 +104,7 @@ pub record NextOf (g : Game) (w : MoveOrder) (r : Option NextMove) (after : Move
   pub found_is : r ≡ found_after g (step_of g w).found
   pub order_is : after ≡ order_after (number_met g w) w
   pub marks_are : (k : ℕ) → marked after.seen k ≡ (step_of g w).marks k
-  pub left_are : candidates_left after.left ≡ (step_of g w).left
+  pub left_are : all_left after.left ≡ (step_of g w).left
 
 -- ---- all the steps: those that are accepted, each once; those that are marked are passed over
 unfoldable pub unmarked : (ok : ℕ → Bool) → (seen : ℕ → Bool) → List ℕ → List ℕ
@@ -110,4 +114,4 @@ unmarked ok seen (m ∷ ms) =
     λ _. when ok m then (λ _. m ∷ unmarked ok (with_mark seen m) ms) else λ _. unmarked ok (with_mark seen m) ms
 
 abbrev pub order_left : Game → MoveOrder → List ℕ
-order_left g w = unmarked (accepts (position_of g)) (marked w.seen) (candidates_left w.left)
+order_left g w = unmarked (accepts (position_of g)) (marked w.seen) (all_left w.left)

@@ -3,13 +3,13 @@
 // `DedupIterator` are one iterator with a set of 256 marks, which plays the moves.
 #![tactic(auto)]
 
-ghost use Rattle.std.specs.Prelude.{◌≡◌, ◌<◌, get_or, set};
+ghost use Rattle.std.specs.Prelude.{◌≡◌};
 ghost use Rattle.order.specs.Order.{marked, no_marks, new_order, set_mark, Meets, NextOf};
 
 use boards::{Move, MoveIterator};
 use game::Game;
 
-// A set of 256 marks.
+// A set of 256 marks: words and no set of the library, since there is no heap.
 #[derive(Clone, Copy)]
 pub struct Seen {
     pub marks: [u64; 4],
@@ -22,71 +22,39 @@ impl Seen {
         Seen { marks: [0; 4] }
     }
 
-    // Words by a constant index: a variable one would go through memory.
-    fn word(self, i: u8) -> u64
-        requires { i < 4 }
-        ensures { result ≡ get_or self.marks i 0 }
-    {
-        match i {
-            0 => self.marks[0],
-            1 => self.marks[1],
-            2 => self.marks[2],
-            _ => self.marks[3],
-        }
-    }
-
-    fn with_word(self, i: u8, word: u64) -> Seen
-        requires { i < 4 }
-        ensures { result ≡ record { marks = set self.marks i word } }
-    {
-        let mut marks = self.marks;
-        // By a constant index, as in `word`.
-        match i {
-            0 => marks[0] = word,
-            1 => marks[1] = word,
-            2 => marks[2] = word,
-            _ => marks[3] = word,
-        }
-        Seen { marks }
-    }
-
     fn has(self, m: Move) -> bool
         ensures { result ≡ marked self m.bits }
     {
-        (self.word(m.bits / 64) >> (m.bits % 64)) & 1 == 1
+        (self.marks[(m.bits / 64) as usize] >> (m.bits % 64)) & 1 == 1
     }
 
     fn with(self, m: Move) -> Seen
         ensures { result ≡ set_mark self m.bits }
     {
-        let i = m.bits / 64;
-        let bit = 1u64 << (m.bits % 64);
-        self.with_word(i, self.word(i) | bit)
+        let mut marks = self.marks;
+        marks[(m.bits / 64) as usize] |= 1u64 << (m.bits % 64);
+        Seen { marks }
     }
 }
 
-// The moves still to be met: the table's move; the response, or lacking one the variation's move; then the list. An empty move is none,
-// as in the Rust and in the table's bytes.
+// The moves still to be met: the table's move; the response, or lacking one the variation's move; then the list.
 #[derive(Clone, Copy)]
-pub struct Candidates {
-    pub first: Move,
-    pub second: Move,
+pub struct MovesLeft {
+    pub first: Option<Move>,
+    pub second: Option<Move>,
     pub list: MoveIterator,
 }
 
-impl Candidates {
+impl MovesLeft {
+    #[tactic(auto, using(crate::proofs::OrderLeft::next_listed), unfolding(crate::specs::Order::all_left))]
     fn next(&mut self) -> Option<Move>
         ensures { Meets self.old result self.new }
     {
-        let first = self.first;
-        if first.is_some() {
-            self.first = Move::none();
-            return Some(first);
+        if let Some(m) = self.first.take() {
+            return Some(m);
         }
-        let second = self.second;
-        if second.is_some() {
-            self.second = Move::none();
-            return Some(second);
+        if let Some(m) = self.second.take() {
+            return Some(m);
         }
         self.list.next()
     }
@@ -95,7 +63,7 @@ impl Candidates {
 // The order of a position's moves: those left, and those met.
 #[derive(Clone, Copy)]
 pub struct MoveOrder {
-    pub left: Candidates,
+    pub left: MovesLeft,
     pub seen: Seen,
 }
 
@@ -107,10 +75,10 @@ pub struct NextMove {
 }
 
 impl MoveOrder {
-    pub fn new(game: Game, first: Move, second: Move) -> MoveOrder
+    pub fn new(game: Game, first: Option<Move>, second: Option<Move>) -> MoveOrder
         ensures { result ≡ new_order game first second }
     {
-        let left = Candidates {
+        let left = MovesLeft {
             first,
             second,
             list: game.all_moves(),
@@ -121,7 +89,7 @@ impl MoveOrder {
         }
     }
 
-    // The next move that is no repeat and is accepted.
+    // The next move that is no repeat and is accepted. No `Iterator`: it would hold a copy of the game, which its caller has.
     pub fn next(&mut self, game: Game) -> Option<NextMove>
         ensures { NextOf game self.old result self.new }
     {

@@ -1,17 +1,24 @@
 -- One place of the stats is set, and the variation's places after the depth stay empty.
-use mathlib.Core.Path.{◌≡◌, refl}
+use mathlib.Core.Path.{◌≡◌, ap}
+use lib.IntN.{ℤ}
 use lib.ListN.{length}
-use Rattle.minimax.proofs.StateScores.{told}
-use Rattle.minimax.proofs.ReportAnswers.{deeper_whole, deeper_empty}
+use Prim.Native.Nat.{◌+◌}
 use native.Mathlib.Omega.{arith}
+use Rattle.minimax.specs.Report.{tally_of}
+use Rattle.minimax.proofs.StateScores.{told}
+use Rattle.minimax.proofs.ReportAnswers.{deeper_whole, deeper_pv_empty, deeper_stats_empty}
 use Rattle.minimax.proofs.CompletedDepths.deeper.Goals as goal
+
+pub invariant_of-result-clause-pv_empty : goal.invariant_of-result-clause-pv_empty
+invariant_of-result-clause-pv_empty c = deeper_pv_empty c.args.self c.requires.0 c.args.pv c.requires.1
+
+pub invariant_of-result-clause-stats_empty : goal.invariant_of-result-clause-stats_empty
+invariant_of-result-clause-stats_empty c = deeper_stats_empty c.args.self c.requires.0 _
 
 pub returns : goal.returns
 returns c =
-    let n : length c.args.self.stats ≡ 81 = omega arith in (
-      deeper_whole c.args.self c.args.r c.of.result c.requires.0 c.requires.1 n c.requires.2
-          c.of.ensures _ (told c.args.r.score c.struct_told-1.given.1.1.0.1),
-      deeper_empty c.args.self c.args.r c.of.result c.requires.0 c.requires.1 n c.requires.2
-          c.of.ensures _,
-      refl,
-    )
+    let a = c.args in
+    let n : length a.self.stats ≡ 81 = omega arith in
+    let z = told a.score (omega arith) in
+    deeper_whole a.self c.requires.0 a.score _ z a.pv a.state.now _ n
+    (ap (λ (y : ℤ). record { depth = a.self.depth + 1; score = y; tally = tally_of a.state.now.stats }) z)

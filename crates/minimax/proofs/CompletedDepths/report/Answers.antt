@@ -10,5 +10,5 @@ pub returns : goal.returns
 returns c =
     let n : length c.args.self.pv.moves ≡ 81 = omega arith in
     let k : length c.args.self.stats ≡ 81 = omega arith in
-    report_made c.args.self c.args.state c.args.stopped c.requires n k c.ending.result
-    c.ending.ensures _ (told c.args.self.score c.struct_told-1.given.1.1.1.0.1)
+    report_made c.args.self c.args.state.now c.args.stopped n k c.ending.result
+    c.ending.ensures _ (told c.args.self.score (omega arith))

@@ -13,7 +13,8 @@ decreases-moves l = 2 * l.a.depth
 
 abbrev pub invariant-moves-loop-child : goal.invariant-moves-loop-child
 invariant-moves-loop-child l =
-    Turn l.a (stand l.initial.words l.initial.order l.initial.s l.initial.best l.initial.local) (stand l.words l.order l.s l.best l.local)
+    Turn l.a (stand l.initial.words l.initial.order l.initial.state l.initial.alpha l.initial.pv l.initial.local)
+    (stand l.words l.order l.state l.alpha l.pv l.local)
 
 abbrev pub decreases-moves-loop-child : goal.decreases-moves-loop-child
 decreases-moves-loop-child l = length (order_left l.a.game l.order)

@@ -1,5 +1,5 @@
 use lib.ListN.{length}
-use Rattle.order.specs.Order.{candidates_left}
+use Rattle.order.specs.Order.{all_left}
 use Rattle.order.proofs.OrderSteps.{SameStep}
 use Rattle.order.proofs.MoveOrder.next.Given as goal
 
@@ -7,4 +7,4 @@ abbrev pub invariant-loop-m : goal.invariant-loop-m
 invariant-loop-m l = SameStep l.game l.self l.initial.self
 
 abbrev pub decreases-loop-m : goal.decreases-loop-m
-decreases-loop-m l = length (candidates_left l.self.left)
+decreases-loop-m l = length (all_left l.self.left)

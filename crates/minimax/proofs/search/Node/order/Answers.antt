@@ -1,9 +1,12 @@
--- The second move is the hint.
+-- The second move is the response, or lacking one the variation's.
+use mathlib.Core.Path.{ap, ◌∙◌}
+use Prim.Native.Nat.{ℕ}
+use Rattle.theory.specs.Memory.{some_move}
 use Rattle.minimax.proofs.StateOutcomes.{order_candidates}
 use Rattle.minimax.proofs.search.Node.order.Goals as goal
 
 pub returns : goal.returns
 returns c =
-    λ words. order_candidates c.args.self c.args.state words c.args.pv _ _ _ c.args.first _
-    c.new.ensures c.hint-second.ensures (c.response_to-response.ensures words)
-    (c.first.ensures _ c.requires.0)
+    λ words. order_candidates c.args.self c.args.state.now words c.args.pv.now _ _ (c.response_to-response.ensures words)
+    (c.unless_empty.ensures ∙ ap (λ (n : ℕ). some_move n) (c.first.ensures _ c.requires.0)) c.args.first
+    c.or-second.ensures c.new.ensures
