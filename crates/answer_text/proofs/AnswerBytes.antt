@@ -3,13 +3,13 @@ use mathlib.Core.Path.{◌≡◌, refl, sym, ap, ap₂, ◌∙◌}
 use mathlib.Core.Bool.{Bool, true, false}
 use mathlib.Core.List.{List, [], ◌∷◌, ◌++◌, append-nil, append_assoc}
 use Prim.Native.Nat.{ℕ, ◌≤◌}
-use lib.IntN.{ℤ}
 use native.Mathlib.Omega.{arith}
+use lib.IntN.{ℤ}
 use lib.ListN.{length, take, length-take}
 use lib.Seq.{take_all}
 use Rattle.rules.specs.Status.{Status}
 use Rattle.text.specs.Bytes.{space}
-use Rattle.text.specs.ProgramLine.{decimal, signed, shown, status_letters, moves_text, spaced, answer_text}
+use Rattle.text.specs.ProgramLine.{decimal, signed, shown, status_letters, moves_text, answer_text}
 use Rattle.answer_text.specs.declared.AnswerText.{AnswerText}
 use Rattle.answer_text.specs.AnswerBytes.{no_text, added, added_all, text_of_bytes, written_bytes}
 use Rattle.text.proofs.Padded.{first_of_first}
@@ -39,10 +39,6 @@ added_status o p q r s x y d a b c e f g =
 pub added_out : (t : List ℕ) (b : ℕ) → added (text_of_bytes t) b ≡ text_of_bytes (t ++ (b ∷ []))
 added_out t b = sym (added_append no_text t (b ∷ []))
 
--- what is added to a text's bytes makes those of the whole text
-pub added_all_out : (t u : List ℕ) → added_all (text_of_bytes t) u ≡ text_of_bytes (t ++ u)
-added_all_out t u = sym (added_append no_text t u)
-
 added_first : (o : AnswerText) (t : List ℕ) → length o.bytes ≤ 224 → (added_all o t).bytes ≡ take 224 (o.bytes ++ t)
 unfolding added
 added_first o [] h = sym (ap (take 224) (append-nil o.bytes) ∙ take_all 224 o.bytes h)
@@ -59,29 +55,14 @@ pub written_whole : (t : List ℕ) → length t ≤ 224 → written_bytes (text_
 written_whole t h = text_is_first t ∙ take_all 224 t h
 
 -- a text, a blank, and the rest
-pub then_blank : (o p q r : AnswerText) (t u : List ℕ) → p ≡ added_all o t → q ≡ added p space → r ≡ added_all q u →
-    r ≡ added_all o (t ++ (space ∷ u))
-then_blank o p q r t u e f g =
-    g ∙ ap (λ (z : AnswerText). added_all z u) (f ∙ ap (λ (z : AnswerText). added z space) e) ∙ sym (added_append o t (space ∷ u))
+spaced_next : (o : AnswerText) (t u : List ℕ) → added_all (added (added_all o t) space) u ≡ added_all o (t ++ (space ∷ u))
+spaced_next o t u = sym (added_append o t (space ∷ u))
 
--- from nothing
-pub written_from : (o r : AnswerText) (t : List ℕ) → o ≡ no_text → r ≡ added_all o t → r ≡ text_of_bytes t
-written_from o r t e f = f ∙ ap (λ (z : AnswerText). added_all z t) e
-
-pub answer_written : (s : Status) (legal depth : ℕ) (score : ℤ) (count : ℕ) (line : List ℕ)
-    (o₀ o₁ o₂ o₃ o₄ o₅ p₁ p₂ p₃ p₄ p₅ r : AnswerText) → o₀ ≡ no_text →
-    p₁ ≡ added_all o₀ (status_letters s) → o₁ ≡ added p₁ space → p₂ ≡ added_all o₁ (decimal legal) →
-    o₂ ≡ added p₂ space → p₃ ≡ added_all o₂ (decimal depth) → o₃ ≡ added p₃ space →
-    p₄ ≡ added_all o₃ (signed score) → o₄ ≡ added p₄ space → p₅ ≡ added_all o₄ (decimal count) →
-    o₅ ≡ added p₅ space → r ≡ added_all o₅ (moves_text line) →
-    r ≡ text_of_bytes (answer_text s legal depth score count line)
-answer_written s legal depth score count line o₀ o₁ o₂ o₃ o₄ o₅ p₁ p₂ p₃ p₄ p₅ r e e₁ f₁ e₂ f₂ e₃ f₃ e₄
-    f₄ e₅ f₅ g =
-    written_from o₀ r (answer_text s legal depth score count line) e
-    (then_blank o₀ p₁ o₁ r (status_letters s)
-    (spaced (decimal legal ∷ decimal depth ∷ signed score ∷ decimal count ∷ moves_text line ∷ [])) e₁ f₁
-    (then_blank o₁ p₂ o₂ r (decimal legal) (spaced (decimal depth ∷ signed score ∷ decimal count ∷ moves_text line ∷ [])) e₂
-    f₂
-    (then_blank o₂ p₃ o₃ r (decimal depth) (spaced (signed score ∷ decimal count ∷ moves_text line ∷ [])) e₃ f₃
-    (then_blank o₃ p₄ o₄ r (signed score) (spaced (decimal count ∷ moves_text line ∷ [])) e₄ f₄
-    (then_blank o₄ p₅ o₅ r (decimal count) (moves_text line) e₅ f₅ g)))))
+-- an answer's parts, with a blank between them
+pub parts_written : (s : Status) (legal depth : ℕ) (score : ℤ) (count : ℕ) (line : List ℕ) →
+    added_all (added (added_all (added (added_all (added (added_all (added (added_all (added (added_all no_text (status_letters s))
+    space) (decimal legal)) space) (decimal depth)) space) (signed score)) space) (decimal count)) space) (moves_text line)
+    ≡ text_of_bytes (answer_text s legal depth score count line)
+parts_written s legal depth score count line =
+    spaced_next _ (decimal count) _ ∙ spaced_next _ (signed score) _ ∙ spaced_next _ (decimal depth) _
+    ∙ spaced_next _ (decimal legal) _ ∙ spaced_next no_text (status_letters s) _

@@ -1,68 +1,68 @@
--- What is left of the moves, from the next one on, is what is still to be added.
-use mathlib.Core.Path.{◌≡◌, sym, ap, ◌∙◌}
-use mathlib.Core.Bool.{Bool, true, false}
+-- The moves before the first empty one, joined, are the text.
+use mathlib.Core.Path.{◌≡◌, refl, sym, ap, ◌∙◌}
+use mathlib.Core.Bool.{Bool, true, false, cond, not, true≢false}
 use mathlib.Core.List.{List, [], ◌∷◌, ◌++◌}
-use Prim.Native.Nat.{ℕ, suc, ◌+◌, ◌≤◌, ◌<◌}
-use native.Mathlib.Numerals.{add-one}
+use Prim.Native.Nat.{ℕ, suc, ◌+◌, ◌<◌}
 use native.Mathlib.Omega.{arith}
 use lib.Dec.{eqb}
-use lib.ListN.{length, get_or, drop, drop_of_length-le, length-map, get_or-map}
+use native.Mathlib.Numerals.{add-one}
+use lib.ListN.{length, get_or, take, drop}
 use lib.Seq.{drop-cons}
+use Rattle.answer_text.specs.declared.AnswerText.{AnswerText}
+use Rattle.answer_text.proofs.AnswerBytes.{added_append}
+use Rattle.std.specs.List.{prefix_len, take_while}
+use Rattle.std.proofs.lemmas.List.Folds.{length-prefix_len}
+use borrow.Author.Tests.{eqb-true}
 use Rattle.base.specs.Branch.{when◌then◌else◌}
 use Rattle.rules.specs.Play.{no_move}
 use Rattle.text.specs.MoveText.{move_text}
 use Rattle.text.specs.ProgramLine.{move_letters, or_minus, moves_text}
 use Rattle.boards.specs.declared.moves.Move.{Move}
-use Rattle.answer_text.specs.declared.AnswerText.{AnswerText}
-use Rattle.answer_text.specs.AnswerBytes.{added, added_all, move_bytes}
-use Rattle.answer_text.proofs.AnswerBytes.{added_append}
+use Rattle.answer_text.specs.AnswerBytes.{added_all, move_bytes}
 
--- ---- the first move
-none_first : (m : ℕ) (ms : List ℕ) → eqb m no_move ≡ true → move_letters (m ∷ ms) ≡ []
+abbrev pub is_move : Move → Bool
+is_move m = not (eqb m.bits no_move)
+
+abbrev pub shown_moves : List Move → List Move
+shown_moves line = take_while is_move line
+
+abbrev pub joined : List Move → List ℕ
+joined [] = []
+joined (m ∷ ms) = move_text m.bits ++ joined ms
+
+letters_joined : (line : List Move) → move_letters (move_bytes line) ≡ joined (shown_moves line)
 unfolding move_letters when◌then◌else◌
-none_first m ms e = rw e
+letters_joined [] = refl
+letters_joined (m ∷ ms) = step (eqb m.bits no_move) (prefix_len is_move ms) (move_letters (move_bytes ms)) (letters_joined ms)
+  where
+    step : (c : Bool) (n : ℕ) (t : List ℕ) → t ≡ joined (take n ms) →
+        (when c then (λ _. []) else λ _. move_text m.bits ++ t) ≡ joined (take (cond (not c) (1 + n) 0) (m ∷ ms))
+    step true n t e = refl
+    step false n t e = let one : 1 + n ≡ suc n = omega arith in rw one (ap (λ (t : List ℕ). move_text m.bits ++ t) e)
 
-some_first : (m : ℕ) (ms : List ℕ) → eqb m no_move ≡ false → move_letters (m ∷ ms) ≡ move_text m ++ move_letters ms
-unfolding move_letters when◌then◌else◌
-some_first m ms e = rw e
+-- by how many stand before it
+module _ (line : List Move) (n : ℕ) (e : n ≡ length (shown_moves line)) where
+  those : take n line ≡ shown_moves line
+  those = ap (λ (n : ℕ). take n line) (e ∙ length-prefix_len is_move line)
 
-module _ (o : AnswerText) (line : List Move) (d : Move) where
-  abbrev at : ℕ → ℕ
-  at i = (get_or line i d).bits
+  text_of : moves_text (move_bytes line) ≡ or_minus (joined (take n line))
+  text_of = rw (letters_joined line, sym those)
 
-  from_here : (i : ℕ) → i < length line → drop i (move_bytes line) ≡ at i ∷ drop (i + 1) (move_bytes line)
-  from_here i h =
-      let n : i < length (move_bytes line) = omega (arith, length-map line (λ (m : Move). m.bits)) in
-      rw (add-one i) (drop-cons (move_bytes line) i d.bits n ∙ ap (λ (m : ℕ). m ∷ drop (suc i) (move_bytes line))
-      (get_or-map (λ (m : Move). m.bits) line i d))
+  pub none_shown : eqb (length (take n line)) 0 ≡ true → moves_text (move_bytes line) ≡ 45 ∷ []
+  none_shown f = text_of ∙ go (take n line) (eqb-true _ 0 f)
+    where
+      go : (ms : List Move) → length ms ≡ 0 → or_minus (joined ms) ≡ 45 ∷ []
+      go [] f = refl
+      go (m ∷ ms) f = absurd (omega arith)
 
-  -- an empty move is first: `-`
-  pub joined_none : (r : AnswerText) (t : Bool) → 0 < length line → t ≡ eqb (at 0) no_move → t ≡ true → r ≡ added o 45 →
-      r ≡ added_all o (moves_text (move_bytes line))
-  joined_none r t h e f g =
-      g ∙ sym (ap (λ (ms : List ℕ). added_all o (or_minus ms)) (ap move_letters (from_here 0 h) ∙ none_first (at 0) _ (sym e ∙ f)))
+  pub some_shown : eqb (length (take n line)) 0 ≡ false → moves_text (move_bytes line) ≡ joined (take n line)
+  some_shown f = text_of ∙ go (take n line) f
+    where
+      go : (ms : List Move) → eqb (length ms) 0 ≡ false → or_minus (joined ms) ≡ joined ms
+      go [] f = absurd (true≢false f)
+      go (m ∷ ms) f = refl
 
-  -- otherwise all is left
-  pub joined_some : (t : Bool) → 0 < length line → t ≡ eqb (at 0) no_move → t ≡ false →
-      added_all o (move_letters (move_bytes line)) ≡ added_all o (moves_text (move_bytes line))
-  joined_some t h e f =
-      let l = ap move_letters (from_here 0 h) ∙ some_first (at 0) _ (sym e ∙ f) in
-      ap (added_all o) (l ∙ sym (ap or_minus l))
-
-  -- ---- a move of the line
-  pub left_end : (i : ℕ) → i ≡ length line → added_all o (move_letters (drop i (move_bytes line))) ≡ o
-  unfolding move_letters
-  left_end i h =
-      ap (λ (ms : List ℕ). added_all o (move_letters ms)) (let n : length (move_bytes line) ≤ i = omega
-      (arith, length-map line (λ (m : Move). m.bits)) in drop_of_length-le (move_bytes line) n)
-
-  module _ (i : ℕ) (h : i < length line) (t : Bool) (e : t ≡ eqb (at i) no_move) where
-    pub left_none : t ≡ true → added_all o (move_letters (drop i (move_bytes line))) ≡ o
-    left_none f = ap (added_all o) (ap move_letters (from_here i h) ∙ none_first (at i) _ (sym e ∙ f))
-
-    pub left_some : t ≡ false → (r : AnswerText) → r ≡ added_all o (move_text (at i)) →
-        added_all r (move_letters (drop (i + 1) (move_bytes line))) ≡ added_all o (move_letters (drop i (move_bytes line)))
-    left_some f r g =
-        ap (λ (p : AnswerText). added_all p (move_letters (drop (i + 1) (move_bytes line)))) g
-        ∙ sym (added_append o (move_text (at i)) (move_letters (drop (i + 1) (move_bytes line))))
-        ∙ sym (ap (added_all o) (ap move_letters (from_here i h) ∙ some_first (at i) _ (sym e ∙ f)))
+pub next_added : (o r : AnswerText) (moves : List Move) (i : ℕ) (d : Move) → i < length moves →
+    r ≡ added_all o (move_text (get_or moves i d).bits) → added_all r (joined (drop (i + 1) moves)) ≡ added_all o (joined (drop i moves))
+next_added o r moves i d h e =
+    rw (e, drop-cons moves i d h, add-one i) (sym (added_append o (move_text (get_or moves i d).bits) (joined (drop (suc i) moves))))

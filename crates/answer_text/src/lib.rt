@@ -1,9 +1,10 @@
-// The bytes of an answer.
+// Short texts: a line's answer, and what is told on standard error.
 #![tactic(auto)]
 
-ghost use Rattle.std.specs.Prelude.{◌≡◌};
+ghost use Rattle.std.specs.Prelude.{◌≡◌, ◌≤◌, eqb, not, length, take_while};
+ghost use Rattle.rules.specs.Play.{no_move};
 ghost use Rattle.text.specs.MoveText.{move_text};
-ghost use Rattle.text.specs.ProgramLine.{decimal, signed, shown, status_letters, moves_text, answer_text, refusal_text};
+ghost use Rattle.text.specs.ProgramLine.{decimal, signed, shown, status_letters, moves_text, refusal_text};
 ghost use Rattle.status.specs.Sets.{set_of};
 ghost use Rattle.answer_text.specs.AnswerBytes.{no_text, added, added_all, move_bytes, text_of_bytes, written_bytes};
 
@@ -12,7 +13,15 @@ use byte_row::ByteRow;
 use rules::Player;
 use status::Status;
 
-// The longest answer has 201 bytes.
+// How many moves stand before the first empty one.
+fn shown_moves(line: &[Move]) -> usize
+    ensures value { result ≡ length (take_while (λ m. not (eqb m.bits no_move)) line.now) }
+    ensures bound { result ≤ length line.now }
+{
+    line.iter().take_while(|m| m.is_some()).count()
+}
+
+// The longest answer has 201 bytes. A text is made in one expression, piece after piece, so each piece takes it and gives it back.
 #[derive(Clone, Copy)]
 pub struct AnswerText {
     bytes: ByteRow<224>,
@@ -28,6 +37,7 @@ impl AnswerText {
     }
 
     // One byte more; where there is no room it is dropped.
+    #[tactic(auto, unfolding(crate::specs::AnswerBytes::added))]
     pub fn push(mut self, b: u8) -> AnswerText
         ensures { result ≡ added self b }
     {
@@ -45,6 +55,7 @@ impl AnswerText {
         out
     }
 
+    #[tactic(auto, using(crate::proofs::AnswerBytesDecimal::decimal_digits))]
     pub fn decimal(self, n: u64) -> AnswerText
         ensures { result ≡ added_all self (decimal n) }
     {
@@ -53,31 +64,29 @@ impl AnswerText {
         self.text(&digits[..k])
     }
 
+    #[tactic(auto, using(crate::proofs::AnswerBytesSigned::negative_text, crate::proofs::AnswerBytesSigned::natural_text))]
     pub fn signed(self, n: i64) -> AnswerText
         ensures { result ≡ added_all self (signed n) }
     {
-        if n < 0 {
-            let out = self.push(b'-');
-            let m = (-(n + 1)) as u64 + 1;
-            return out.decimal(m);
-        }
-        self.decimal(n as u64)
+        let out = if n < 0 { self.push(b'-') } else { self };
+        out.decimal(n.unsigned_abs())
     }
 
     // A letter, if it is to be shown.
+    #[tactic(auto, using(crate::proofs::AnswerBytes::added_shown, crate::proofs::AnswerBytes::added_hidden))]
     fn letter(self, show: bool, b: u8) -> AnswerText
         ensures { result ≡ added_all self (shown show b) }
     {
         if show { self.push(b) } else { self }
     }
 
+    #[tactic(auto, using(crate::proofs::AnswerBytes::added_status))]
     pub fn status(self, s: Status) -> AnswerText
         ensures { result ≡ added_all self (status_letters (set_of s)) }
     {
-        let x = s.is_winnable(Player::X);
-        let o = s.is_winnable(Player::O);
-        let draw = (s.bits >> 2) & 1 == 1;
-        self.letter(x, b'X').letter(o, b'O').letter(draw, b'D')
+        self.letter(s.is_winnable(Player::X), b'X')
+            .letter(s.is_winnable(Player::O), b'O')
+            .letter(s.may_draw(), b'D')
     }
 
     pub fn move_text(self, m: Move) -> AnswerText
@@ -88,18 +97,16 @@ impl AnswerText {
     }
 
     // Moves up to the first empty one, joined; `-` if there is none.
+    #[tactic(auto, using(crate::proofs::AnswerBytesMoves::none_shown, crate::proofs::AnswerBytesMoves::next_added))]
     pub fn moves(self, line: [Move; PLACES]) -> AnswerText
         ensures { result ≡ added_all self (moves_text (move_bytes line)) }
     {
-        let first = line[0];
-        if first.is_none() {
+        let moves = &line[..shown_moves(&line)];
+        if moves.is_empty() {
             return self.push(b'-');
         }
         let mut out = self;
-        for m in line {
-            if m.is_none() {
-                return out;
-            }
+        for &m in moves {
             out = out.move_text(m);
         }
         out
@@ -110,24 +117,6 @@ impl AnswerText {
         ensures { result ≡ text_of_bytes (refusal_text number) }
     {
         AnswerText::new().push(b'E').push(b' ').decimal(number)
-    }
-
-    // A line that is answered.
-    pub fn answer(
-        status: Status,
-        legal: u64,
-        depth: u64,
-        score: i64,
-        count: u64,
-        line: [Move; PLACES],
-    ) -> AnswerText
-        ensures { result ≡ text_of_bytes (answer_text (set_of status) legal depth score count (move_bytes line)) }
-    {
-        let first = AnswerText::new().status(status).push(b' ');
-        let second = first.decimal(legal).push(b' ');
-        let third = second.decimal(depth).push(b' ');
-        let fourth = third.signed(score).push(b' ');
-        fourth.decimal(count).push(b' ').moves(line)
     }
 
     pub fn as_slice(&self) -> &[u8]

@@ -34,6 +34,7 @@ impl<const N: usize> Model for ByteRow<N> {
 
 impl<const N: usize> ByteRow<N> {
     // No byte.
+    #[tactic(auto, using(text::proofs::Padded::padded_none))]
     pub fn new() -> ByteRow<N>
         ensures { result ≡ [] }
     {
@@ -56,6 +57,7 @@ impl<const N: usize> ByteRow<N> {
     }
 
     // One byte more; where there is no room it is dropped.
+    #[tactic(auto, using(text::proofs::Padded::held_next, text::proofs::Padded::held_more))]
     pub fn push(&mut self, b: u8)
         ensures { self.new ≡ take N (self.old ++ b ∷ []) }
     {

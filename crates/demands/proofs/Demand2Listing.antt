@@ -65,9 +65,6 @@ pub record Listing (ms : List ℕ) (i : ℕ) (list : List Move) (left : MoveIter
   pub placed : bytes_of list ≡ filled no_move (take i ms)
   pub left_is : moves_left left ≡ drop i ms
 
-pub listing_begins : (it : MoveIterator) → Listing (moves_left it) 0 (replicate 81 (record { bits = no_move })) it
-listing_begins it = record { most = omega arith; placed = bytes_empty 81; left_is = refl }
-
 -- asked once more, it gives the first of the moves left, or nothing
 module _ (ms : List ℕ) (i : ℕ) (list : List Move) (left : MoveIterator) (h : Listing ms i list left) (more : i < 81) (j : ℕ)
     (j_is : j ≡ suc i) where

@@ -85,6 +85,7 @@ pub struct AfterMoves {
 
 // Every entry point, asked: a text is read as a position and as a move, a move is tried, a cell and a board are looked at, a move is built,
 // the game is evaluated, the endgame analysis and a move's status are asked, the game is searched, and a line of the program is answered.
+// Each argument is one that a call takes: a struct of them would be made for this function alone, as in those below.
 pub fn entry_answers(
     text: &[u8],
     line: &[u8],

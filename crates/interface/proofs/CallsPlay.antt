@@ -1,7 +1,4 @@
 -- Moves tried one by one, by those still to be tried.
-use Rattle.boards.specs.declared.moves.MoveError.{MoveError}
-use Rattle.std.specs.Result.{result_unwrap_or}
-use Rattle.std.specs.Prelude.{Result, Ok, Err}
 use mathlib.Core.Path.{◌≡◌, refl, sym, ap, ◌∙◌}
 use mathlib.Core.List.{List, [], ◌∷◌}
 use Prim.Native.Nat.{ℕ, suc, ◌+◌, ◌≤◌, ◌<◌}
@@ -11,7 +8,7 @@ use lib.Seq.{drop-cons, sets}
 use Rattle.rules.specs.Play.{play}
 use Rattle.game.specs.declared.Game.{Game}
 use Rattle.game.specs.Meaning.{position_of}
-use Rattle.game.specs.After.{refusal, game_after, answers_each, game_left}
+use Rattle.game.specs.After.{refusal, game_after, answers_each}
 
 pub answers_next : (l ms : List ℕ) (g h : Game) (i n : ℕ) → i < length ms → n ≡ refusal (play (position_of g) (get_or ms i 0)) →
     h ≡ game_after g (get_or ms i 0) → sets (set l i n) (i + 1) (answers_each h (drop (i + 1) ms))
@@ -32,8 +29,3 @@ pub answers_length : (g : Game) (ms : List ℕ) → length (answers_each g ms) �
 unfolding answers_each
 answers_length g [] = refl
 answers_length g (m ∷ ms) = ap suc (answers_length (game_after g m) ms)
-
--- the game that goes on is the one that the move left
-pub goes_on : (g : Game) (r : Result Game MoveError) → result_unwrap_or r g ≡ game_left g r
-goes_on g (Ok after) = refl
-goes_on g (Err why) = refl

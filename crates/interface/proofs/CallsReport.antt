@@ -1,17 +1,17 @@
 -- The moves and stats of a report: what the array functions give, and the parts joined.
-use mathlib.Core.Path.{◌≡◌, refl, sym, ap, ◌∙◌, subst}
+use mathlib.Core.Path.{◌≡◌, refl, sym, ap, ◌∙◌}
 use mathlib.Core.List.{List, [], ◌∷◌, ◌++◌, map}
-use Prim.Native.Nat.{ℕ, zero, suc, ◌+◌, ◌*◌, ◌≤◌, ◌<◌}
+use Prim.Native.Nat.{ℕ, ◌+◌, ◌*◌, ◌≤◌, ◌<◌}
 use native.Mathlib.Omega.{arith}
-use native.Mathlib.Decide.{ℕ_discrete}
 use denote.Param.Members.{Mut}
 use Rattle.std.specs.Fn.{Called}
-use Rattle.std.specs.Array.{IsMapOf, IsFromFnResult, IsFromFnResultFrom}
+use Rattle.std.specs.Array.{IsMapOf, IsFromFnResult}
 use Rattle.std.specs.List.{flat_map}
 use Rattle.std.proofs.Common.{get_or-take, get_or-drop, length-take-le, ext_get_or, length-drop, length-append}
 use Rattle.std.proofs.lemmas.List.{get_or-map, length-map}
 use lib.ListN.{length, get_or, take, drop}
 use lib.Seq.{sets}
+use Rattle.base.proofs.Arrays.{from_fn_each}
 use Rattle.theory.specs.Deepening.{Stats as Meant}
 use Rattle.theory.specs.Reported.{Reported}
 use Rattle.boards.specs.declared.moves.Move.{Move}
@@ -36,23 +36,14 @@ module _ {F A B : Type 0} (g : Mut F (A × Unit {0}) B) (h : A → B) (f : F) wh
 -- moves from bytes
 module _ {F : Type 0} (g : Mut F (ℕ × Unit {0}) Move) (f : F) (h : ℕ → ℕ)
     (computes : (i : ℕ) (y : Move) (q : F) → Called g f (i, tt) y q → (y.bits ≡ h i) × (q ≡ f)) where
-  made_at : (ms : List Move) (i n : ℕ) → IsFromFnResultFrom g f ms i n → (k : ℕ) → i ≤ k → k < i + n →
-      (get_or ms k (record { bits = 0 })).bits ≡ h k
-  made_at ms i zero r k l m = absurd (omega arith)
-  made_at ms i (suc n) r k l m =
-      let c = computes i r.1 r.0 r.3 in
-      elim (ℕ_discrete k i) [
-        | yes e ↦ rw e (ap (λ (x : Move). x.bits) (r.2.1 (record { bits = 0 })) ∙ c.0)
-        | no e ↦ made_at ms (i + 1) n (subst (λ (q : F). IsFromFnResultFrom g q ms (i + 1) n) c.1 r.4) k (omega arith) (omega arith)
-      ]
-
   pub moves_made : (ms : List Move) (bs : List ℕ) (at n : ℕ) → at + n ≤ length bs → IsFromFnResult g f ms n →
       ((k : ℕ) → k < n → h k ≡ get_or bs (at + k) 0) → bytes_of ms ≡ take n (drop at bs)
   moves_made ms bs at n fit r reads =
       ext_get_or 0 (bytes_of ms) (take n (drop at bs))
       (length-map ms byte_of ∙ r.long ∙ sym (length-take-le n (drop at bs) (simp length-drop (omega arith)))) λ k lt.
       let l : k < n = omega (arith, length-map ms byte_of, r.long) in
-      get_or-map byte_of ms k (record { bits = 0 }) 0 (omega (arith, r.long)) ∙ made_at ms 0 n r.each k (omega arith) (omega arith)
+      get_or-map byte_of ms k (record { bits = 0 }) 0 (omega (arith, r.long))
+      ∙ from_fn_each g f (λ i y. y.bits ≡ h i) computes (record { bits = 0 }) ms 0 n r.each k (omega arith) (omega arith)
       ∙ reads k l ∙ sym (get_or-take n (drop at bs) k 0 l ∙ get_or-drop at bs k 0)
 
 -- the stats of each depth, seven words at a time

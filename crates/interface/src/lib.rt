@@ -1,5 +1,5 @@
 // The functions of the C interface, on numbers and lent slices; for C, to which interface_c exports them, a slice is a pointer and a
-// length.
+// length. So a function asks for the length of each itself, and takes no arrays.
 // Asked wrongly, a call but `ultimattt_answer` returns 255 and changes nothing; a slice that is longer than needed keeps its other places.
 #![tactic(auto)]
 

@@ -30,6 +30,7 @@ const MOST: [u64; 12] = [
     0xffff_ffff_ffff_ffff,
 ];
 
+// The interface's word for no board due is 256, document 01's; the records of the tests have 255 there (tools/lists.py).
 fn next_board_word(next: Option<u8>) -> u64
     ensures { result ≡ next_board_word next }
 {
@@ -89,6 +90,7 @@ fn row(x: u64, o: u64) -> Row
 }
 
 // By index: the places of the words are the C interface's.
+#[tactic(auto, using(crate::proofs::PositionWords::twelve, crate::proofs::PositionWords::word_most))]
 pub(crate) fn game_from(words: &[u64]) -> Game
     requires { T (is_position words.now) }
     ensures { result ≡ game_from words.now }

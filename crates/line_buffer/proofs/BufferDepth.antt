@@ -1,14 +1,11 @@
 -- One digit, and two by what each says.
-use mathlib.Core.Path.{◌≡◌, refl, sym, ◌∙◌}
+use mathlib.Core.Path.{◌≡◌, refl}
 use mathlib.Core.Bool.{Bool, true, false, ◌&&◌}
 use mathlib.Core.List.{[], ◌∷◌}
 use Prim.Native.Nat.{ℕ, ◌+◌, ◌-◌, ◌*◌}
 use Rattle.std.specs.Prelude.{Option, Some, None}
 use Rattle.base.specs.Branch.{when◌then◌else◌}
 use Rattle.text.specs.ProgramLine.{is_digit, depth_of}
-use Rattle.line_buffer.specs.declared.AfterBlank.{AfterBlank}
-use Rattle.line_buffer.specs.declared.AfterBlank.TheVariants.{Two}
-use Rattle.line_buffer.specs.Buffer.{depth_after}
 
 pub digit_says : (b : ℕ) → is_digit b ≡ true → depth_of (b ∷ []) ≡ Some (b - 48)
 unfolding depth_of when◌then◌else◌
@@ -23,7 +20,8 @@ tens None d = None
 tens (Some m) None = None
 tens (Some m) (Some n) = Some (10 * m + n)
 
-two_digits : (a b : ℕ) → depth_of (a ∷ b ∷ []) ≡ tens (depth_of (a ∷ [])) (depth_of (b ∷ []))
+-- of two bytes, by what each says
+pub two_digits : (a b : ℕ) → depth_of (a ∷ b ∷ []) ≡ tens (depth_of (a ∷ [])) (depth_of (b ∷ []))
 unfolding depth_of when◌then◌else◌
 two_digits a b = go (is_digit a) (is_digit b)
   where
@@ -35,19 +33,3 @@ two_digits a b = go (is_digit a) (is_digit b)
     go true false = refl
     go false true = refl
     go false false = refl
-
--- of two bytes, by what each says
-module _ (s : AfterBlank) (a b : ℕ) (e : s ≡ Two a b) (m : Option ℕ) (f : m ≡ depth_of (a ∷ [])) where
-  pub first_none : m ≡ None → None ≡ depth_after s
-  first_none g = rw (e, two_digits a b, sym f ∙ g)
-
-  module _ (n : Option ℕ) (g : n ≡ depth_of (b ∷ [])) where
-    pub second_none : n ≡ None → None ≡ depth_after s
-    second_none h = rw (e, two_digits a b, sym g ∙ h) (no_second (depth_of (a ∷ [])))
-      where
-        no_second : (m : Option ℕ) → None ≡ tens m None
-        no_second None = refl
-        no_second (Some k) = refl
-
-    pub both_some : (k l : ℕ) → m ≡ Some k → n ≡ Some l → Some (10 * k + l) ≡ depth_after s
-    both_some k l h i = rw (e, two_digits a b, sym f ∙ h, sym g ∙ i)

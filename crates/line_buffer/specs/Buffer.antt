@@ -1,11 +1,16 @@
 -- A line of any length in bounded memory: what one more byte makes of it, and what is held of a whole line.
-use Rattle.std.specs.Prelude.{◌≡◌, Option, None, cond, List, [], ◌∷◌, ◌++◌, ℕ, min, eqb, length, take}
+use Rattle.std.specs.Prelude.{◌≡◌, Option, None, Result, cond, List, [], ◌∷◌, ◌++◌, ℕ, min, eqb, length, take}
+use Rattle.std.specs.Option.{ok_or}
 use Rattle.text.specs.Bytes.{space}
 use Rattle.text.specs.Reading.{read}
 use Rattle.text.specs.ProgramLine.{Parted, no_blank, around, parted, depth_of, Question, no_depth, asks, asks_with}
+use Rattle.line_buffer.specs.declared.BadDepth.{BadDepth}
 use Rattle.line_buffer.specs.declared.AfterBlank.{AfterBlank}
 use Rattle.line_buffer.specs.declared.AfterBlank.TheVariants.{Nothing, One, Two, Other}
 use Rattle.line_buffer.specs.declared.LineBuffer.{LineBuffer}
+
+abbrev pub bad_depth_number : BadDepth → ℕ
+bad_depth_number why = 19
 
 -- ---- what follows the last blank
 abbrev pub after_with : AfterBlank → ℕ → AfterBlank
@@ -44,6 +49,9 @@ pushed_all h (b ∷ bs) = pushed_all (pushed h b) bs
 -- ---- what is held
 abbrev pub buffer_text : LineBuffer → List ℕ
 buffer_text h = take h.text h.kept
+
+abbrev pub depth_held : LineBuffer → Result ℕ BadDepth
+depth_held h = ok_or (depth_after h.after) (record {})
 
 abbrev pub buffer_asks : LineBuffer → Question
 buffer_asks h = asks_with (buffer_text h) (depth_after h.after)

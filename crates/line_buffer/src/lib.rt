@@ -1,12 +1,32 @@
 // A line of any length, held in bounded memory: its first 257 bytes, where its last blank stands, and what follows that blank.
 #![tactic(auto)]
 
-ghost use Rattle.std.specs.Prelude.{◌≡◌, [], ◌∷◌, ◌<◌, IfSome, eqb, length};
+ghost use Rattle.std.specs.Prelude.{◌≡◌, ◌==◌, [], ◌∷◌, ◌<◌, IfSome, eqb, length, position};
 ghost use Rattle.text.specs.ProgramLine.{depth_of};
-ghost use Rattle.line_buffer.specs.Buffer.{after_with, after_byte, depth_after, new_buffer, pushed, pushed_all, buffer_text};
+ghost use Rattle.base.specs.LineFeed.{line_feed};
+ghost use Rattle.std.proofs.Common.{rules};
+ghost use Rattle.line_buffer.specs.Buffer.{bad_depth_number, after_with, depth_after, depth_held};
+ghost use Rattle.line_buffer.specs.Buffer.{new_buffer, pushed, pushed_all, buffer_text};
 ghost use Rattle.line_buffer.specs.Taking.{BuffersLine};
 
 use byte_row::ByteRow;
+use rules::Refusal;
+
+// Why a line asks nothing: it has no blank, or after its last blank stands anything but one or two digits.
+#[derive(Clone, Copy, PartialEq, Eq)]
+pub struct BadDepth;
+
+impl Refusal for BadDepth {
+    ghost number_of = { bad_depth_number };
+
+    ghost never_0 = { Prim.search rules };
+
+    fn number(self) -> u64
+        ensures { result ≡ bad_depth_number self }
+    {
+        19
+    }
+}
 
 // What follows the last blank. `Other`: more than two bytes, or there is no blank. It stands beside the kept bytes: those of a text that
 // is too long to be read end before the depth does.
@@ -19,6 +39,7 @@ pub enum AfterBlank {
 }
 
 // What one digit says.
+#[tactic(auto, using(crate::proofs::BufferDepth::digit_says, crate::proofs::BufferDepth::no_digit))]
 fn digit(b: u8) -> Option<u8>
     ensures value { result ≡ depth_of (b ∷ []) }
     ensures bound { IfSome result (λ n. n < 10) }
@@ -43,17 +64,7 @@ impl AfterBlank {
         }
     }
 
-    // With one byte more: a blank is the last one so far.
-    fn push(self, b: u8) -> AfterBlank
-        ensures { result ≡ after_byte self b }
-    {
-        if b == b' ' {
-            AfterBlank::Nothing
-        } else {
-            self.longer(b)
-        }
-    }
-
+    #[tactic(auto, using(crate::proofs::BufferDepth::two_digits), unfolding(text::specs::ProgramLine::depth_of))]
     pub fn depth(self) -> Option<u8>
         ensures { result ≡ depth_after self }
     {
@@ -63,6 +74,13 @@ impl AfterBlank {
             AfterBlank::Nothing | AfterBlank::Other => None,
         }
     }
+}
+
+// The place of the first line feed.
+fn first_feed(bytes: &[u8]) -> Option<usize>
+    ensures { result ≡ position (λ b. b == line_feed) bytes.now }
+{
+    bytes.iter().position(|b| *b == b'\n')
 }
 
 // The first 257 bytes are kept, one more than the longest text that is read: a longer one is refused by them. `text` of these stand before
@@ -86,14 +104,17 @@ impl LineBuffer {
         }
     }
 
-    // One byte more.
+    // One byte more: a blank is the last one so far.
+    #[tactic(auto, unfolding(crate::specs::Buffer::pushed))]
     pub fn push(&mut self, b: u8)
         ensures { self.new ≡ pushed self.old b }
     {
         if b == b' ' {
             self.text = self.kept.len();
+            self.after = AfterBlank::Nothing;
+        } else {
+            self.after = self.after.longer(b);
         }
-        self.after = self.after.push(b);
         self.kept.push(b);
     }
 
@@ -113,22 +134,26 @@ impl LineBuffer {
     }
 
     // Takes the bytes up to a line feed, and answers what follows it; or all, and the line goes on.
+    #[tactic(auto, using(crate::proofs::Taking::feed_line, crate::proofs::Taking::feed_rest, crate::proofs::Taking::no_feed))]
     pub fn take<'a>(&mut self, bytes: &'a [u8]) -> Option<&'a [u8]>
         ensures { BuffersLine self.old bytes.now self.new result }
     {
-        for (i, &b) in bytes.iter().enumerate() {
-            if b == b'\n' {
-                return Some(&bytes[i + 1..]);
+        match first_feed(bytes) {
+            Some(end) => {
+                self.push_all(&bytes[..end]);
+                Some(&bytes[end + 1..])
             }
-            self.push(b);
+            None => {
+                self.push_all(bytes);
+                None
+            }
         }
-        None
     }
 
-    pub fn depth(&self) -> Option<u8>
-        ensures { result ≡ depth_after self.now.after }
+    pub fn depth(&self) -> Result<u8, BadDepth>
+        ensures { result ≡ depth_held self.now }
     {
-        self.after.depth()
+        self.after.depth().ok_or(BadDepth)
     }
 
     // What is held of the position's text.

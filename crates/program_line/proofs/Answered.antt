@@ -1,15 +1,14 @@
 -- The code's arms are the definition's; what is held of a line is answered as the line is, and no byte of an answer is dropped.
-use Rattle.std.specs.Prelude.{None}
 use mathlib.Core.Path.{◌≡◌, refl, sym, ap, ◌∙◌, subst}
 use mathlib.Core.Bool.{Bool, true, false}
 use mathlib.Core.List.{List, [], ◌∷◌}
 use Prim.Native.Nat.{ℕ, ◌≤◌}
 use native.Mathlib.Omega.{arith}
 use lib.Dec.{T, eqb}
-use lib.IntN.{ℤ}
 use lib.ListN.{length}
 use borrow.Author.Tests.{eq-eqb, ne_eqb}
-use Rattle.std.specs.Prelude.{None, Ok, Err}
+use Rattle.std.specs.Prelude.{Option, None, Some, Result, Ok, Err}
+use Rattle.std.specs.Option.{ok_or}
 use Rattle.base.specs.Bits.{bit}
 use Rattle.base.specs.Branch.{when◌then◌else◌}
 use Rattle.base.proofs.Branch.{if_ind}
@@ -23,7 +22,7 @@ use Rattle.rules.proofs.Endgame.{analysis_cases}
 use Rattle.theory.specs.Memory.{no_responses}
 use Rattle.theory.specs.Reported.{Reported, reported}
 use Rattle.text.specs.Reading.{Reading, reads, refuses, read}
-use Rattle.text.specs.ProgramLine.{Question, no_depth, asks, asked, answer_text, refusal_text}
+use Rattle.text.specs.ProgramLine.{Question, no_depth, asks, asks_with, asked, answer_text, refusal_text}
 use Rattle.text.proofs.Reading.{refusal_is_1_to_6}
 use Rattle.text.proofs.ProgramLine.{decimal_short, answer_short}
 use Rattle.status.specs.declared.Status.{Status}
@@ -44,7 +43,9 @@ use Rattle.minimax.specs.Structs.{structs}
 use Rattle.minimax.proofs.ReportAnswers.{bytes_empty}
 use Rattle.minimax.proofs.Structs.{reported_rules}
 use Rattle.answer_text.specs.declared.AnswerText.{AnswerText}
-use Rattle.line_buffer.specs.Buffer.{new_buffer, pushed_all, buffer_asks, SameQuestion}
+use Rattle.line_buffer.specs.declared.BadDepth.{BadDepth}
+use Rattle.line_buffer.specs.declared.LineBuffer.{LineBuffer}
+use Rattle.line_buffer.specs.Buffer.{depth_after, depth_held, new_buffer, pushed_all, buffer_text, buffer_asks, SameQuestion}
 use Rattle.answer_text.specs.AnswerBytes.{text_of_bytes, written_bytes}
 use Rattle.program_line.specs.Answered.{settings, program_scoring, program_search, report_text, position_text, reading_text}
 use Rattle.program_line.specs.Answered.{asked_text, answer_line}
@@ -80,10 +81,9 @@ module _ (s : Set) (legal : ℕ) (r : Reported) where
       not_0 Weights z = omega arith
       not_0 Spent z = omega arith
 
-  pub report_answered : (o : AnswerText) (n : ℕ) (z : ℤ) → n ≡ legal → z ≡ r.score → r.number ≡ 0 →
-      o ≡ text_of_bytes (answer_text s n r.depth z r.count r.pv) → o ≡ text_of_bytes (report_text s legal r)
+  pub report_whole : r.number ≡ 0 → answer_text s legal r.depth r.score r.count r.pv ≡ report_text s legal r
   unfolding report_text when◌then◌else◌
-  report_answered o n z e f g h = h ∙ rw (e, f, eq-eqb r.number 0 g)
+  report_whole g = rw (eq-eqb r.number 0 g)
 
 -- ---- a position: 14, or the search
 set_again : (s : Set) → set_of (status_of s) ≡ s
@@ -130,6 +130,23 @@ module _ (text : List ℕ) where
           subst (λ (g : Game). T (neat g)) (sym e) (read_gives_a_game text (position_of g) (sym h.says)).is_neat,
           ap (λ (g : Game). g.hash) e,
         )
+
+-- ---- the line: 19 first
+module _ (line : LineBuffer) where
+  pub line_refused : (why : BadDepth) → Err why ≡ depth_held line → refusal_text 19 ≡ asked_text (buffer_asks line)
+  line_refused why e = go (depth_after line.after) e
+    where
+      go : (d : Option ℕ) → Err why ≡ ok_or d (record {}) → refusal_text 19 ≡ asked_text (asks_with (buffer_text line) d)
+      go None e = refl
+      go (Some n) e = cc
+
+  pub line_asks : (depth : ℕ) → Ok depth ≡ depth_held line → reading_text (read (buffer_text line)) depth ≡ asked_text (buffer_asks line)
+  line_asks depth e = go (depth_after line.after) e
+    where
+      go : (d : Option ℕ) → ◌≡◌ {A = Result ℕ BadDepth} (Ok depth) (ok_or d (record {})) →
+          reading_text (read (buffer_text line)) depth ≡ asked_text (asks_with (buffer_text line) d)
+      go None e = cc
+      go (Some n) e = ap (reading_text (read (buffer_text line))) cc
 
 same_text : (a b : Question) → SameQuestion a b → asked_text a ≡ asked_text b
 same_text no_depth no_depth h = refl

@@ -24,6 +24,7 @@ use status::Status;
 pub const ALLOWANCE: u64 = 1000000;
 
 // From fresh memory, with the table off.
+#[tactic(auto, using(crate::proofs::Answered::search_searched))]
 fn search(game: Game, depth: u8) -> Report
     requires { T (neat game) × (game.hash ≡ hash (position_of game)) }
     ensures { report_of result [] ≡ program_search depth (position_of game) }
@@ -44,18 +45,23 @@ fn reported(game: Game, status: Status, report: Report) -> AnswerText
 {
     match report.ending {
         Ending::Refused(why) => AnswerText::refused(why.number()),
-        Ending::Whole | Ending::Stopped => AnswerText::answer(
-            status,
-            game.legal_moves() as u64,
-            report.depth,
-            report.score,
-            report.count,
-            report.pv,
-        ),
+        Ending::Whole | Ending::Stopped => AnswerText::new()
+            .status(status)
+            .push(b' ')
+            .decimal(game.legal_moves() as u64)
+            .push(b' ')
+            .decimal(report.depth)
+            .push(b' ')
+            .signed(report.score)
+            .push(b' ')
+            .decimal(report.count)
+            .push(b' ')
+            .moves(report.pv),
     }
 }
 
 // What a position that was read is answered as.
+#[tactic(auto, using(crate::proofs::Answered::position_refused, crate::proofs::Answered::position_searched))]
 fn position(game: Game, depth: u8) -> AnswerText
     requires { T (neat game) × (game.hash ≡ hash (position_of game)) }
     ensures { result ≡ text_of_bytes (position_text (position_of game) depth) }
@@ -67,6 +73,7 @@ fn position(game: Game, depth: u8) -> AnswerText
 }
 
 // What the buffered text is answered as.
+#[tactic(auto, using(crate::proofs::Answered::text_game, crate::proofs::Answered::text_refused, crate::proofs::Answered::text_accepted))]
 fn text(line: &LineBuffer, depth: u8) -> AnswerText
     ensures { result ≡ text_of_bytes (reading_text (read (buffer_text line.now)) depth) }
 {
@@ -76,12 +83,13 @@ fn text(line: &LineBuffer, depth: u8) -> AnswerText
     }
 }
 
-// What a line is answered as.
+// What a line is answered as. Each refusal is answered where it is met: one error of all, for `?`, would need four `From` and a number.
+#[tactic(auto, using(crate::proofs::Answered::line_refused, crate::proofs::Answered::line_asks))]
 pub fn answer(line: &LineBuffer) -> AnswerText
     ensures { result ≡ text_of_bytes (asked_text (buffer_asks line.now)) }
 {
     match line.depth() {
-        None => AnswerText::refused(19),
-        Some(depth) => text(line, depth),
+        Err(bad_depth) => AnswerText::refused(bad_depth.number()),
+        Ok(depth) => text(line, depth),
     }
 }

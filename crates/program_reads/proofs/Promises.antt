@@ -17,14 +17,14 @@ use Rattle.line_buffer.specs.Taking.{buffered}
 use Rattle.line_buffer.proofs.Buffer.{pushed_held, line_held}
 use Rattle.line_buffer.proofs.Taking.{left_shorter}
 use Rattle.answer_text.specs.declared.AnswerText.{AnswerText}
-use Rattle.answer_text.specs.AnswerBytes.{no_text, added, text_of_bytes, written_bytes}
+use Rattle.answer_text.specs.AnswerBytes.{added, text_of_bytes, written_bytes}
 use Rattle.answer_text.proofs.AnswerBytes.{added_out, written_whole}
 use Rattle.program_line.specs.Answered.{asked_text, answer_line}
 use Rattle.program_line.proofs.Answered.{answer_fits, line_is_answered}
 use Rattle.program_reads.specs.declared.Program.{Program}
 use Rattle.program_reads.specs.Lines.{Split, split, with_byte, split_bytes, last_line, written_answer, answers, program_text}
 use Rattle.program_reads.specs.Lines.{by_reads, input_of}
-use Rattle.program_reads.specs.Promises.{buffer_answer, last_answer, new_program, after_line, next_answer, AnswersNext}
+use Rattle.program_reads.specs.Promises.{buffer_answer, last_answer, bytes_written, new_program, after_line, next_answer, AnswersNext}
 use Rattle.program_reads.specs.Promises.{fed, WritesRead, no_more, ends, WritesAll, ended, came}
 use Rattle.program_reads.proofs.Lines.{split_found, split_goes_on, split_held, up_to_held, reads_make_no_difference}
 
@@ -46,11 +46,11 @@ answer_written line h e =
     ∙ written_whole (written_answer line) (omega (arith, answer_fits line, length-append (answer_line line) (line_feed ∷ [])))
 
 pub last_written : (line : List ℕ) (h : LineBuffer) → h ≡ buffer_of line →
-    written_bytes (last_answer h) ≡ answers (last_line line)
-last_written [] h e = ap (λ (h : LineBuffer). written_bytes (last_answer h)) e
+    bytes_written (last_answer h) ≡ answers (last_line line)
+last_written [] h e = ap (λ (h : LineBuffer). bytes_written (last_answer h)) e
 last_written (b ∷ bs) h e = go (eqb (length h.kept) 0) refl
   where
-    go : (c : Bool) → eqb (length h.kept) 0 ≡ c → written_bytes (cond c no_text (buffer_answer h)) ≡ answers (last_line (b ∷ bs))
+    go : (c : Bool) → eqb (length h.kept) 0 ≡ c → bytes_written (cond c None (Some (buffer_answer h))) ≡ answers (last_line (b ∷ bs))
     go true z = absurd (omega (arith, eqb-true (length h.kept) 0 z, ap (λ (h : LineBuffer). length h.kept) e))
     go false z = answer_written (b ∷ bs) h e ∙ sym (append-nil (written_answer (b ∷ bs)))
 
@@ -184,7 +184,7 @@ read_is_answered p q bytes t (ends {p' = p'} {rest = rest} {t = t₁} {o = o} n 
 
 writes_by_reads : (p : Program) (rs : List (List ℕ)) (t : List ℕ) → WritesAll p rs t → (line : List ℕ) → Holds p line →
     t ≡ by_reads line rs
-writes_by_reads p rs t (ended e) line h = ap written_bytes e ∙ last_written line p.line h
+writes_by_reads p rs t (ended e) line h = ap bytes_written e ∙ last_written line p.line h
 writes_by_reads p rs t (came {r = r} {q = q} {t = t₁} {u = u} {rs = rest} w v) line h =
     let k = read_is_answered p q r t₁ w line h in
     ap₂ (λ (x y : List ℕ). x ++ y) k.0 (writes_by_reads q rest u v (split_bytes line r).rest k.1)
@@ -218,7 +218,7 @@ pub read_writes_something : (p : Program) (bytes : List ℕ) → (t : List ℕ) 
 read_writes_something p bytes = writes_below (suc (length bytes)) p bytes (omega arith)
 
 pub writes_something : (p : Program) (rs : List (List ℕ)) → (t : List ℕ) × WritesAll p rs t
-writes_something p [] = (written_bytes (last_answer p.line), ended refl)
+writes_something p [] = (bytes_written (last_answer p.line), ended refl)
 writes_something p (r ∷ rs) =
     let k = read_writes_something p r in
     let w = writes_something k.1 rs in

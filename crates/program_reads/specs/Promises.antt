@@ -7,7 +7,7 @@ use Rattle.line_buffer.specs.declared.LineBuffer.{LineBuffer}
 use Rattle.line_buffer.specs.Buffer.{new_buffer, pushed, buffer_asks}
 use Rattle.line_buffer.specs.Taking.{buffered}
 use Rattle.answer_text.specs.declared.AnswerText.{AnswerText}
-use Rattle.answer_text.specs.AnswerBytes.{no_text, added, text_of_bytes, written_bytes}
+use Rattle.answer_text.specs.AnswerBytes.{added, text_of_bytes, written_bytes}
 use Rattle.program_line.specs.Answered.{asked_text}
 use Rattle.program_reads.specs.declared.Program.{Program}
 use Rattle.program_reads.specs.Lines.{split}
@@ -17,8 +17,13 @@ abbrev pub buffer_answer : LineBuffer → AnswerText
 buffer_answer h = added (text_of_bytes (asked_text (buffer_asks h))) line_feed
 
 -- none, if there is nothing on the line
-abbrev pub last_answer : LineBuffer → AnswerText
-last_answer h = cond (eqb (length h.kept) 0) no_text (buffer_answer h)
+abbrev pub last_answer : LineBuffer → Option AnswerText
+last_answer h = cond (eqb (length h.kept) 0) None (Some (buffer_answer h))
+
+-- what is written of a text, nothing where there is none
+abbrev pub bytes_written : Option AnswerText → List ℕ
+bytes_written None = []
+bytes_written (Some o) = written_bytes o
 
 -- ---- the program
 abbrev pub new_program : Program
@@ -54,6 +59,6 @@ pub data WritesRead : Program → List ℕ → List ℕ → Program → Type 0 w
 
 -- of all reads, and of the last line
 pub data WritesAll : Program → List (List ℕ) → List ℕ → Type 0 where
-  ended : {p : Program} {o : AnswerText} → o ≡ last_answer p.line → WritesAll p [] (written_bytes o)
+  ended : {p : Program} {o : Option AnswerText} → o ≡ last_answer p.line → WritesAll p [] (bytes_written o)
   came : {r : List ℕ} {p q : Program} {t u : List ℕ} {rs : List (List ℕ)} → WritesRead p r t q → WritesAll q rs u →
       WritesAll p (r ∷ rs) (t ++ u)

@@ -52,12 +52,13 @@ impl Program {
     }
 
     // The answer to a last line without a line feed, if there is anything on it.
-    pub fn last(&self) -> AnswerText
+    pub fn last(&self) -> Option<AnswerText>
         ensures { result ≡ last_answer self.now.line }
     {
         if self.line.is_empty() {
-            return AnswerText::new();
+            None
+        } else {
+            Some(answered(&self.line))
         }
-        answered(&self.line)
     }
 }

@@ -1,21 +1,21 @@
 -- A run, read by read; and what its program holds where the input ended: the last line of all that came.
 use mathlib.Core.Path.{◌≡◌, refl, sym, ap, ◌∙◌, subst}
-use mathlib.Core.Bool.{Bool, true, false, cond, ◌&&◌, ◌||◌, true≢false, or-true}
+use mathlib.Core.Bool.{Bool, true, false, cond, ◌&&◌, true≢false}
 use mathlib.Core.List.{List, [], ◌∷◌, map}
 use Prim.Native.Nat.{ℕ, ◌-◌, ◌<◌, ◌≤◌}
 use native.Mathlib.Omega.{arith}
-use lib.Dec.{eqb, ltb}
+use lib.Dec.{ltb}
 use lib.ListN.{length, take}
-use borrow.Author.Tests.{ltb-true, ltb-false, eq-eqb}
-use Rattle.std.specs.Prelude.{Option, Some, None, IsSome}
+use borrow.Author.Tests.{ltb-true, ltb-false}
+use Rattle.std.specs.Prelude.{Option, Some, None, IsSome, option_map}
+use Rattle.std.proofs.lemmas.Option.{none-some}
 use Rattle.text.specs.Bytes.{quoted}
 use Rattle.line_buffer.specs.Buffer.{buffer_of}
-use Rattle.line_buffer.specs.Taking.{buffered}
 use Rattle.answer_text.specs.declared.AnswerText.{AnswerText}
-use Rattle.answer_text.specs.AnswerBytes.{no_text, text_of_bytes, written_bytes}
+use Rattle.answer_text.specs.AnswerBytes.{text_of_bytes}
 use Rattle.program_reads.specs.declared.Program.{Program}
 use Rattle.program_reads.specs.Lines.{Split, split, with_byte, split_bytes, last_line, answers, input_of}
-use Rattle.program_reads.specs.Promises.{fed}
+use Rattle.program_reads.specs.Promises.{bytes_written, fed}
 use Rattle.program_reads.proofs.Lines.{split_append}
 use Rattle.program_reads.proofs.Promises.{Holds, new_holds, last_written, fed_holds}
 use Rattle.ultimattt.specs.declared.ProgramRun.{ProgramRun}
@@ -25,10 +25,6 @@ use Rattle.ultimattt.specs.Runs.{ReadStep, read_bytes, new_run, after_feeding, a
 use Rattle.ultimattt.specs.Runs.{is_reading, goes_on, RunsTo, stops, reads, SomeRun, last_of_run, told_of_run, Concluded}
 
 -- ---- one read
-pub not_fed : (p : Program) (bytes : List ℕ) → (buffered p.line bytes).found ≡ true →
-    AfterFeeding p bytes (record { program = p; progress = WriteFailed })
-not_fed p bytes f = (false, refl, λ e. absurd (true≢false (sym f ∙ e)))
-
 pub all_fed : (p q : Program) (bytes : List ℕ) → q ≡ fed p bytes → AfterFeeding p bytes (record { program = q; progress = Reading })
 all_fed p q bytes e = (true, rw e, λ _. refl)
 
@@ -122,10 +118,7 @@ returned_for p a = go a.got refl (read_bytes a) refl a.written refl
     go (Some n) e (b ∷ bs) f true g = (rw e, cons b bs f, g)
     go (Some n) e (b ∷ bs) f false g = (rw e, cons b bs f, g)
 
--- the bytes of a read are as many as it returned, the first of the buffer; a failed one gave none
-pub bytes_returned : (a : ReadStep) (n : ℕ) → a.got ≡ Some n → read_bytes a ≡ take n a.buffer
-bytes_returned a n e = rw e
-
+-- a failed read gave none
 pub none_returned : (a : ReadStep) → a.got ≡ None → read_bytes a ≡ []
 none_returned a e = rw e
 
@@ -185,10 +178,10 @@ module _ (s : ProgramRun) (good : s.progress ≡ WriteFailed → ⊥) where
 
 -- where the input ended, the last text is the answer to the last line of all that came
 pub last_line_answered : (s : ProgramRun) (steps : List ReadStep) → RunsTo new_run steps s → s.progress ≡ InputEnded →
-    written_bytes (last_of_run s.progress s.program)
+    bytes_written (last_of_run s.progress s.program)
     ≡ answers (last_line (split_bytes [] (input_of (map read_bytes steps))).rest)
 last_line_answered s steps w e =
-    ap (λ (x : Progress). written_bytes (last_of_run x s.program)) e
+    ap (λ (x : Progress). bytes_written (last_of_run x s.program)) e
     ∙ last_written (split_bytes [] (input_of (map read_bytes steps))).rest s.program.line
     (run_holds s (λ f. let z : InputEnded ≡ WriteFailed = sym e ∙ f in different z) new_run steps [] new_holds w)
   where
@@ -196,7 +189,7 @@ last_line_answered s steps w e =
     different z = true≢false (cc z)
 
 -- no text but where the input ended
-pub no_last_text : (x : Progress) (p : Program) → (x ≡ InputEnded → ⊥) → last_of_run x p ≡ no_text
+pub no_last_text : (x : Progress) (p : Program) → (x ≡ InputEnded → ⊥) → last_of_run x p ≡ None
 no_last_text InputEnded p n = absurd (n refl)
 no_last_text Reading p n = refl
 no_last_text ReadFailed p n = refl
@@ -209,21 +202,20 @@ unfolding after_read
 empty_run = reads refl (λ _. refl) (stops refl)
 
 -- nothing is told only where the input ended and the last text was written
-pub told_nothing : (x : Progress) (w : Bool) → told_of_run x w ≡ [] → (x ≡ InputEnded) × (w ≡ true)
-unfolding quoted
+pub told_nothing : (x : Progress) (w : Bool) → told_of_run x w ≡ None → (x ≡ InputEnded) × (w ≡ true)
 told_nothing InputEnded true e = (refl, refl)
-told_nothing InputEnded false e = absurd (omega (arith, ap (λ (l : List ℕ). length l) e))
-told_nothing Reading w e = absurd (omega (arith, ap (λ (l : List ℕ). length l) e))
-told_nothing ReadFailed w e = absurd (omega (arith, ap (λ (l : List ℕ). length l) e))
-told_nothing WriteFailed w e = absurd (omega (arith, ap (λ (l : List ℕ). length l) e))
+told_nothing InputEnded false e = absurd (none-some _ (sym e))
+told_nothing Reading w e = absurd (none-some _ (sym e))
+told_nothing ReadFailed w e = absurd (none-some _ (sym e))
+told_nothing WriteFailed w e = absurd (none-some _ (sym e))
 
 -- what is told begins with what failed
 module _ (w : Bool) where
-  pub told_of_reading : take 25 (told_of_run ReadFailed w) ≡ quoted "ultimattt: reading failed"
+  pub told_of_reading : option_map (take 25) (told_of_run ReadFailed w) ≡ Some (quoted "ultimattt: reading failed")
   unfolding quoted
   told_of_reading = refl
 
-  pub told_of_writing : take 25 (told_of_run WriteFailed w) ≡ quoted "ultimattt: writing failed"
+  pub told_of_writing : option_map (take 25) (told_of_run WriteFailed w) ≡ Some (quoted "ultimattt: writing failed")
   unfolding quoted
   told_of_writing = refl
 
@@ -245,7 +237,6 @@ pub reads_used_up : (s : ProgramRun) (steps : List ReadStep) → RunsTo new_run 
 reads_used_up s steps w q = sym (reads_counted new_run s steps w q)
 
 -- ---- what is written and told at the end
-pub concluded : (r : ProgramRun) (x y : AnswerText) (n : ℕ) (w : Bool) → x ≡ last_of_run r.progress r.program →
-    n ≡ length (written_bytes x) → y ≡ text_of_bytes (told_of_run r.progress (w || eqb n 0)) →
-    Concluded r (record { text = x; told = y })
-concluded r x y n w e k f = (w || eqb n 0, λ i. record { text = e i; told = f i }, λ z. rw (eq-eqb n 0 (k ∙ z)) (or-true w))
+pub concluded : (r : ProgramRun) (x y : Option AnswerText) (w : Bool) → x ≡ last_of_run r.progress r.program → (x ≡ None → w ≡ true) →
+    y ≡ option_map text_of_bytes (told_of_run r.progress w) → Concluded r (record { text = x; told = y })
+concluded r x y w e k f = (w, λ i. record { text = e i; told = f i }, k)

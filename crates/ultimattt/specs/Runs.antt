@@ -1,8 +1,8 @@
 -- A run of the program: what it comes to, whatever `read` and the writes return.
-use Rattle.std.specs.Prelude.{◌≡◌, Option, Some, None, unwrap_or, Bool, true, false, ◌&&◌, List, [], ◌∷◌, ℕ, ltb, length, take}
+use Rattle.std.specs.Prelude.{◌≡◌, Option, Some, None, unwrap_or, option_map, Bool, true, false, ◌&&◌, List, [], ◌∷◌, ℕ, ltb, take}
 use Rattle.text.specs.Bytes.{message}
 use Rattle.answer_text.specs.declared.AnswerText.{AnswerText}
-use Rattle.answer_text.specs.AnswerBytes.{no_text, text_of_bytes, written_bytes}
+use Rattle.answer_text.specs.AnswerBytes.{text_of_bytes}
 use Rattle.line_buffer.specs.Taking.{buffered}
 use Rattle.program_reads.specs.declared.Program.{Program}
 use Rattle.program_reads.specs.Promises.{new_program, last_answer, fed}
@@ -79,27 +79,27 @@ abbrev pub SomeRun : ProgramRun → ProgramRun → Type 0
 SomeRun begun r = (steps : List ReadStep) × RunsTo begun steps r
 
 -- ---- its end
--- what is written then
-abbrev pub last_of_run : Progress → Program → AnswerText
+-- what is written then, if anything
+abbrev pub last_of_run : Progress → Program → Option AnswerText
 last_of_run InputEnded p = last_answer p.line
-last_of_run Reading p = no_text
-last_of_run ReadFailed p = no_text
-last_of_run WriteFailed p = no_text
+last_of_run Reading p = None
+last_of_run ReadFailed p = None
+last_of_run WriteFailed p = None
 
 -- what is told on standard error, by whether the last text was written; a run that still reads has used its reads up
-abbrev pub told_of_run : Progress → Bool → List ℕ
-told_of_run InputEnded true = []
-told_of_run InputEnded false = message "ultimattt: writing failed, the last answer is missing"
-told_of_run Reading written = message "ultimattt: too many reads, the rest of the input is not answered"
-told_of_run ReadFailed written = message "ultimattt: reading failed, what came of the last line is not answered"
-told_of_run WriteFailed written = message "ultimattt: writing failed, answers are missing"
+abbrev pub told_of_run : Progress → Bool → Option (List ℕ)
+told_of_run InputEnded true = None
+told_of_run InputEnded false = Some (message "ultimattt: writing failed, the last answer is missing")
+told_of_run Reading written = Some (message "ultimattt: too many reads, the rest of the input is not answered")
+told_of_run ReadFailed written = Some (message "ultimattt: reading failed, what came of the last line is not answered")
+told_of_run WriteFailed written = Some (message "ultimattt: writing failed, answers are missing")
 
 abbrev pub run_end : ProgramRun → Bool → RunEnd
 run_end r written = record {
   text = last_of_run r.progress r.program;
-  told = text_of_bytes (told_of_run r.progress written);
+  told = option_map text_of_bytes (told_of_run r.progress written);
 }
 
 -- for some return of the write, if there is anything to write
 abbrev pub Concluded : ProgramRun → RunEnd → Type 0
-Concluded r e = (written : Bool) × (e ≡ run_end r written) × (length (written_bytes e.text) ≡ 0 → written ≡ true)
+Concluded r e = (written : Bool) × (e ≡ run_end r written) × (e.text ≡ None → written ≡ true)

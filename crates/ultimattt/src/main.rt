@@ -1,7 +1,7 @@
 // For each line `position depth` of standard input a line with its answer. There may be any number of lines, of any length.
 #![tactic(auto)]
 
-ghost use Rattle.std.specs.Prelude.{◌≡◌};
+ghost use Rattle.std.specs.Prelude.{◌≡◌, None, true, option_map};
 ghost use Rattle.std.specs.Result.{result_ok};
 ghost use Rattle.std.specs.Io.{ReadsAtMost};
 ghost use Rattle.answer_text.specs.AnswerBytes.{text_of_bytes};
@@ -16,7 +16,7 @@ const STDOUT_FILENO: i32 = 1;
 
 const STDERR_FILENO: i32 = 2;
 
-// How a run stands after its reads.
+// How a run stands after its reads. Two of the four are no failure, so a `Result` would hold a second enum.
 #[derive(Clone, Copy)]
 enum Progress {
     Reading,
@@ -32,11 +32,21 @@ struct ProgramRun {
     progress: Progress,
 }
 
-// What is to be written at the end of a run, and what is to be told on standard error.
+// What is to be written at the end of a run, and what is to be told on standard error, if anything.
 #[derive(Clone, Copy)]
 struct RunEnd {
-    text: AnswerText,
-    told: AnswerText,
+    text: Option<AnswerText>,
+    told: Option<AnswerText>,
+}
+
+// Writes a text, if there is one, and answers whether all of it could be written.
+fn written(fd: i32, text: &Option<AnswerText>) -> bool
+    ensures { text.now ≡ None → result ≡ true }
+{
+    match text {
+        Some(text) => io::write_all(fd, text.as_slice()),
+        None => true,
+    }
 }
 
 // Writes the answers to the lines that end in a read's bytes. Where one can't be written the program is as it was before the read.
@@ -85,54 +95,54 @@ impl ProgramRun {
         requires { ReadsAtMost read buffer.now }
         ensures { AfterRead self.program (result_ok read) buffer.now result }
     {
-        let program = self.program;
         match read {
             Err(_) => ProgramRun {
-                program,
                 progress: Progress::ReadFailed,
+                ..self
             },
             Ok(0) => ProgramRun {
-                program,
                 progress: Progress::InputEnded,
+                ..self
             },
-            Ok(n) => feed(program, &buffer[..n]),
+            Ok(n) => feed(self.program, &buffer[..n]),
         }
     }
 
     // The answer to the last line, if the input ended.
-    fn last(&self) -> AnswerText
+    fn last(&self) -> Option<AnswerText>
         ensures { result ≡ last_of_run self.now.progress self.now.program }
     {
         match self.progress {
             Progress::InputEnded => self.program.last(),
-            Progress::Reading | Progress::ReadFailed | Progress::WriteFailed => AnswerText::new(),
+            Progress::Reading | Progress::ReadFailed | Progress::WriteFailed => None,
         }
     }
 }
 
 impl Progress {
-    // What is told on standard error. `written`: the last answer could be written.
-    fn told(self, written: bool) -> AnswerText
-        ensures { result ≡ text_of_bytes (told_of_run self written) }
+    // What is told on standard error, if anything. `written`: the last answer could be written.
+    fn told(self, written: bool) -> Option<AnswerText>
+        ensures { result ≡ option_map text_of_bytes (told_of_run self written) }
     {
         let said = AnswerText::new();
-        match self {
-            Progress::InputEnded => {
-                if written {
-                    said
-                } else {
-                    said.text(b"ultimattt: writing failed, the last answer is missing\n")
-                }
+        match (self, written) {
+            (Progress::InputEnded, true) => None,
+            (Progress::InputEnded, false) => {
+                Some(said.text(b"ultimattt: writing failed, the last answer is missing\n"))
             }
-            Progress::Reading => {
-                said.text(b"ultimattt: too many reads, the rest of the input is not answered\n")
+            (Progress::Reading, _) => {
+                Some(said.text(
+                    b"ultimattt: too many reads, the rest of the input is not answered\n",
+                ))
             }
-            Progress::ReadFailed => {
-                said.text(
+            (Progress::ReadFailed, _) => {
+                Some(said.text(
                     b"ultimattt: reading failed, what came of the last line is not answered\n",
-                )
+                ))
             }
-            Progress::WriteFailed => said.text(b"ultimattt: writing failed, answers are missing\n"),
+            (Progress::WriteFailed, _) => {
+                Some(said.text(b"ultimattt: writing failed, answers are missing\n"))
+            }
         }
     }
 }
@@ -157,15 +167,14 @@ fn answer_input(stdin: Stdin) -> ProgramRun
     answer_from(ProgramRun::new(), stdin)
 }
 
-// Writes the last answer. There is no exit status: what failed is told on standard error.
+// Writes the last answer, if there is one. There is no exit status: what failed is told on standard error.
+#[tactic(auto, using(crate::proofs::Runs::concluded))]
 fn conclude(run: ProgramRun) -> RunEnd
     ensures { Concluded run result }
 {
     let text = run.last();
-    let n = text.as_slice().len();
-    let written = io::write_all(STDOUT_FILENO, text.as_slice());
-    let told = run.progress.told(written | (n == 0));
-    io::write_all(STDERR_FILENO, told.as_slice());
+    let told = run.progress.told(written(STDOUT_FILENO, &text));
+    written(STDERR_FILENO, &told);
     RunEnd { text, told }
 }
 

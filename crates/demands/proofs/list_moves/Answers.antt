@@ -3,12 +3,9 @@ use Rattle.std.proofs.lemmas.List.{set-get_or}
 use mathlib.Core.Path.{◌∙◌}
 use native.Mathlib.Omega.{arith}
 use Rattle.boards.specs.Cursor.{moves_left}
-use Rattle.demands.proofs.Demand2Listing.{listing_begins, listing_next, listing_ended, listing_done}
+use Rattle.demands.proofs.Demand2Listing.{listing_next, listing_ended, listing_done}
 use Rattle.demands.proofs.list_moves.Goals.{in-Some, in_default}
 use Rattle.demands.proofs.list_moves.Goals as goal
-
-pub loop-place-init : goal.loop-place-init
-loop-place-init c = listing_begins c.args.cursor
 
 pub loop-place-preserved : goal.loop-place-preserved
 loop-place-preserved c =

@@ -1,6 +1,5 @@
 -- Each refusal in turn, or what the search and the analysis give.
 use mathlib.Core.Path.{sym, ap, ◌∙◌}
-use denote.Floats.{passes}
 use Rattle.game.specs.declared.Game.{Game}
 use Rattle.game.specs.After.{games_after}
 use Rattle.interface.proofs.Calls.{analyzes_none, analyzes_few_settings, analyzes_no_draws, analyzes_few_answers}
@@ -37,14 +36,6 @@ returns-then-report-lt655 c =
     analyzes_no_report s.position.now s.moves.now s.settings.now s.responses.now s.words.now s.report.now
     (sym c.is_position.ensures ∙ c.if-not-is_position.false) c.if-settings-lt6.false c.if-settings-gt2.false c.if-responses-lt512.false
     c.if-report-lt655.true
-
-pub game_from-requires : goal.game_from-requires
-game_from-requires c =
-    passes _ (sym c.is_position.ensures ∙ c.if-not-is_position.false)
-
-pub put-requires : goal.put-requires
-put-requires c =
-    c.if-report-lt655.false
 
 pub returns : goal.returns
 returns c =

@@ -3,7 +3,6 @@ use mathlib.Core.Path.{sym, ap, ◌∙◌}
 use mathlib.Core.List.{[], ◌∷◌}
 use Prim.Native.Nat.{ℕ}
 use lib.Seq.{sets}
-use denote.Floats.{passes}
 use mir.Facts.{to_z-of_z}
 use mir.Syntax.{w64}
 use native.Mathlib.Omega.{arith}
@@ -35,10 +34,6 @@ returns-then-score-lt1 c =
     let s = c.args in
     evaluates_no_score s.position.now s.draw_winner s.weights.now s.score.now
     (sym c.is_position.ensures ∙ c.if-not-is_position.false) c.if-draw_winner-gt2.false c.if-weights-lt3.false c.if-score-lt1.true
-
-pub game_from-requires : goal.game_from-requires
-game_from-requires c =
-    passes _ (sym c.is_position.ensures ∙ c.if-not-is_position.false)
 
 pub returns : goal.returns
 returns c =

@@ -17,9 +17,6 @@ returns-then-answers-moves c =
     plays_short s.position.now s.moves.now s.answers.now (sym c.is_position.ensures
     ∙ c.if-not-is_position.false) c.if-answers-moves.true
 
-pub game_from-requires : goal.game_from-requires
-game_from-requires c = passes _ (sym c.is_position.ensures ∙ c.if-not-is_position.false)
-
 pub put-requires : goal.put-requires
 put-requires c =
     within_long most c.args.position.now

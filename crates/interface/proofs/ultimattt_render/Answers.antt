@@ -1,6 +1,5 @@
 -- The text of the words' game.
 use mathlib.Core.Path.{sym, ◌∙◌}
-use denote.Floats.{passes}
 use Rattle.interface.proofs.Calls.{renders_none, renders_short, renders_well}
 use Rattle.interface.proofs.ultimattt_render.Goals as goal
 
@@ -14,9 +13,6 @@ returns-then-out-lt101 c =
     renders_short c.args.position.now
     c.args.out.now (sym c.is_position.ensures
     ∙ c.if-not-is_position.false) c.if-out-lt101.true
-
-pub game_from-requires : goal.game_from-requires
-game_from-requires c = passes _ (sym c.is_position.ensures ∙ c.if-not-is_position.false)
 
 pub returns : goal.returns
 returns c =

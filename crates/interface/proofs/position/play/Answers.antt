@@ -1,20 +1,12 @@
 -- The moves left, tried from where the loop stands, lead where the whole list leads, and their answers complete the list's.
 use mathlib.Core.Path.{refl, sym, ap, ◌∙◌}
 use Prim.Native.Nat.{◌+◌}
-use native.Mathlib.Omega.{arith}
 use lib.ListN.{drop, length-set}
 use Rattle.game.specs.declared.Game.{Game}
 use Rattle.game.specs.After.{games_after}
-use Rattle.boards.proofs.Answers.{answer_most}
-use Rattle.game.proofs.AfterList.{games_more, games_all}
-use Rattle.interface.proofs.CallsPlay.{answers_next, answers_end, goes_on}
+use Rattle.game.proofs.AfterList.{left_as_tried, games_more, games_all}
+use Rattle.interface.proofs.CallsPlay.{answers_next, answers_end}
 use Rattle.interface.proofs.position.play.Goals as goal
-
-pub loop-i-init : goal.loop-i-init
-loop-i-init c = (refl, refl, refl, refl)
-
-pub overflow_cast-answers : goal.overflow_cast-answers
-overflow_cast-answers c = record { fits = omega (arith, c.number.ensures, answer_most c.make_move-made.result) }
 
 pub loop-i-preserved : goal.loop-i-preserved
 loop-i-preserved c =
@@ -24,7 +16,7 @@ loop-i-preserved c =
     let h = c.loop-i-test.true in
     let more = games_more l.game ms l.i 0 h in
     let said = c.number.ensures ∙ made.ensures.number in
-    let left = c.unwrap_or-game.ensures ∙ goes_on l.game made.result ∙ made.ensures.exact in (
+    let left = c.unwrap_or-game.ensures ∙ left_as_tried l.game _ made.result made.ensures in (
       refl,
       simp length-set l.invariant.1,
       ap (λ (g : Game). games_after g (drop (l.i + 1) ms)) left ∙ more ∙ l.invariant.2,

@@ -1,25 +1,19 @@
 -- By how the run stands.
-use mathlib.Core.Path.{refl}
-use mathlib.Core.List.{[]}
 use Rattle.text.specs.Bytes.{quoted}
-use Rattle.answer_text.proofs.AnswerBytes.{written_from}
 use Rattle.ultimattt.proofs.Progress.told.Goals as goal
 
-pub returns-then-written : goal.returns-then-written
-returns-then-written c = rw (c.in-InputEnded.is, c.if-written.true) (written_from _ _ [] c.new-said.ensures refl)
-
-pub returns-else-written : goal.returns-else-written
+pub returns-in-InputEnded-false : goal.returns-in-InputEnded-false
 unfolding quoted
-returns-else-written c = rw (c.in-InputEnded.is, c.if-written.false, c.text.ensures, c.new-said.ensures)
+returns-in-InputEnded-false c = let x = c.in-InputEnded-false in rw (x.is-0, x.is-1, c.text.ensures, c.new-said.ensures)
 
-pub returns-in-Reading : goal.returns-in-Reading
+pub returns-in-Reading-default : goal.returns-in-Reading-default
 unfolding quoted
-returns-in-Reading c = rw (c.in-Reading.is, c.text-in-Reading.ensures, c.new-said.ensures)
+returns-in-Reading-default c = rw (c.in-Reading-default.is-0, c.text-in-Reading-default.ensures, c.new-said.ensures)
 
-pub returns-in-ReadFailed : goal.returns-in-ReadFailed
+pub returns-in-ReadFailed-default : goal.returns-in-ReadFailed-default
 unfolding quoted
-returns-in-ReadFailed c = rw (c.in-ReadFailed.is, c.text-in-ReadFailed.ensures, c.new-said.ensures)
+returns-in-ReadFailed-default c = rw (c.in-ReadFailed-default.is-0, c.text-in-ReadFailed-default.ensures, c.new-said.ensures)
 
-pub returns-in-WriteFailed : goal.returns-in-WriteFailed
+pub returns-in-WriteFailed-default : goal.returns-in-WriteFailed-default
 unfolding quoted
-returns-in-WriteFailed c = rw (c.in-WriteFailed.is, c.text-in-WriteFailed.ensures, c.new-said.ensures)
+returns-in-WriteFailed-default c = rw (c.in-WriteFailed-default.is-0, c.text-in-WriteFailed-default.ensures, c.new-said.ensures)
