@@ -70,6 +70,7 @@ impl Scan {
 }
 
 // How many numbers a text holds, which are written from the first word on.
+// How many, and not the slice of them: what all words hold after it is promised too, also where the text can't be read.
 pub fn numbers(text: &[u8], words: &mut [u64]) -> Option<usize>
     ensures { ListRead text.now words.old result words.new }
 {

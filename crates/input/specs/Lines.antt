@@ -1,8 +1,7 @@
 -- A line of bytes, as far as it came; and what is promised of taking and of reading the next one.
-use Rattle.std.specs.Prelude.{◌≡◌, Bool, true, false, List, [], ◌++◌, ◌⊎◌, ℕ, ◌+◌, ◌≤◌, leb, ltb, min, length, set, take, drop}
-use Rattle.std.specs.Prelude.{Option, Some, unwrap_or, Result, Ok, Err}
+use Rattle.std.specs.Prelude.{◌≡◌, Bool, true, false, cond, ◌||◌, List, [], ◌++◌, ◌⊎◌, ℕ, ◌+◌, ◌≤◌, leb, ltb, min, length, set, take}
+use Rattle.std.specs.Prelude.{◌<◌, drop, Option, unwrap_or, Result, Ok, Err}
 use Rattle.std.specs.Bool.{then_some}
-use Rattle.base.specs.Branch.{when◌then◌else◌}
 use Rattle.base.specs.LineFeed.{UpToFeed, up_to_feed}
 use Rattle.input.specs.declared.InputLine.{InputLine}
 use Rattle.input.specs.declared.Input.{Input}
@@ -12,7 +11,7 @@ abbrev pub longest : ℕ
 longest = 0xffffffffffffffff
 
 abbrev pub new_line : InputLine
-new_line = record { length = 0 }
+new_line = record { length = 0; ended = false }
 
 -- one more, but for the largest number
 abbrev pub count_on : ℕ → ℕ
@@ -20,23 +19,27 @@ count_on n = min (n + 1) longest
 
 -- a line with one byte more
 abbrev pub one_longer : InputLine → InputLine
-one_longer l = record { length = count_on l.length }
+one_longer l = record { length = count_on l.length; ended = l.ended }
 
 -- the line, or nothing if it is longer than what is kept
-unfoldable pub complete_line : InputLine → List ℕ → List ℕ
-complete_line l kept = when leb l.length (length kept) then (λ _. take l.length kept) else λ _. []
+abbrev pub complete_line : InputLine → List ℕ → List ℕ
+complete_line l kept = cond (leb l.length (length kept)) (take l.length kept) []
 
--- a line with what is kept of it
+-- how long a line is, and what is kept of it
 pub record KeptLine : Type 0 where
-  pub counted : InputLine
+  pub length : ℕ
   pub kept : List ℕ
 
 abbrev pub kept_with : KeptLine → ℕ → KeptLine
-kept_with k b = record { counted = one_longer k.counted; kept = set k.kept k.counted.length b }
+kept_with k b = record { length = count_on k.length; kept = set k.kept k.length b }
 
--- what bytes make of a line and of what is kept of it, up to a line feed
-abbrev pub line_taken : InputLine → List ℕ → List ℕ → UpToFeed KeptLine
-line_taken l kept bs = up_to_feed kept_with (record { counted = l; kept = kept }) bs
+-- what bytes make of a line of n bytes and of what is kept of it, up to a line feed
+abbrev pub line_taken : ℕ → List ℕ → List ℕ → UpToFeed KeptLine
+line_taken n kept bs = up_to_feed kept_with (record { length = n; kept = kept }) bs
+
+-- the line so made
+abbrev pub line_of : UpToFeed KeptLine → InputLine
+line_of t = record { length = t.line.length; ended = t.found }
 
 -- the bytes that are not yet used
 abbrev pub unused : Input → List ℕ → List ℕ
@@ -51,15 +54,13 @@ abbrev pub filled : Option ℕ → Input
 filled got = record { at = 0; end = unwrap_or got 0 }
 
 -- ---- a line
--- the input and the line after bytes were taken from an unchanged buffer, and whether the line's end was met
-pub record TakesLine (i : Input) (l : InputLine) (buffer kept : List ℕ) (found : Bool) (j : Input) (m : InputLine) (after : List ℕ) :
-    Type 0 where
+-- the input and the line after bytes were taken from an unchanged buffer
+pub record TakesLine (i : Input) (l : InputLine) (buffer kept : List ℕ) (m : InputLine) (j : Input) (after : List ℕ) : Type 0 where
   pub end_is : j.end ≡ i.end
-  pub line_is : m ≡ (line_taken l kept (unused i buffer)).line.counted
-  pub found_is : found ≡ (line_taken l kept (unused i buffer)).found
-  pub kept_is : after ≡ (line_taken l kept (unused i buffer)).line.kept
-  pub left_is : unused j buffer ≡ (line_taken l kept (unused i buffer)).left
-  pub at_is : j.at + length (line_taken l kept (unused i buffer)).left ≡ i.at + length (unused i buffer)
+  pub line_is : m ≡ line_of (line_taken l.length kept (unused i buffer))
+  pub kept_is : after ≡ (line_taken l.length kept (unused i buffer)).line.kept
+  pub left_is : unused j buffer ≡ (line_taken l.length kept (unused i buffer)).left
+  pub at_is : j.at + length (line_taken l.length kept (unused i buffer)).left ≡ i.at + length (unused i buffer)
 
 -- nothing was read, and the same bytes are passed or left; or what came ends with all bytes of the last read, which stand first in the
 -- buffer, and none beyond it
@@ -73,18 +74,18 @@ LastRead i buffer came j after =
 abbrev pub NoFeedCame : Input → InputLine → Type 0
 NoFeedCame j l = (j.end ≡ 0) ⊎ (l.length ≡ longest)
 
--- the last line of an input, which no line feed ends: none if nothing is on it
+-- the line where no more comes: none if neither a byte nor a line feed came
 abbrev pub line_at_end : InputLine → Option InputLine
-line_at_end l = then_some (ltb 0 l.length) l
+line_at_end l = then_some (l.ended || ltb 0 l.length) l
 
-abbrev pub read_failed : ReadFailed
-read_failed = record {}
+-- a read failed, and what came of the line before it
+abbrev pub failed_at : InputLine → ReadFailed
+failed_at l = record { line = l }
 
--- the line that came, if one came and no read failed
-abbrev pub line_read : Bool → Bool → InputLine → Result (Option InputLine) ReadFailed
-line_read true found l = Err read_failed
-line_read false true l = Ok (Some l)
-line_read false false l = Ok (line_at_end l)
+-- by whether a read failed, and what came of the line
+abbrev pub line_read : Bool → InputLine → Result (Option InputLine) ReadFailed
+line_read true l = Err (failed_at l)
+line_read false l = Ok (line_at_end l)
 
 -- the next line: the bytes that were not yet used, and then those that were read
 pub record ReadsLine (i : Input) (buffer kept : List ℕ) (r : Result (Option InputLine) ReadFailed) (j : Input)
@@ -92,11 +93,12 @@ pub record ReadsLine (i : Input) (buffer kept : List ℕ) (r : Result (Option In
   pub came : List ℕ
   pub failed : Bool
   pub last_read : LastRead i buffer came j buffer_after
-  pub line_is : r ≡ line_read failed (line_taken new_line kept (unused i buffer ++ came)).found
-      (line_taken new_line kept (unused i buffer ++ came)).line.counted
-  pub kept_is : after ≡ (line_taken new_line kept (unused i buffer ++ came)).line.kept
-  pub left_is : unused j buffer_after ≡ (line_taken new_line kept (unused i buffer ++ came)).left
-  pub ends : (line_taken new_line kept (unused i buffer ++ came)).found ≡ false →
-      NoFeedCame j (line_taken new_line kept (unused i buffer ++ came)).line.counted
-  -- a failed read is the last one, and no line is found with it
-  pub failed_ends : failed ≡ true → ((line_taken new_line kept (unused i buffer ++ came)).found ≡ false) × (j.end ≡ 0)
+  pub line_is : r ≡ line_read failed (line_of (line_taken 0 kept (unused i buffer ++ came)))
+  pub kept_is : after ≡ (line_taken 0 kept (unused i buffer ++ came)).line.kept
+  pub left_is : unused j buffer_after ≡ (line_taken 0 kept (unused i buffer ++ came)).left
+  pub ends : (line_taken 0 kept (unused i buffer ++ came)).found ≡ false →
+      NoFeedCame j (line_of (line_taken 0 kept (unused i buffer ++ came)))
+  -- a line feed is one of the bytes of the buffer that are used now: nothing was read after it
+  pub feed_last : (line_taken 0 kept (unused i buffer ++ came)).found ≡ true → 0 < j.at
+  -- a failed read is the last one, and no line feed came with it
+  pub failed_ends : failed ≡ true → ((line_taken 0 kept (unused i buffer ++ came)).found ≡ false) × (j.end ≡ 0)

@@ -10,7 +10,8 @@ use lib.ListN.{length, get_or, take}
 use lib.Seq.{take-suc}
 use mir.Val.{bool_byte}
 use borrow.Author.Tests.{eq-eqb, ne_eqb, eqb-true}
-use Rattle.std.specs.Prelude.{Option, Some, None}
+use Rattle.std.specs.Prelude.{Option, Some, None, option_map}
+use Rattle.std.specs.Bool.{then_some}
 use Rattle.base.specs.Branch.{when◌then◌else◌}
 use Rattle.replay.specs.Agreement.{same_numbers, compared, compared_all, wholly_agrees}
 
@@ -20,14 +21,14 @@ truth_number true = refl
 truth_number false = refl
 
 -- ---- one
-module _ (x : ℕ) (xs : List ℕ) (n : ℕ) where
-  pub number_is : x ≡ n → Some xs ≡ compared (Some (x ∷ xs)) n
-  unfolding compared when◌then◌else◌
-  number_is e = rw (eq-eqb x n e)
-
-  pub number_is_not : (x ≡ n → ⊥) → None ≡ compared (Some (x ∷ xs)) n
-  unfolding compared when◌then◌else◌
-  number_is_not e = rw (ne_eqb x n e)
+pub number_tested : {R : Type 0} (now : R → List ℕ) (left : R) (x n : ℕ) →
+    option_map now (then_some (eqb x n) left) ≡ compared (Some (x ∷ now left)) n
+unfolding compared when◌then◌else◌
+number_tested now left x n = go (eqb x n)
+  where
+    go : (b : Bool) → option_map now (then_some b left) ≡ (when b then (λ _. Some (now left)) else λ _. None)
+    go true = refl
+    go false = refl
 
 pub number_lacks : (numbers : List ℕ) (n : ℕ) → length numbers ≡ 0 → None ≡ compared (Some numbers) n
 unfolding compared

@@ -1,6 +1,5 @@
 -- What is printed: a text that goes on part by part.
-use mathlib.Core.Path.{◌≡◌, ap, ◌∙◌}
-use mathlib.Core.Bool.{Bool, true, false, cond, not, ◌||◌}
+use mathlib.Core.Path.{◌≡◌}
 use mathlib.Core.List.{List, [], ◌∷◌, ◌++◌}
 use Prim.Native.Nat.{ℕ}
 use borrow.Author.Tests.{eq-eqb, ne_eqb}
@@ -10,7 +9,7 @@ use Rattle.text.specs.ProgramLine.{decimal}
 use Rattle.answer_text.specs.declared.AnswerText.{AnswerText}
 use Rattle.answer_text.specs.AnswerBytes.{text_of_bytes}
 use Rattle.replay.specs.declared.totals.Totals.{Totals}
-use Rattle.replay.specs.Totals.{agreed_text, verdict_text, last_text}
+use Rattle.replay.specs.Totals.{agreed_text, verdict_text}
 
 module _ (t : Totals) (said : List ℕ) (o : AnswerText) where
   pub verdict_without : t.apart ≡ 0 → o ≡ text_of_bytes (agreed_text t ++ (10 ∷ [])) → o ≡ text_of_bytes (verdict_text t said)
@@ -22,10 +21,3 @@ module _ (t : Totals) (said : List ℕ) (o : AnswerText) where
       o ≡ text_of_bytes (verdict_text t said)
   unfolding verdict_text when◌then◌else◌
   verdict_with e f = rw (ne_eqb t.apart 0 e) f
-
--- where all was read and printed, the last text is the verdict
-pub verdict_last : (t : Totals) (said : List ℕ) (failed : Bool) → failed ≡ false → t.written ≡ true →
-    last_text t said failed ≡ verdict_text t said
-verdict_last t said failed e w =
-    ap (λ (f : Bool). cond (f || not t.written) [] (verdict_text t said)) e
-    ∙ ap (λ (b : Bool). cond (not b) [] (verdict_text t said)) w

@@ -13,10 +13,7 @@ fn after(numbers: &[u64], n: u64) -> Option<&[u64]>
     ensures { option_copied result ≡ compared (Some numbers.now) n }
 {
     let (first, left) = numbers.split_first()?;
-    if *first == n {
-        return Some(left);
-    }
-    None
+    (*first == n).then_some(left)
 }
 
 impl<'a> Agreement<'a> {
@@ -30,17 +27,16 @@ impl<'a> Agreement<'a> {
     }
 
     // The next number is to be n.
+    #[tactic(auto, unfolding(crate::specs::Agreement::compared))]
     pub fn number(self, n: u64) -> Agreement<'a>
         ensures { left_of result ≡ compared (left_of self.entry) n }
     {
-        match self.left {
-            Some(numbers) => Agreement {
-                left: after(numbers, n),
-            },
-            None => self,
+        Agreement {
+            left: self.left.and_then(|numbers| after(numbers, n)),
         }
     }
 
+    // A loop, since the law of `fold` asks what the next state is, and of an Agreement only what is left is promised.
     pub fn numbers(self, ns: &[u64]) -> Agreement<'a>
         ensures { left_of result ≡ compared_all (left_of self.entry) ns.now }
     {
@@ -51,6 +47,7 @@ impl<'a> Agreement<'a> {
         agreement
     }
 
+    // Beside `numbers`: the promise of a generic one would need a trait by which a u8 and a u64 have their values, as long as this.
     pub fn bytes(self, bytes: &[u8]) -> Agreement<'a>
         ensures { left_of result ≡ compared_all (left_of self.entry) bytes.now }
     {

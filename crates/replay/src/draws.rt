@@ -19,8 +19,8 @@ fn draw_letter(b: u8) -> Option<Option<Player>>
 pub fn draw_of(text: &[u8]) -> Option<Option<Player>>
     ensures { result ≡ draw_of text.now }
 {
-    if text.len() != 1 {
+    let [b] = text else {
         return None;
-    }
-    draw_letter(text[0])
+    };
+    draw_letter(*b)
 }

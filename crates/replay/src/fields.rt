@@ -31,6 +31,7 @@ fn past_tab(line: &[u8]) -> &[u8]
 }
 
 // Field k, counted from 0; nothing if the line has none so far on.
+// Tab by tab: by `split(..).nth(k)` it was tried, and the proof did not close (`nth` promises of each run of `split`, not of the parts).
 pub fn field(line: &[u8], k: usize) -> &[u8]
     ensures { result.now ≡ field k line.now }
 {

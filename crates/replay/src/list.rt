@@ -1,37 +1,43 @@
 // A list of records, read from standard input and counted.
 ghost use Rattle.std.specs.Prelude.{◌≡◌, List, ℕ};
 ghost use Rattle.replay.specs.declared.totals.Comparison.{Comparison};
-ghost use Rattle.replay.specs.ListCounted.{Replays};
+ghost use Rattle.replay.specs.ListCounted.{CountsFrom, Replays};
 
-use crate::totals::{Comparison, Conclusion, Totals};
-use input::{Input, ReadFailed};
+use crate::totals::{Comparison, Conclusion, Failure, Totals};
+use input::Input;
 use std::rt::Stdin;
 
-// What a list's records are compared with.
+// What a list's records are compared with. A trait: a closure would need a condition on what it is handed, and `run` asks for none.
 pub trait Records {
     ghost outcome_of: { List ℕ → Comparison };
 
     // What is found of a line.
-    fn outcome(&mut self, line: &[u8]) -> Comparison
+    fn outcome(line: &[u8]) -> Comparison
         ensures { result ≡ outcome_of line.now };
 }
 
-// Counts the records of an input, a line each, and concludes.
-pub fn run<R: Records>(mut records: R, stdin: Stdin, said: &[u8]) -> Conclusion
-where
-    R: Drop,
-    ensures { Replays R.outcome_of said.now result }
+// Counts the records of an input, a line each, up to its end, to what fails, or to as many as can be counted.
+fn count_all<R: Records>(totals: &mut Totals, stdin: Stdin) -> Result<(), Failure>
+    ensures { CountsFrom R.outcome_of totals.old totals.new result }
 {
     let mut buffer = io::large_buffer();
     let mut kept = io::buffer();
     let mut input = Input::new();
-    let mut totals = Totals::new();
+    // A proved loop has to end, and nothing says that the input does: the lines counted are fewer than a bound that no run reaches.
     while totals.may_go_on() {
-        match input.next_line(stdin, &mut buffer, &mut kept) {
-            Ok(Some(line)) => totals = totals.count(records.outcome(line.whole(&kept))),
-            Ok(None) => break,
-            Err(ReadFailed) => return totals.conclude(said, true),
-        }
+        let Some(line) = input.next_line(stdin, &mut buffer, &mut kept)? else {
+            return Ok(());
+        };
+        totals.count(R::outcome(line.whole(&kept)))?;
     }
-    totals.conclude(said, false)
+    Ok(())
+}
+
+// Counts the records of an input, and concludes.
+pub fn run<R: Records>(stdin: Stdin, said: &[u8]) -> Conclusion
+    ensures { Replays R.outcome_of said.now result }
+{
+    let mut totals = Totals::new();
+    let counted = count_all::<R>(&mut totals, stdin);
+    totals.conclude(said, counted)
 }

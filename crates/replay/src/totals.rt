@@ -1,10 +1,11 @@
 // How many records agree, and what is printed of them.
-ghost use Rattle.std.specs.Prelude.{◌≡◌};
+ghost use Rattle.std.specs.Prelude.{◌≡◌, option_map};
 ghost use Rattle.answer_text.specs.AnswerBytes.{text_of_bytes};
-ghost use Rattle.replay.specs.Totals.{comparison, new_totals, with_record, record_totals, printed, RecordCounted, may_go_on};
-ghost use Rattle.replay.specs.Totals.{record_text, verdict_text, last_text, told_text, Concludes};
+ghost use Rattle.replay.specs.Totals.{comparison, new_totals, with_record, written, Prints, RecordCounted, may_go_on};
+ghost use Rattle.replay.specs.Totals.{record_text, verdict_text, failure_text, Concludes};
 
 use answer_text::AnswerText;
+use input::ReadFailed;
 
 const STDOUT_FILENO: i32 = 1;
 
@@ -31,40 +32,82 @@ impl Comparison {
     }
 }
 
-// `written`: all that was to be printed so far was written.
+// Why not all of a list was counted, or not all of it printed.
+#[derive(Clone, Copy)]
+pub enum Failure {
+    Reading,
+    Writing,
+}
+
+// How many records there are, how many of them agree, and how many of these are apart.
 #[derive(Clone, Copy)]
 pub struct Totals {
     pub records: usize,
     pub agreed: usize,
     pub apart: usize,
-    pub written: bool,
 }
 
-// The totals with a record more, and what is printed of it.
-#[derive(Clone, Copy)]
-struct RecordTotals {
-    totals: Totals,
-    text: AnswerText,
-}
-
-// The end of a list: what is to be printed, the totals after it, and what is to be told on standard error.
+// The end of a list: the totals, what was to be printed of them, what failed, and what was to be told of that on standard error.
 #[derive(Clone, Copy)]
 pub struct Conclusion {
-    pub text: AnswerText,
     pub totals: Totals,
-    pub told: AnswerText,
+    pub text: Option<AnswerText>,
+    pub ended: Result<(), Failure>,
+    pub told: Option<AnswerText>,
+}
+
+impl From<ReadFailed> for Failure {
+    ghost use Rattle.replay.specs.declared.totals.Failure.TheVariants.{Reading};
+
+    ghost from_gives = { λ _ failure. failure ≡ Reading };
+
+    fn from(_why: ReadFailed) -> Failure
+        ensures { result ≡ Reading }
+    {
+        Failure::Reading
+    }
+}
+
+impl Failure {
+    // What is told of it.
+    fn text(self) -> AnswerText
+        ensures { result ≡ text_of_bytes (failure_text self) }
+    {
+        let said = AnswerText::new();
+        match self {
+            Failure::Reading => said.text(b"reading failed: the list is not whole\n"),
+            Failure::Writing => said.text(b"writing failed: not all is printed\n"),
+        }
+    }
+}
+
+// What is answered of a print, by whether all of it was written.
+fn written(all: bool) -> Result<(), Failure>
+    ensures { result ≡ written all }
+{
+    if all { Ok(()) } else { Err(Failure::Writing) }
+}
+
+// Prints a text, if there is one.
+fn print(file: i32, text: &Option<AnswerText>) -> Result<(), Failure>
+    ensures { Prints text.now result }
+{
+    match text {
+        Some(text) => written(io::write_all(file, text.as_slice())),
+        None => Ok(()),
+    }
 }
 
 // What is printed of a record, by its number: nothing if it agrees.
-fn record_text(number: usize, outcome: Comparison) -> AnswerText
-    ensures { result ≡ text_of_bytes (record_text number outcome) }
+fn record_text(number: usize, outcome: Comparison) -> Option<AnswerText>
+    ensures { result ≡ option_map text_of_bytes (record_text number outcome) }
 {
     match outcome {
-        Comparison::Agrees | Comparison::Apart => AnswerText::new(),
-        Comparison::Differs => AnswerText::new()
-            .text(b"differs: record ")
-            .decimal(number as u64)
-            .push(b'\n'),
+        Comparison::Agrees | Comparison::Apart => None,
+        Comparison::Differs => {
+            let begun = AnswerText::new().text(b"differs: record ");
+            Some(begun.decimal(number as u64).push(b'\n'))
+        }
     }
 }
 
@@ -76,7 +119,6 @@ impl Totals {
             records: 0,
             agreed: 0,
             apart: 0,
-            written: true,
         }
     }
 
@@ -102,44 +144,27 @@ impl Totals {
         }
     }
 
-    // One record more, with what is printed of it.
-    fn counted(self, outcome: Comparison) -> RecordTotals
-        ensures { result ≡ record_totals self outcome }
+    // One record more, and what is to be printed of it.
+    fn add(&mut self, outcome: Comparison) -> Option<AnswerText>
+        ensures { (self.new ≡ with_record self.old outcome) ×
+            (result ≡ option_map text_of_bytes (record_text self.new.records outcome)) }
     {
-        let totals = self.with_record(outcome);
-        let text = record_text(totals.records, outcome);
-        RecordTotals { totals, text }
-    }
-
-    // The totals after a print: `all` says whether all of it was written.
-    fn printed(self, all: bool) -> Totals
-        ensures { result ≡ printed self all }
-    {
-        Totals {
-            written: self.written & all,
-            ..self
-        }
+        *self = self.with_record(outcome);
+        record_text(self.records, outcome)
     }
 
     // One record more; one that differs is printed with its number.
-    pub fn count(self, outcome: Comparison) -> Totals
-        ensures { RecordCounted self outcome result }
+    pub fn count(&mut self, outcome: Comparison) -> Result<(), Failure>
+        ensures { RecordCounted self.old outcome self.new result }
     {
-        let counted = self.counted(outcome);
-        let totals = counted.totals;
-        let text = counted.text;
-        let n = text.as_slice().len();
-        if n == 0 {
-            return totals;
-        }
-        totals.printed(io::write_all(STDOUT_FILENO, text.as_slice()))
+        print(STDOUT_FILENO, &self.add(outcome))
     }
 
     // Whether records may go on to be counted.
     pub fn may_go_on(self) -> bool
         ensures { result ≡ may_go_on self }
     {
-        self.written && self.records < usize::MAX
+        self.records < usize::MAX
     }
 
     // How many agree, and how many of them are apart with what is said of those.
@@ -156,42 +181,19 @@ impl Totals {
         apart.text(b" of them ").text(said).push(b'\n')
     }
 
-    // What is printed at the end of a list: nothing if not all could be read, or not all be printed so far.
-    fn last_text(self, said: &[u8], failed: bool) -> AnswerText
-        ensures { result ≡ text_of_bytes (last_text self said.now failed) }
+    // The end of a list, by whether all of it was counted: the verdict is printed then, and what failed is told on standard error.
+    pub fn conclude(self, said: &[u8], counted: Result<(), Failure>) -> Conclusion
+        ensures { Concludes self said.now counted result }
     {
-        if failed || !self.written {
-            return AnswerText::new();
+        let text = counted.is_ok().then_some(self.verdict(said));
+        let ended = counted.and(print(STDOUT_FILENO, &text));
+        let told = ended.err().map(Failure::text);
+        let _ = print(STDERR_FILENO, &told);
+        Conclusion {
+            totals: self,
+            text,
+            ended,
+            told,
         }
-        self.verdict(said)
-    }
-
-    // What is told on standard error: that not all could be read, or else that not all was written.
-    fn told(self, failed: bool) -> AnswerText
-        ensures { result ≡ text_of_bytes (told_text failed self.written) }
-    {
-        if failed {
-            return AnswerText::new()
-                .text(b"reading failed: the list is not whole")
-                .push(b'\n');
-        }
-        if self.written {
-            return AnswerText::new();
-        }
-        AnswerText::new()
-            .text(b"writing failed: not all is printed")
-            .push(b'\n')
-    }
-
-    // The end of a list, by whether a read of it failed: the last text is printed, and what failed is told on standard error.
-    pub fn conclude(self, said: &[u8], failed: bool) -> Conclusion
-        ensures { Concludes self said.now failed result }
-    {
-        let text = self.last_text(said, failed);
-        let n = text.as_slice().len();
-        let totals = self.printed(io::write_all(STDOUT_FILENO, text.as_slice()) | (n == 0));
-        let told = totals.told(failed);
-        io::write_all(STDERR_FILENO, told.as_slice());
-        Conclusion { text, totals, told }
     }
 }

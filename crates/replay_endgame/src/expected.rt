@@ -9,12 +9,12 @@ ghost use Rattle.replay.specs.Agreement.{left_of, compared_all, same_numbers};
 ghost use Rattle.replay_endgame.specs.Records.{has_line_of_boards, reopened, listed_moves, expected_moves};
 ghost use Rattle.replay_endgame.specs.Records.{stats_numbers, analysis_numbers, move_numbers, record_of, is_apart};
 
-use boards::{Move, MoveIterator};
-use endgame::{Analysis, EndgameStats};
+use boards::{Move, MoveError, MoveIterator};
+use endgame::{Analysis, EndgameStats, Unsound};
 use game::Game;
 use lines::has_line;
 use replay::Agreement;
-use rules::GameState;
+use rules::{GameState, Refusal};
 use status::Status;
 
 // What is judged where no move is listed: the first cell of the first board.
@@ -119,9 +119,10 @@ pub(crate) fn is_met(words: &[u64], game: Game) -> bool
     with_moves(analysed, game).is_whole()
 }
 
-// Whether the position is refused with 14, or the first listed move with 10.
+// Whether the position is refused as unsound, or the first listed move since the game is over.
 pub(crate) fn is_apart(words: &[u64]) -> bool
     ensures { result ≡ is_apart words.now }
 {
-    decimals::at(words, 0) == 14 || decimals::at(words, 9) == 10
+    decimals::at(words, 0) == Unsound.number()
+        || decimals::at(words, 9) == MoveError::GameOver.number()
 }

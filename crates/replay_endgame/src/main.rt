@@ -23,35 +23,29 @@ fn comparison(position: &[u8], words: &[u64]) -> Comparison
     }
 }
 
-// What is found of a line. One that can't be read differs.
-fn outcome(line: &[u8]) -> Comparison
-    ensures { result ≡ outcome_of line.now }
-{
-    if replay::tabs(line) != 1 {
-        return Comparison::Differs;
-    }
-    let mut words = [0u64; MOST];
-    let Some(n) = decimals::numbers(replay::field(line, 1), &mut words) else {
-        return Comparison::Differs;
-    };
-    comparison(replay::field(line, 0), &words[..n])
-}
-
 // The records of the list.
-#[derive(Clone, Copy)]
 struct Analyses;
 
 impl Records for Analyses {
     ghost outcome_of = { outcome_of };
 
-    fn outcome(&mut self, line: &[u8]) -> Comparison {
-        outcome(line)
+    // A line that can't be read differs.
+    fn outcome(line: &[u8]) -> Comparison
+        ensures { result ≡ outcome_of line.now }
+    {
+        if replay::tabs(line) != 1 {
+            return Comparison::Differs;
+        }
+        let mut words = [0u64; MOST];
+        let Some(n) = decimals::numbers(replay::field(line, 1), &mut words) else {
+            return Comparison::Differs;
+        };
+        comparison(replay::field(line, 0), &words[..n])
     }
 }
 
 fn main(rt: HostRuntime) {
-    replay::run(
-        Analyses,
+    replay::run::<Analyses>(
         rt.stdin(),
         b"with document 01's refusal for the Rust's answer",
     );

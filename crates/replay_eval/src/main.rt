@@ -31,31 +31,26 @@ fn agrees(position: &[u8], draw: &[u8], score: &[u8]) -> bool
     is_score(score, value)
 }
 
-// What is found of a line. One that can't be read differs.
-fn outcome(line: &[u8]) -> Comparison
-    ensures { result ≡ outcome_of line.now }
-{
-    let agrees = replay::tabs(line) == 2
-        && agrees(
-            replay::field(line, 0),
-            replay::field(line, 1),
-            replay::field(line, 2),
-        );
-    Comparison::of(agrees, false)
-}
-
 // The records of the list.
-#[derive(Clone, Copy)]
 struct Evaluations;
 
 impl Records for Evaluations {
     ghost outcome_of = { outcome_of };
 
-    fn outcome(&mut self, line: &[u8]) -> Comparison {
-        outcome(line)
+    // A line that can't be read differs.
+    fn outcome(line: &[u8]) -> Comparison
+        ensures { result ≡ outcome_of line.now }
+    {
+        let agrees = replay::tabs(line) == 2
+            && agrees(
+                replay::field(line, 0),
+                replay::field(line, 1),
+                replay::field(line, 2),
+            );
+        Comparison::of(agrees, false)
     }
 }
 
 fn main(rt: HostRuntime) {
-    replay::run(Evaluations, rt.stdin(), b"");
+    replay::run::<Evaluations>(rt.stdin(), b"");
 }

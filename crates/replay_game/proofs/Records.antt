@@ -13,8 +13,8 @@ use Rattle.boards.specs.Answers.{in_range, within}
 use Rattle.boards.proofs.Answers.{in_one, in_both}
 use Rattle.game.specs.declared.Game.{Game}
 use Rattle.game.specs.Meaning.{position_of}
-use Rattle.game.specs.After.{games_after, answers_each, game_left}
-use Rattle.std.specs.Prelude.{Option, Some, Result, Ok, Err}
+use Rattle.game.specs.After.{games_after, answers_each}
+use Rattle.std.specs.Prelude.{Option, Some, Result}
 use Rattle.std.specs.Result.{result_unwrap_or}
 use Rattle.replay.specs.declared.totals.Comparison.{Comparison}
 use Rattle.replay.specs.Agreement.{left_of, compared, compared_all, wholly_agrees}
@@ -128,7 +128,3 @@ module _ {A : Type 0} (a or : A) where
 
   pub in_range_cell : (b c : ℕ) → b < 9 → c < 9 → result_unwrap_or (within (in_range b c) a) or ≡ a
   in_range_cell b c h k = sym (ap (λ (r : Result A MoveError). result_unwrap_or r or) (in_both a b c h k))
-
-pub left_or : (g : Game) (r : Result Game MoveError) → result_unwrap_or r g ≡ game_left g r
-left_or g (Ok after) = refl
-left_or g (Err why) = refl

@@ -26,6 +26,7 @@ use rules::{CellState, GameState, Player};
 // The most numbers of a record.
 const MOST: usize = 1024;
 
+// 255 is the lists' number for no board due (tools/lists.py); the C interface's is 256.
 fn next_of(n: u64) -> Option<u8>
     ensures { result ≡ next_of n }
 {
@@ -42,7 +43,7 @@ fn row_in(words: &[u64], i: usize) -> Row
     }
 }
 
-// The game of the eleven numbers of a position.
+// The game of the eleven numbers of a position: the lists', which are not the C interface's twelve words.
 #[tactic(auto, unfolding(crate::specs::Records::game_in))]
 fn game_in(words: &[u64], i: usize) -> Game
     requires { i < 100 }
@@ -72,6 +73,7 @@ fn next_number(n: Option<u8>) -> u64
     n.map_or(255, u64::from)
 }
 
+// No `From`: the numbers are this list's alone, and an impl would have them here and in its ghost fact.
 fn cell_number(cell: CellState) -> u64
     ensures { result ≡ cell_number cell }
 {
@@ -108,7 +110,7 @@ fn position(begun: Agreement<'_>, g: Game) -> Agreement<'_>
     begun.numbers(&turn).numbers(&boards).numbers(&overall)
 }
 
-// The moves that a record asks, by their places: past the record's end they count as 0.
+// The moves that a record asks, by their places and not as a slice: past the record's end they count as 0.
 fn asked<'a>(begun: Agreement<'a>, words: &[u64], from: usize, count: usize) -> Agreement<'a>
     requires { from + count < 1000 }
     ensures { left_of result ≡ compared_all (left_of begun.entry) (moves_from words.now from count) }
@@ -128,7 +130,7 @@ struct Run<'a> {
 }
 
 // A move tried, and its answer.
-#[tactic(auto, unfolding(game::specs::After::answers_each, game::specs::After::games_after), using(crate::proofs::Records::left_or))]
+#[tactic(auto, unfolding(game::specs::After::answers_each, game::specs::After::games_after), using(game::proofs::AfterList::left_or))]
 fn tried(run: Run<'_>, n: u64) -> Run<'_>
     ensures { Runs (left_of run.entry.compared) run.entry.game (n % 256 ∷ []) result }
 {
@@ -141,6 +143,7 @@ fn tried(run: Run<'_>, n: u64) -> Run<'_>
     }
 }
 
+// The same moves tried, by their places too.
 fn run_moves<'a>(
     begun: Agreement<'a>,
     words: &[u64],
@@ -265,7 +268,7 @@ fn equivalence(words: &[u64]) -> Comparison
     Comparison::of(all.is_whole(), false)
 }
 
-// Each cell of each board.
+// Each cell of each board, by one number: the records have the 81 cells in order.
 fn cells(begun: Agreement<'_>, g: Game) -> Agreement<'_>
     ensures { left_of result ≡ compared_all (left_of begun.entry) (cells_numbers (position_of g)) }
 {
@@ -277,7 +280,7 @@ fn cells(begun: Agreement<'_>, g: Game) -> Agreement<'_>
     compared
 }
 
-// The state of each board.
+// The state of each board, by its number.
 fn states(begun: Agreement<'_>, g: Game) -> Agreement<'_>
     ensures { left_of result ≡ compared_all (left_of begun.entry) (states_numbers (position_of g)) }
 {
@@ -313,6 +316,7 @@ fn coordinates(words: &[u64]) -> Comparison
 }
 
 // What is found of a record, by its kind.
+// Each arm asks another question and its record begins with the number: an enum by TryFrom would list the numbers once more beside both.
 fn comparison(words: &[u64]) -> Comparison
     ensures { result ≡ comparison_of words.now }
 {
@@ -326,33 +330,27 @@ fn comparison(words: &[u64]) -> Comparison
     }
 }
 
-// What is found of a line. One that is no list of numbers differs.
-#[tactic(auto, using(decimals::proofs::ListsHeld::none_read, decimals::proofs::ListsHeld::some_read))]
-fn outcome(line: &[u8]) -> Comparison
-    ensures { result ≡ outcome_of line.now }
-{
-    let mut words = [0u64; MOST];
-    match decimals::numbers(line, &mut words) {
-        Some(n) => comparison(&words[..n]),
-        None => Comparison::Differs,
-    }
-}
-
 // The records of the list.
-#[derive(Clone, Copy)]
 struct Games;
 
 impl Records for Games {
     ghost outcome_of = { outcome_of };
 
-    fn outcome(&mut self, line: &[u8]) -> Comparison {
-        outcome(line)
+    // A line that is no list of numbers differs.
+    #[tactic(auto, using(decimals::proofs::ListsHeld::none_read, decimals::proofs::ListsHeld::some_read))]
+    fn outcome(line: &[u8]) -> Comparison
+        ensures { result ≡ outcome_of line.now }
+    {
+        let mut words = [0u64; MOST];
+        match decimals::numbers(line, &mut words) {
+            Some(n) => comparison(&words[..n]),
+            None => Comparison::Differs,
+        }
     }
 }
 
 fn main(rt: HostRuntime) {
-    replay::run(
-        Games,
+    replay::run::<Games>(
         rt.stdin(),
         b"with document 01's list of moves for the Rust's",
     );

@@ -37,7 +37,7 @@ fn count_in(words: &[u64]) -> usize
     (decimals::at(words, 1) % 512) as usize
 }
 
-// The bytes from place 2 on.
+// The bytes from place 2 on: 512 of them, as there is no heap. `count_in` says how many are the text's.
 fn bytes_from_2(words: &[u64]) -> [u8; 512]
     ensures { result ≡ bytes_from_2 words.now }
 {
@@ -165,16 +165,14 @@ fn same_play(words: &[u64], moves: &[u8]) -> bool
     ensures { result ≡ same_numbers words.now (play_record moves.now) }
 {
     let g = Game::new().play_all(moves);
-    if reads_back(g) {
-        let text = notation::render(g);
-        question(words, 9, moves).bytes(&text).is_whole()
-    } else {
-        false
-    }
+    let text = notation::render(g);
+    reads_back(g) && question(words, 9, moves).bytes(&text).is_whole()
 }
 
 // ---- a record, a line, all lines
 
+// Whether a record agrees, by its kind.
+// Each arm asks another question and its record begins with the number: an enum by TryFrom would list the numbers once more beside both.
 fn agrees(words: &[u64]) -> bool
     ensures { result ≡ same_numbers words.now (expected_record words.now) }
 {
@@ -229,33 +227,24 @@ fn comparison(words: &[u64]) -> Comparison
     Comparison::of(agrees(words), is_apart(words))
 }
 
-// What is found of a line. One that is no list of numbers differs.
-fn outcome(line: &[u8]) -> Comparison
-    ensures { result ≡ outcome_of line.now }
-{
-    let mut words = [0u64; MOST];
-    let Some(n) = decimals::numbers(line, &mut words) else {
-        return Comparison::Differs;
-    };
-    comparison(&words[..n])
-}
-
 // The records of the list.
-#[derive(Clone, Copy)]
 struct Texts;
 
 impl Records for Texts {
     ghost outcome_of = { outcome_of };
 
-    fn outcome(&mut self, line: &[u8]) -> Comparison {
-        outcome(line)
+    // A line that is no list of numbers differs.
+    fn outcome(line: &[u8]) -> Comparison
+        ensures { result ≡ outcome_of line.now }
+    {
+        let mut words = [0u64; MOST];
+        let Some(n) = decimals::numbers(line, &mut words) else {
+            return Comparison::Differs;
+        };
+        comparison(&words[..n])
     }
 }
 
 fn main(rt: HostRuntime) {
-    replay::run(
-        Texts,
-        rt.stdin(),
-        b"with document 01's answer for the Rust's",
-    );
+    replay::run::<Texts>(rt.stdin(), b"with document 01's answer for the Rust's");
 }

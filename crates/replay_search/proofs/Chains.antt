@@ -1,12 +1,14 @@
 -- A record's responses at the start, its searches, and its line.
-use Rattle.std.specs.Prelude.{Option, None, Some, option_map}
+use Rattle.std.specs.Prelude.{Option, None, Some}
 use mathlib.Core.Path.{◌≡◌, refl, sym, ap, ◌∙◌}
 use mathlib.Core.List.{List, [], ◌∷◌, ◌++◌}
 use Prim.Native.Nat.{ℕ, ◌%◌, ◌<◌}
 use native.Mathlib.Omega.{arith}
-use lib.ListN.{length, get_or, take, drop, set}
-use lib.Seq.{take_at}
+use lib.ListN.{length, get_or, take, set}
+use lib.Seq.{length-take-le}
 use borrow.Author.Tests.{eq-eqb, ne_eqb}
+use Rattle.rules.specs.declared.Player.{Player}
+use Rattle.rules.specs.declared.Player.TheVariants.{X, O}
 use Rattle.rules.specs.Board.{side_from}
 use Rattle.base.specs.Branch.{when◌then◌else◌}
 use Rattle.theory.specs.Memory.{Responses, no_responses, with_response}
@@ -15,21 +17,18 @@ use Rattle.minimax.specs.declared.Minimax.{Minimax}
 use Rattle.minimax.specs.Report.{bytes_of, responses_of, empty_responses}
 use Rattle.minimax.proofs.ReportPlaces.{bytes_set}
 use Rattle.decimals.specs.Lists.{list_of, ListRead}
+use Rattle.decimals.proofs.ListsHeld.{read_fits}
 use Rattle.replay_search.specs.Chains.{most_numbers, with_responses, from_triples, start_of, begun_of}
 
 -- ---- one response more
-module _ (t : ResponseTables) (side prev m : ℕ) where
-  pub with_x : side ≡ 0 → responses_of (record { x = set t.x prev (record { bits = m }); o = t.o })
-      ≡ with_response (responses_of t) (side_from side) prev m
-  with_x h =
-      rw (eq-eqb side 0 h)
-      (ap (λ (ns : List ℕ). record { to_x = ns; to_o = bytes_of t.o }) (bytes_set t.x prev (record { bits = m })))
+module _ (t : ResponseTables) (who : Player) (prev m : ℕ) where
+  pub with_x : who ≡ X → responses_of (record { x = set t.x prev (record { bits = m }); o = t.o })
+      ≡ with_response (responses_of t) who prev m
+  with_x h = rw h (ap (λ (ns : List ℕ). record { to_x = ns; to_o = bytes_of t.o }) (bytes_set t.x prev (record { bits = m })))
 
-  pub with_o : (side ≡ 0 → ⊥) → responses_of (record { x = t.x; o = set t.o prev (record { bits = m }) })
-      ≡ with_response (responses_of t) (side_from side) prev m
-  with_o h =
-      rw (ne_eqb side 0 h)
-      (ap (λ (ns : List ℕ). record { to_x = bytes_of t.x; to_o = ns }) (bytes_set t.o prev (record { bits = m })))
+  pub with_o : who ≡ O → responses_of (record { x = t.x; o = set t.o prev (record { bits = m }) })
+      ≡ with_response (responses_of t) who prev m
+  with_o h = rw h (ap (λ (ns : List ℕ). record { to_x = bytes_of t.x; to_o = ns }) (bytes_set t.o prev (record { bits = m })))
 
 -- ---- responses of triples
 pub empty_is : responses_of empty_responses.responses ≡ no_responses
@@ -52,40 +51,10 @@ triples_end rs (a ∷ []) h = refl
 triples_end rs (a ∷ b ∷ []) h = refl
 triples_end rs (a ∷ b ∷ d ∷ ns) h = absurd (omega arith)
 
--- ---- a list that was read
-some_of : (o : Option (List ℕ)) (n : ℕ) → Some n ≡ option_map length o → (ns : List ℕ) × (o ≡ Some ns) × (n ≡ length ns)
-some_of None n e = absurd (let z : ◌≡◌ {A = ℕ} 0 1 = cc in omega arith)
-some_of (Some ns) n e = (ns, refl, cc)
-
-none_of : (o : Option (List ℕ)) → None ≡ option_map length o → o ≡ None
-none_of None e = refl
-none_of (Some ns) e = absurd (let z : ◌≡◌ {A = ℕ} 0 1 = cc in omega arith)
-
-module _ (text words : List ℕ) (r : Option ℕ) (after : List ℕ) (h : ListRead text words r after) (room : length words ≡ 1024) where
-  is_count : r ≡ option_map length (list_of most_numbers text)
-  is_count = h.count_is ∙ ap (λ (n : ℕ). option_map length (list_of n text)) room
-
-  pub record Numbers (n : ℕ) : Type 0 where
-    pub numbers : List ℕ
-    pub are_read : list_of most_numbers text ≡ Some numbers
-    pub stand_first : take n after ≡ numbers
-    pub as_many : n ≡ length numbers
-    pub first_are : n ≡ length (take n after)
-
-  pub numbers_read : (n : ℕ) → r ≡ Some n → Numbers n
-  numbers_read n e =
-      let s = some_of (list_of most_numbers text) n (sym e ∙ is_count) in
-      let w = h.written s.0 (ap (λ (k : ℕ). list_of k text) room ∙ s.1) in
-      let first = ap (take n) w ∙ take_at s.0 (drop (length s.0) words) n (sym s.2) in record {
-        numbers = s.0;
-        are_read = s.1;
-        stand_first = first;
-        as_many = s.2;
-        first_are = s.2 ∙ sym (ap length first);
-      }
-
-  pub none_read : r ≡ None → list_of most_numbers text ≡ None
-  none_read e = none_of (list_of most_numbers text) (sym e ∙ is_count)
+-- ---- a list that was read is the first words, as many as were counted
+pub first_counted : (text words after : List ℕ) (r : Option ℕ) → ListRead text words r after → length after ≡ length words →
+    (n : ℕ) → r ≡ Some n → n ≡ length (take n after)
+first_counted text words after r h l n e = sym (length-take-le n after (omega (arith, read_fits text words after r h n e, l)))
 
 -- ---- the responses at the start
 start_read : (text : List ℕ) → 0 < length text → start_of text ≡ from_triples (list_of most_numbers text)

@@ -18,7 +18,7 @@ use Rattle.text.specs.Reading.{Reading, reads, refuses, read}
 use Rattle.decimals.specs.Numbers.{read_number}
 use Rattle.decimals.specs.Lists.{list_of}
 use Rattle.replay.specs.declared.totals.Comparison.{Comparison}
-use Rattle.replay.specs.declared.totals.Comparison.TheVariants.{Differs}
+use Rattle.replay.specs.declared.totals.Comparison.TheVariants.{Agrees, Differs}
 use Rattle.replay.specs.Fields.{field, tabs}
 use Rattle.replay.specs.Draws.{draw_of}
 use Rattle.replay.specs.Agreement.{same_numbers}
@@ -85,11 +85,11 @@ module _ (line : List ℕ) (w : Option Player) (allowance : ℕ) where
   found_said None next h = absurd (h refl)
   found_said (Some r) next h = (r, refl, h)
 
-  searches_agreed : (n k : ℕ) (refused : Bool) (rs : Responses) (words : List ℕ) →
-      (chain_of line w allowance n k refused rs words ≡ Differs → ⊥) → SearchesAgreed n k rs words
+  searches_agreed : (n k : ℕ) (so_far : Comparison) (rs : Responses) (words : List ℕ) →
+      (chain_of line w allowance n k so_far rs words ≡ Differs → ⊥) → SearchesAgreed n k rs words
   unfolding chain_of
-  searches_agreed zero k refused rs words h = tt
-  searches_agreed (suc n) k refused rs words h =
+  searches_agreed zero k so_far rs words h = tt
+  searches_agreed (suc n) k so_far rs words h =
       let s = found_said (search_of line w allowance k rs words) _ h in
       let r = s.0 in
       (r, search_agreed k rs words r s.1, searches_agreed n (k + 1) _ r.responses r.table s.2)
@@ -165,5 +165,5 @@ agreed_means room line h =
       allowance_is = most.1;
       start = begun.0;
       start_is = begun.1;
-      searches_agree = searches_agreed line draw.0 most.0 n 0 false begun.0 (replicate (table.0 * 3) 0) begun.2;
+      searches_agree = searches_agreed line draw.0 most.0 n 0 Agrees begun.0 (replicate (table.0 * 3) 0) begun.2;
     }

@@ -1,7 +1,7 @@
 -- The searches of a record one after the other, and a record's line.
-use Rattle.std.specs.Prelude.{Option, None, Some, is_some}
-use mathlib.Core.Path.{◌≡◌, refl, sym, ap, ◌∙◌}
-use mathlib.Core.Bool.{Bool, true, false, not, cond, ◌||◌}
+use Rattle.std.specs.Prelude.{Option, None, Some, option_map}
+use mathlib.Core.Path.{◌≡◌, sym, ap, ◌∙◌}
+use mathlib.Core.Bool.{true, false, cond}
 use mathlib.Core.List.{List}
 use Prim.Native.Nat.{ℕ, suc, ◌+◌, ◌-◌, ◌*◌, ◌/◌, ◌%◌, ◌<◌, ◌≤◌}
 use native.Mathlib.Omega.{arith}
@@ -13,76 +13,55 @@ use Rattle.base.specs.Branch.{when◌then◌else◌}
 use Rattle.theory.specs.Memory.{Responses}
 use Rattle.theory.specs.Reported.{Reported}
 use Rattle.minimax.specs.declared.Minimax.{Minimax}
-use Rattle.minimax.specs.Report.{responses_of}
+use Rattle.minimax.specs.declared.Report.{Report}
+use Rattle.minimax.specs.Report.{ending_number, responses_of, report_of}
 use Rattle.decimals.specs.Numbers.{read_number}
 use Rattle.replay.specs.declared.totals.Comparison.{Comparison}
 use Rattle.replay.specs.declared.totals.Comparison.TheVariants.{Agrees, Apart, Differs}
 use Rattle.replay.specs.Fields.{field, tabs}
 use Rattle.replay.specs.Draws.{draw_of}
-use Rattle.replay_search.specs.declared.chain.ChainStep.{ChainStep}
-use Rattle.replay_search.specs.Chains.{begun_of, start_of, search_of, going_on, chain_of, Searched}
+use Rattle.replay_search.specs.Chains.{begun_of, start_of, search_of, going_on, chain_of}
 use Rattle.replay_search.specs.Chains.{for_number, for_draw, for_start, run_of, has_searches, outcome_of}
 
 -- ---- one search more
-known_some : (o : Option Reported) → is_some o ≡ true → (r : Reported) × (o ≡ Some r)
-known_some None e = absurd (let z : ◌≡◌ {A = ℕ} 0 1 = cc in omega arith)
-known_some (Some r) e = (r, refl)
-
-known_none : (o : Option Reported) → is_some o ≡ false → o ≡ None
-known_none None e = refl
-known_none (Some r) e = absurd (let z : ◌≡◌ {A = ℕ} 0 1 = cc in omega arith)
-
-module _ (line : List ℕ) (w : Option Player) (allowance count k : ℕ) (refused : Bool) (rs : Responses) (words : List ℕ) where
-  abbrev found : Option Reported
-  found = search_of line w allowance k rs words
-
+module _ (line : List ℕ) (w : Option Player) (allowance count k : ℕ) (so_far : Comparison) (rs : Responses) (words : List ℕ) where
   abbrev after_search : ℕ → Reported → Comparison
-  after_search n r = chain_of line w allowance n (k + 1) (refused || not (eqb r.number 0)) r.responses r.table
+  after_search n r = chain_of line w allowance n (k + 1) (cond (eqb r.number 0) so_far Apart) r.responses r.table
 
-  one_more : k < count → chain_of line w allowance (count - k) k refused rs words
-      ≡ going_on line w allowance found (after_search (count - (k + 1)))
-  unfolding chain_of
-  one_more h =
-      let n : count - k ≡ suc (count - (k + 1)) = omega arith in
-      ap (λ (i : ℕ). chain_of line w allowance i k refused rs words) n
+  module _ (o : Option Report) (after : List ℕ) (h : k < count)
+      (s : option_map (λ (r : Report). report_of r after) o ≡ search_of line w allowance k rs words) where
+    one_more : chain_of line w allowance (count - k) k so_far rs words
+        ≡ going_on line w allowance (option_map (λ (r : Report). report_of r after) o) (after_search (count - (k + 1)))
+    unfolding chain_of
+    one_more =
+        let n : count - k ≡ suc (count - (k + 1)) = omega arith in
+        ap (λ (i : ℕ). chain_of line w allowance i k so_far rs words) n
+        ∙ ap (λ (o : Option Reported). going_on line w allowance o (after_search (count - (k + 1)))) (sym s)
 
-  module _ (o : Option ChainStep) (after : List ℕ) (h : k < count) (s : Searched found o after) where
-    pub chain_differs : o ≡ None → Differs ≡ chain_of line w allowance (count - k) k refused rs words
-    chain_differs e =
-        sym (one_more h ∙ ap (λ (o : Option Reported). going_on line w allowance o (after_search (count - (k + 1))))
-        (known_none found (sym s.known_is ∙ ap is_some e)))
+    pub chain_differs : o ≡ None → Differs ≡ chain_of line w allowance (count - k) k so_far rs words
+    chain_differs e = sym (one_more ∙ rw e)
 
-    pub chain_next : (step : ChainStep) → o ≡ Some step → (either : Bool) → either ≡ (refused || step.refused) →
-        chain_of line w allowance (count - (k + 1)) (k + 1) either (responses_of step.state.responses) after
-        ≡ chain_of line w allowance (count - k) k refused rs words
-    chain_next step e either f =
-        let q = known_some found (sym s.known_is ∙ ap is_some e) in
-        let left = s.leaves q.0 step q.1 e in
-        let n = count - (k + 1) in
-        ap (λ (b : Bool). chain_of line w allowance n (k + 1) b (responses_of step.state.responses) after)
-        (f ∙ ap (λ (b : Bool). refused || b) left.refused_is)
-        ∙ ap (λ (x : Responses). chain_of line w allowance n (k + 1) (refused || not (eqb q.0.number 0)) x after)
-        left.responses_are
-        ∙ ap (λ (x : List ℕ). chain_of line w allowance n (k + 1) (refused || not (eqb q.0.number 0)) q.0.responses x)
-        left.table_is
-        ∙ sym (one_more h ∙ ap (λ (o : Option Reported). going_on line w allowance o (after_search n)) q.1)
+    pub chain_next : (r : Report) → o ≡ Some r → (next : Comparison) → next ≡ cond (eqb (ending_number r.ending) 0) so_far Apart →
+        chain_of line w allowance (count - (k + 1)) (k + 1) next (responses_of r.state.responses) after
+        ≡ chain_of line w allowance (count - k) k so_far rs words
+    chain_next r e next f = sym (one_more ∙ rw (e, f))
 
-  pub chain_end : count ≤ k → chain_of line w allowance (count - k) k refused rs words ≡ cond refused Apart Agrees
+  pub chain_end : count ≤ k → chain_of line w allowance (count - k) k so_far rs words ≡ so_far
   unfolding chain_of
   chain_end h =
       let n : count - k ≡ 0 = omega arith in
-      ap (λ (i : ℕ). chain_of line w allowance i k refused rs words) n
+      ap (λ (i : ℕ). chain_of line w allowance i k so_far rs words) n
 
 pub chain_start : (line : List ℕ) (w : Option Player) (allowance count : ℕ) (rs : Responses) (words : List ℕ) →
-    chain_of line w allowance (count - 0) 0 false rs words ≡ chain_of line w allowance count 0 false rs words
+    chain_of line w allowance (count - 0) 0 Agrees rs words ≡ chain_of line w allowance count 0 Agrees rs words
 chain_start line w allowance count rs words =
     let n : count - 0 ≡ count = omega arith in
-    ap (λ (i : ℕ). chain_of line w allowance i 0 false rs words) n
+    ap (λ (i : ℕ). chain_of line w allowance i 0 Agrees rs words) n
 
 -- ---- what stands before the searches
 module _ (line : List ℕ) (n size : ℕ) where
   abbrev from_start : Option Player → ℕ → Option Responses → Comparison
-  from_start w allowance o = for_start o (λ rs. chain_of line w allowance n 0 false rs (replicate size 0))
+  from_start w allowance o = for_start o (λ rs. chain_of line w allowance n 0 Agrees rs (replicate size 0))
 
   abbrev from_allowance : Option Player → Option ℕ → Comparison
   from_allowance w a = for_number a (λ allowance. from_start w allowance (start_of (field 3 line)))
@@ -116,9 +95,9 @@ module _ (line : List ℕ) (n size : ℕ) where
           run_no_start t = sym (has_start ∙ rw t)
 
           pub run_is : (m : Minimax) → b ≡ Some m → (r : Comparison) (words : List ℕ) → words ≡ replicate size 0 →
-              r ≡ chain_of line w allowance n 0 false (responses_of m.responses) words → r ≡ run_of line n size
+              r ≡ chain_of line w allowance n 0 Agrees (responses_of m.responses) words → r ≡ run_of line n size
           run_is m t r words z e =
-              e ∙ ap (chain_of line w allowance n 0 false (responses_of m.responses)) z ∙ sym (has_start ∙ rw t)
+              e ∙ ap (chain_of line w allowance n 0 Agrees (responses_of m.responses)) z ∙ sym (has_start ∙ rw t)
 
 -- ---- a line
 module _ (room : ℕ) (line : List ℕ) (t : ℕ) (e : t ≡ tabs line) where

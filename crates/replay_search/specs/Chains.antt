@@ -1,12 +1,13 @@
 -- A record's line: fields parted by tabs, which are the table's entries, the draw winner, the allowance, the responses at the start, and
 -- three for each search: the position's text, the depth, the numbers. Each search begins with the memory that the one before left.
-use Rattle.std.specs.Prelude.{◌≡◌, Bool, false, not, cond, ◌&&◌, ◌||◌, List, [], ◌∷◌, ℕ, zero, suc, ◌+◌, ◌-◌, ◌*◌, ◌/◌}
-use Rattle.std.specs.Prelude.{◌%◌, eqb, leb, length, replicate, Option, Some, None, is_some, option_map}
+use Rattle.std.specs.Prelude.{Bool, cond, ◌&&◌, List, [], ◌∷◌, ℕ, zero, suc, ◌+◌, ◌-◌, ◌*◌, ◌/◌, ◌%◌, eqb, leb, length, replicate}
+use Rattle.std.specs.Prelude.{Option, Some, None, option_map}
 use Rattle.base.specs.Branch.{when◌then◌else◌}
 use Rattle.rules.specs.declared.Player.{Player}
 use Rattle.rules.specs.Board.{side_from}
 use Rattle.rules.specs.Position.{Position}
 use Rattle.rules.specs.Evaluation.{default_weights, scoring_with}
+use Rattle.theory.specs.Limits.{console}
 use Rattle.theory.specs.Memory.{Responses, no_responses, with_response}
 use Rattle.theory.specs.Reported.{Settings, Reported, reported}
 use Rattle.rules_game.specs.RulesGame.{game}
@@ -20,7 +21,6 @@ use Rattle.replay.specs.declared.totals.Comparison.TheVariants.{Agrees, Apart, D
 use Rattle.replay.specs.Fields.{field, tabs}
 use Rattle.replay.specs.Draws.{draw_of}
 use Rattle.replay.specs.Agreement.{same_numbers}
-use Rattle.replay_search.specs.declared.chain.ChainStep.{ChainStep}
 use Rattle.replay_search.specs.Records.{search_numbers}
 
 -- the most numbers of a field
@@ -74,21 +74,11 @@ module _ (line : List ℕ) (w : Option Player) (allowance : ℕ) where
   going_on None next = Differs
   going_on (Some r) next = next r
 
-  -- n searches from search k on. A refused one, 15 to 18, has document 01's answer
-  unfoldable pub chain_of : ℕ → ℕ → Bool → Responses → List ℕ → Comparison
-  chain_of zero k refused rs words = cond refused Apart Agrees
-  chain_of (suc n) k refused rs words =
-      going_on (search_of k rs words) (λ r. chain_of n (k + 1) (refused || not (eqb r.number 0)) r.responses r.table)
-
--- what one search leaves
-pub record Left (r : Reported) (step : ChainStep) (words : List ℕ) : Type 0 where
-  pub refused_is : step.refused ≡ not (eqb r.number 0)
-  pub responses_are : responses_of step.state.responses ≡ r.responses
-  pub table_is : words ≡ r.table
-
-pub record Searched (found : Option Reported) (step : Option ChainStep) (words : List ℕ) : Type 0 where
-  pub known_is : is_some step ≡ is_some found
-  pub leaves : (r : Reported) (s : ChainStep) → found ≡ Some r → step ≡ Some s → Left r s words
+  -- n searches from search k on, with what is found so far. A refused one, 15 to 18, has document 01's answer
+  unfoldable pub chain_of : ℕ → ℕ → Comparison → Responses → List ℕ → Comparison
+  chain_of zero k so_far rs words = so_far
+  chain_of (suc n) k so_far rs words =
+      going_on (search_of k rs words) (λ r. chain_of n (k + 1) (cond (eqb r.number 0) so_far Apart) r.responses r.table)
 
 -- ---- a line
 abbrev pub for_number : Option ℕ → (ℕ → Comparison) → Comparison
@@ -107,11 +97,15 @@ for_start (Some rs) next = next rs
 unfoldable pub run_of : List ℕ → ℕ → ℕ → Comparison
 run_of line n size =
     for_draw (draw_of (field 1 line)) (λ w. for_number (read_number (field 2 line)) (λ allowance.
-    for_start (start_of (field 3 line)) (λ rs. chain_of line w allowance n 0 false rs (replicate size 0))))
+    for_start (start_of (field 3 line)) (λ rs. chain_of line w allowance n 0 Agrees rs (replicate size 0))))
 
 -- four fields, and three for each of 1 to 999 searches
 abbrev pub has_searches : List ℕ → Bool
 has_searches line = eqb (tabs line % 3) 0 && (leb 2 (tabs line / 3) && leb (tabs line / 3) 1000)
+
+-- a program has room for one entry more than a search takes
+abbrev pub table_room : ℕ
+table_room = console.words + 3
 
 -- with room for so many words
 unfoldable pub outcome_of : ℕ → List ℕ → Comparison

@@ -1,5 +1,6 @@
 -- Digests of bytes (FNV-1a, 64 bits), and what is counted of a memory.
-use Rattle.std.specs.Prelude.{not, cond, List, [], ◌∷◌, ◌++◌, ℕ, zero, suc, ◌+◌, ◌*◌, ◌/◌, ◌%◌, ◌^◌, count_by, eqb}
+use Rattle.std.specs.Prelude.{not, cond, List, [], ◌∷◌, ◌++◌, ℕ, ◌+◌, ◌*◌, ◌%◌, ◌^◌, count_by, eqb, fold}
+use Rattle.std.specs.Int.{w64, to_le_bytes}
 use Rattle.std.specs.Int.Bits.{bit_xor}
 use Rattle.base.specs.Lists.{concat_map}
 use Rattle.rules.specs.Play.{no_move}
@@ -9,17 +10,11 @@ use Rattle.theory.specs.Memory.{Responses}
 unfoldable pub mixed : ℕ → ℕ → ℕ
 mixed h b = bit_xor h b * 0x100000001b3 % 2 ^ 64
 
-unfoldable pub mixed_all : ℕ → List ℕ → ℕ
-mixed_all h [] = h
-mixed_all h (b ∷ bs) = mixed_all (mixed h b) bs
+abbrev pub mixed_all : ℕ → List ℕ → ℕ
+mixed_all h bytes = fold mixed h bytes
 
 abbrev pub digest : List ℕ → ℕ
 digest bytes = mixed_all 0xcbf29ce484222325 bytes
-
--- the n lowest bytes of a word, the lowest first
-unfoldable pub low_bytes : ℕ → ℕ → List ℕ
-low_bytes zero word = []
-low_bytes (suc n) word = word % 256 ∷ low_bytes n (word / 256)
 
 -- ---- response tables: those to X's moves, then those to O's
 abbrev pub responses_digest : Responses → ℕ
@@ -28,9 +23,9 @@ responses_digest rs = digest (rs.to_x ++ rs.to_o)
 abbrev pub response_count : Responses → ℕ
 response_count rs = count_by (λ m. not (eqb m no_move)) (rs.to_x ++ rs.to_o)
 
--- ---- the table: three words to an entry, of which the third is 0 where there is none
+-- ---- the table: eight bytes to a word, the lowest first, and three words to an entry, of which the third is 0 where there is none
 abbrev pub table_digest : List ℕ → ℕ
-table_digest words = digest (concat_map (low_bytes 8) words)
+table_digest words = digest (concat_map (to_le_bytes w64) words)
 
 unfoldable pub entry_count : List ℕ → ℕ
 entry_count [] = 0

@@ -1,49 +1,39 @@
 // A record's searches, run one after the other.
-ghost use Rattle.std.specs.Prelude.{◌≡◌, false, not, ◌≤◌, ◌%◌, eqb, length};
+ghost use Rattle.std.specs.Prelude.{◌≡◌, cond, ◌≤◌, ◌%◌, eqb, option_map};
 ghost use Rattle.rules.specs.Board.{side_from};
 ghost use Rattle.theory.specs.Memory.{no_responses, with_response};
-ghost use Rattle.minimax.specs.Report.{responses_of, ending_number};
-ghost use Rattle.replay_search.specs.Chains.{with_responses, start_of, begun_of, search_of, chain_of, Searched};
-ghost use Rattle.replay_search.specs.Chains.{run_of, outcome_of};
+ghost use Rattle.minimax.specs.Report.{responses_of, ending_number, report_of};
+ghost use Rattle.replay.specs.declared.totals.Comparison.TheVariants.{Agrees as AllAgree, Apart as Refused};
+ghost use Rattle.replay_search.specs.Chains.{with_responses, start_of, begun_of, search_of, chain_of, run_of, table_room, outcome_of};
+ghost use Rattle.replay_search.specs.declared.chain.TheConstants.{ROOM};
 
 use crate::expected;
 use boards::Move;
-use minimax::{Config, Ending, Minimax, ResponseTables};
+use minimax::{Config, Ending, Minimax, Report};
 use replay::Comparison;
 use rules::{Player, Weights};
 
 // The most numbers of a field.
 const MOST: usize = 1024;
 
-// Of a search of which a record says what is reported: whether that is a refusal, and the response tables after it.
-#[derive(Clone, Copy)]
-pub struct ChainStep {
-    pub refused: bool,
-    pub state: Minimax,
-}
+// A table's words, enough for one entry more than a search takes.
+const ROOM: usize = 196611;
 
 // With one response more.
 fn with_response(state: Minimax, side: u64, prev: u64, response: u64) -> Minimax
     ensures { responses_of result.responses
         ≡ with_response (responses_of state.responses) (side_from side) (prev % 256) (response % 256) }
 {
-    let responses = state.responses;
-    let mut x = responses.x;
-    let mut o = responses.o;
+    let mut responses = state.responses;
     let at = (prev % 256) as usize;
     let m = Move {
         bits: (response % 256) as u8,
     };
-    if side == 0 {
-        x[at] = m;
-        return Minimax {
-            responses: ResponseTables { x, o },
-        };
+    match Player::from_number(side) {
+        Player::X => responses.x[at] = m,
+        Player::O => responses.o[at] = m,
     }
-    o[at] = m;
-    Minimax {
-        responses: ResponseTables { x, o },
-    }
+    Minimax { responses }
 }
 
 // The responses that the numbers give, three for each.
@@ -72,13 +62,18 @@ fn begin(text: &[u8]) -> Option<Minimax>
     Some(from_triples(&numbers[..n]))
 }
 
-fn is_refused(ending: Ending) -> bool
-    ensures { result ≡ not (eqb (ending_number ending) 0) }
+// What is found so far, with a search more that is as the record says.
+fn with_search(so_far: Comparison, ending: Ending) -> Comparison
+    ensures { result ≡ cond (eqb (ending_number ending) 0) so_far Refused }
 {
-    matches!(ending, Ending::Refused(_))
+    match ending {
+        Ending::Refused(_) => Comparison::Apart,
+        Ending::Whole | Ending::Stopped => so_far,
+    }
 }
 
-// Search k of a line: none if it can't be read, or if what is reported is not what the record says.
+// The report of search k of a line: none if it can't be read, or if what is reported is not what the record says.
+// Line, draw winner and allowance one by one, as the definition has them: a struct would serve this function and the next alone.
 fn searched(
     line: &[u8],
     draw_winner: Option<Player>,
@@ -86,11 +81,10 @@ fn searched(
     k: usize,
     state: Minimax,
     table: &mut [u64],
-) -> Option<ChainStep>
+) -> Option<Report>
     requires { k ≤ 1000 }
-    ensures { Searched
-        (search_of line.now draw_winner allowance k (responses_of state.responses) table.old)
-        result table.new }
+    ensures { option_map (λ r. report_of r table.new) result
+        ≡ search_of line.now draw_winner allowance k (responses_of state.responses) table.old }
 {
     let Ok(game) = notation::parse(replay::field(line, 3 * k + 4)) else {
         return None;
@@ -105,13 +99,7 @@ fn searched(
         weights: Weights::DEFAULT,
     };
     let found = state.analyze(game, config, table);
-    if !expected::agrees(&numbers[..n], found, table) {
-        return None;
-    }
-    Some(ChainStep {
-        refused: is_refused(found.ending),
-        state: found.state,
-    })
+    expected::agrees(&numbers[..n], found, table).then_some(found)
 }
 
 // The searches of a line, of which there are `count`, each with the memory that the one before left.
@@ -124,29 +112,26 @@ fn replayed(
     table: &mut [u64],
 ) -> Comparison
     requires { count ≤ 1000 }
-    ensures { result ≡ chain_of line.now draw_winner allowance count 0 false (responses_of begun.responses)
+    ensures { result ≡ chain_of line.now draw_winner allowance count 0 AllAgree (responses_of begun.responses)
         table.old }
 {
     let mut state = begun;
-    let mut refused = false;
+    let mut so_far = Comparison::Agrees;
     for k in 0..count {
-        let Some(step) = searched(line, draw_winner, allowance, k, state, table) else {
+        let Some(report) = searched(line, draw_winner, allowance, k, state, table) else {
             return Comparison::Differs;
         };
-        refused |= step.refused;
-        state = step.state;
+        so_far = with_search(so_far, report.ending);
+        state = report.state;
     }
-    if refused {
-        Comparison::Apart
-    } else {
-        Comparison::Agrees
-    }
+    so_far
 }
 
-// The searches of a line, with a table that is cleared first.
-fn run(line: &[u8], count: usize, table: &mut [u64]) -> Comparison
-    requires { count ≤ 1000 }
-    ensures { result ≡ run_of line.now count (length table.old) }
+// The searches of a line, with a table of so many words, all 0.
+fn run(line: &[u8], count: usize, size: usize) -> Comparison
+    requires few { count ≤ 1000 }
+    requires fits { size ≤ ROOM }
+    ensures { result ≡ run_of line.now count size }
 {
     let Some(draw_winner) = replay::draw_of(replay::field(line, 1)) else {
         return Comparison::Differs;
@@ -157,13 +142,20 @@ fn run(line: &[u8], count: usize, table: &mut [u64]) -> Comparison
     let Some(begun) = begin(replay::field(line, 3)) else {
         return Comparison::Differs;
     };
-    table.fill(0);
-    replayed(line, draw_winner, allowance, count, begun, table)
+    let mut words = [0u64; ROOM];
+    replayed(
+        line,
+        draw_winner,
+        allowance,
+        count,
+        begun,
+        &mut words[..size],
+    )
 }
 
 // What is found of a line. One that can't be read differs, as does one whose table has no room.
-pub fn outcome(line: &[u8], words: &mut [u64]) -> Comparison
-    ensures { result ≡ outcome_of (length words.old) line.now }
+pub fn outcome(line: &[u8]) -> Comparison
+    ensures { result ≡ outcome_of table_room line.now }
 {
     let tabs = replay::tabs(line);
     if tabs % 3 != 0 {
@@ -179,10 +171,8 @@ pub fn outcome(line: &[u8], words: &mut [u64]) -> Comparison
     let Some(entries) = decimals::read_number(replay::field(line, 0)) else {
         return Comparison::Differs;
     };
-    let room = words.len() / 3;
-    if entries > room as u64 {
+    if entries > (ROOM / 3) as u64 {
         return Comparison::Differs;
     }
-    let n = (entries as usize) * 3;
-    run(line, thirds - 1, &mut words[..n])
+    run(line, thirds - 1, (entries as usize) * 3)
 }

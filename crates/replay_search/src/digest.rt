@@ -1,75 +1,53 @@
 // What the driver around the Rust prints of a memory: digests (FNV-1a, 64 bits), and how many responses and entries there are.
-ghost use Rattle.std.specs.Prelude.{◌≡◌, not, ◌*◌, ◌%◌, ◌^◌, ◌≤◌, count_by, eqb};
+ghost use Rattle.std.specs.Prelude.{◌≡◌, not, ◌≤◌, count_by, eqb};
+ghost use Rattle.std.specs.Int.{w64, to_le_bytes};
 ghost use Rattle.rules.specs.Play.{no_move};
 ghost use Rattle.minimax.specs.Report.{bytes_of, responses_of};
-ghost use Rattle.replay_search.specs.Digests.{mixed, mixed_all, low_bytes, responses_digest, response_count};
+ghost use Rattle.replay_search.specs.Digests.{mixed, mixed_all, responses_digest, response_count};
 ghost use Rattle.replay_search.specs.Digests.{table_digest, entry_count};
 
 use boards::Move;
-use minimax::Minimax;
+use minimax::{Minimax, ResponseTables};
 
 const START: u64 = 0xcbf29ce484222325;
 
-const HALF: u64 = 4294967296;
-
-// Times the prime, 2^40 + 435, modulo 2^64.
-fn times_prime(x: u64) -> u64
-    ensures { result ≡ x * 0x100000001b3 % 2 ^ 64 }
-{
-    let low = x % HALF;
-    let high = x / HALF;
-    let product = low * 435;
-    let upper = product / HALF + high * 435 + (low % 16777216) * 256;
-    (upper % HALF) * HALF + product % HALF
-}
+const PRIME: u64 = 0x100000001b3;
 
 #[tactic(auto, unfolding(crate::specs::Digests::mixed))]
 fn mixed(h: u64, b: u8) -> u64
     ensures { result ≡ mixed h b }
 {
-    times_prime(h ^ (b as u64))
+    (h ^ u64::from(b)).wrapping_mul(PRIME)
 }
 
 // The eight bytes of a word, the lowest first.
 fn mixed_word(h: u64, word: u64) -> u64
-    ensures { result ≡ mixed_all h (low_bytes 8 word) }
+    ensures { result ≡ mixed_all h (to_le_bytes w64 word) }
 {
-    let mut digest = h;
-    let mut left = word;
-    for _ in 0..8u64 {
-        digest = mixed(digest, (left % 256) as u8);
-        left /= 256;
-    }
-    digest
+    word.to_le_bytes()
+        .iter()
+        .fold(h, |digest, &b| mixed(digest, b))
 }
 
 fn mixed_moves(h: u64, moves: [Move; 256]) -> u64
     ensures { result ≡ mixed_all h (bytes_of moves) }
 {
-    let mut digest = h;
-    for m in &moves {
-        digest = mixed(digest, m.bits);
-    }
-    digest
+    moves.iter().fold(h, |digest, m| mixed(digest, m.bits))
 }
 
 pub fn of_responses(state: Minimax) -> u64
     ensures { result ≡ responses_digest (responses_of state.responses) }
 {
-    let responses = state.responses;
-    let x = responses.x;
-    let o = responses.o;
+    let ResponseTables { x, o } = state.responses;
     mixed_moves(mixed_moves(START, x), o)
 }
 
 pub fn of_table(words: &[u64]) -> u64
     ensures { result ≡ table_digest words.now }
 {
-    let mut digest = START;
-    for word in words {
-        digest = mixed_word(digest, *word);
-    }
-    digest
+    words
+        .iter()
+        .fold(START, |digest, &word| mixed_word(digest, word))
 }
 
 // How many of a side's moves have a response.
@@ -83,9 +61,7 @@ fn responses_to(moves: [Move; 256]) -> usize
 pub fn response_count(state: Minimax) -> u64
     ensures { result ≡ response_count (responses_of state.responses) }
 {
-    let responses = state.responses;
-    let x = responses.x;
-    let o = responses.o;
+    let ResponseTables { x, o } = state.responses;
     (responses_to(x) + responses_to(o)) as u64
 }
 

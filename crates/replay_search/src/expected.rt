@@ -27,17 +27,13 @@ fn ending_number(e: Ending) -> u64
 fn sign(score: i64) -> u64
     ensures { result ≡ sign score }
 {
-    u64::from(score < 0)
+    u64::from(score.is_negative())
 }
 
 fn size(score: i64) -> u64
     ensures { result ≡ nat_abs score }
 {
-    if score < 0 {
-        (-(score + 1)) as u64 + 1
-    } else {
-        score as u64
-    }
+    score.unsigned_abs()
 }
 
 fn depth_numbers(s: Stats) -> [u64; 8]
@@ -59,16 +55,14 @@ fn depth_numbers(s: Stats) -> [u64; 8]
 fn head_numbers(found: Report, table: &[u64]) -> [u64; 9]
     ensures { result ≡ head_numbers (report_of found table.now) }
 {
-    let ending = found.ending;
-    let state = found.state;
     [
-        ending_number(ending),
+        ending_number(found.ending),
         found.count,
         found.depth,
         sign(found.score),
         size(found.score),
-        digest::of_responses(state),
-        digest::response_count(state),
+        digest::of_responses(found.state),
+        digest::response_count(found.state),
         digest::of_table(table),
         digest::entry_count(table),
     ]
@@ -101,10 +95,7 @@ pub fn agrees(numbers: &[u64], found: Report, table: &[u64]) -> bool
     ensures { result ≡ same_numbers numbers.now (search_numbers (report_of found table.now)) }
 {
     let head = head_numbers(found, table);
-    let depth = found.depth;
-    let line = found.pv;
-    let stats = found.stats;
     let begun = Agreement::new(numbers).numbers(&head);
-    let so_far = with_stats(with_line(begun, depth, line), depth, stats);
-    so_far.is_whole()
+    let so_far = with_line(begun, found.depth, found.pv);
+    with_stats(so_far, found.depth, found.stats).is_whole()
 }

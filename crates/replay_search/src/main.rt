@@ -6,33 +6,24 @@ mod chain;
 mod digest;
 mod expected;
 
-ghost use Rattle.replay_search.specs.Chains.{outcome_of};
-ghost use Rattle.replay_search.specs.declared.TheConstants.{ROOM};
+ghost use Rattle.std.specs.Prelude.{◌≡◌};
+ghost use Rattle.replay_search.specs.Chains.{table_room, outcome_of};
 
 use replay::{Comparison, Records};
 
-// A table's words, enough for one entry more than a search takes.
-const ROOM: usize = 196611;
-
-// The records of the list, and the words that a record's table stands in.
-#[derive(Drop)]
-struct Searches {
-    words: [u64; ROOM],
-}
+// The records of the list.
+struct Searches;
 
 impl Records for Searches {
-    ghost outcome_of = { outcome_of ROOM };
+    ghost outcome_of = { outcome_of table_room };
 
-    fn outcome(&mut self, line: &[u8]) -> Comparison {
-        chain::outcome(line, &mut self.words)
+    fn outcome(line: &[u8]) -> Comparison
+        ensures { result ≡ outcome_of table_room line.now }
+    {
+        chain::outcome(line)
     }
 }
 
 fn main(rt: HostRuntime) {
-    let searches = Searches { words: [0; ROOM] };
-    replay::run(
-        searches,
-        rt.stdin(),
-        b"refused as document 01 says (15 to 18)",
-    );
+    replay::run::<Searches>(rt.stdin(), b"refused as document 01 says (15 to 18)");
 }

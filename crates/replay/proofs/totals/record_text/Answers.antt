@@ -6,5 +6,4 @@ use Rattle.replay.proofs.totals.record_text.Goals as goal
 pub returns-in-Differs : goal.returns-in-Differs
 unfolding quoted
 returns-in-Differs c =
-    rw c.in-Differs.is
-    (simp added_append (rw (c.push.ensures, c.decimal.ensures, c.text.ensures, c.new-in-Differs.ensures)))
+    rw c.in-Differs.is (simp added_append (rw (c.push.ensures, c.decimal.ensures, c.text-begun.ensures, c.new.ensures)))

@@ -1,9 +1,10 @@
 -- One of the two tables is changed.
+use mathlib.Core.Path.{sym, ◌∙◌}
 use Rattle.replay_search.proofs.Chains.{with_x, with_o}
 use Rattle.replay_search.proofs.chain.with_response.Goals as goal
 
-pub returns-then-side-eq0 : goal.returns-then-side-eq0
-returns-then-side-eq0 c = let a = c.args in with_x a.state.responses a.side _ _ c.if-side-eq0.true
+pub returns-in-X : goal.returns-in-X
+returns-in-X c = with_x c.args.state.responses _ _ _ (sym c.from_number.ensures ∙ c.in-X.is)
 
-pub returns : goal.returns
-returns c = let a = c.args in with_o a.state.responses a.side _ _ c.if-side-eq0.false
+pub returns-in-O : goal.returns-in-O
+returns-in-O c = with_o c.args.state.responses _ _ _ (sym c.from_number.ensures ∙ c.in-O.is)

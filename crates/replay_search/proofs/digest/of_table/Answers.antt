@@ -1,13 +1,15 @@
--- The words that are left are to be mixed.
-use mathlib.Core.Path.{sym, ◌∙◌}
-use Rattle.replay_search.proofs.Digests.{word_next, words_end}
+-- The words are folded into the digest, each by its bytes.
+use mathlib.Core.Path.{◌∙◌}
+use Rattle.std.proofs.Common.{rules}
+use Rattle.std.proofs.lemmas.Iterator.{YieldsList-from_slice}
+use Rattle.std.proofs.lemmas.Iterator.Consumers.{fold_from_yields_List}
+use Rattle.std.specs.Int.{w64, to_le_bytes}
+use Rattle.replay_search.specs.Digests.{mixed_all}
+use Rattle.replay_search.proofs.Digests.{words_digest}
 use Rattle.replay_search.proofs.digest.of_table.Goals as goal
-
-pub loop-word-preserved : goal.loop-word-preserved
-loop-word-preserved c =
-    let l = c.loop-word in
-    word_next c.args.words.now l.digest l.word-index _ c.loop-word-test.true c.mixed_word-digest.ensures ∙ l.invariant
 
 pub returns : goal.returns
 returns c =
-    let l = c.loop-word in sym (words_end c.args.words.now l.digest l.word-index c.loop-word-test.false) ∙ l.invariant
+    fold_from_yields_List _ (λ d w. mixed_all d (to_le_bytes w64 w)) 0xcbf29ce484222325 _ c.fold.ensures.ran
+    (YieldsList-from_slice c.args.words.now cc) (λ a x b q k. search rules)
+    ∙ words_digest 0xcbf29ce484222325 c.args.words.now
