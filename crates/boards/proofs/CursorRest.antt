@@ -1,4 +1,5 @@
--- The cursor over the rest of what a cursor has left has just that rest left.
+-- The cursor over the rest of what a cursor has left has just that rest left; and what a step gives and leaves.
+use Rattle.std.specs.Prelude.{Option, None, Some}
 use mathlib.Core.Path.{◌≡◌, refl, sym, ap, ap₂, ◌∙◌, subst}
 use mathlib.Core.Bool.{Bool, true, false, not, ◌&&◌, and-true}
 use mathlib.Core.List.{List, [], ◌∷◌, ◌++◌}
@@ -14,8 +15,9 @@ use Rattle.base.proofs.Bool.{and→}
 use Rattle.base.proofs.Lists.{in_elem}
 use borrow.Author.Tests.{eq-eqb}
 use Rattle.rules.specs.Moves.{places}
+use Rattle.boards.specs.declared.moves.Move.{Move}
 use Rattle.boards.specs.declared.moves.MoveIterator.{MoveIterator}
-use Rattle.boards.specs.Cursor.{row_moves, moves_left, row_over, cursor_over}
+use Rattle.boards.specs.Cursor.{row_moves, moves_left, row_over, cursor_over, Lists}
 use Rattle.boards.proofs.Cursor.{cursor_again, row_over_kept, cursor_kept, row_masked}
 
 -- ---- without the first that is kept
@@ -81,3 +83,11 @@ module _ (it : MoveIterator) where
       go : (ms : List ℕ) → moves_left it ≡ ms → moves_left (cursor_over (drop 1 ms)) ≡ drop 1 ms
       go [] e = nothing_left
       go (m ∷ ms) e = rest_left m ms e
+
+  -- ---- what it gives next
+  module _ (next : Option Move) (rest : MoveIterator) (l : Lists it next rest) where
+    pub next_left : (m : Move) → next ≡ Some m → moves_left it ≡ m.bits ∷ moves_left rest
+    next_left m e = (subst (λ (n : Option Move). Lists it n rest) e l).0
+
+    pub none_left : next ≡ None → moves_left it ≡ []
+    none_left e = (subst (λ (n : Option Move). Lists it n rest) e l).0.0

@@ -1,12 +1,12 @@
 -- The lines: the two tables agree, the masks find a line wherever three digits make one, and what nine digits say of a board's state.
 use mathlib.Core.Path.{◌≡◌, refl, sym, ap, ◌∙◌}
 use mathlib.Core.Bool.{Bool, true, false, not, ◌&&◌, not-not}
-use mathlib.Core.List.{map}
+use mathlib.Core.List.{[], map}
 use Prim.Native.Nat.{ℕ, ◌%◌, ◌<◌}
 use native.Mathlib.Nat.{mod-lt}
 use native.Mathlib.Omega.{arith}
 use lib.Bits.{bit_and, and_mask, and_mod, and_le_r}
-use lib.Dec.{eqb, ltb, ltb→lt, lit<}
+use lib.Dec.{eqb, eqb→eq, ltb, ltb→lt, lit<}
 use lib.ListN.{get_or}
 use Rattle.std.specs.List.{list_any}
 use borrow.Author.Tests.{eq-eqb, ne_eqb, not-true, not-false}
@@ -21,7 +21,7 @@ use Rattle.base.proofs.ListsEvery.{up_to_at, same_below}
 use Rattle.base.proofs.Lists.{all_each, from_in}
 use Rattle.base.proofs.Bits.{bit_masked, bit_digits, digits_lt}
 use Rattle.rules.specs.Board.{nine, Line, lines, has_line, result_of}
-use Rattle.lines.specs.Masks.{line_at, masks, mask_of}
+use Rattle.lines.specs.Masks.{line_at, masks, mask_of, indices}
 
 -- each mask has the three places of its line
 pub tables_agree : masks ≡ map mask_of lines
@@ -30,6 +30,9 @@ tables_agree = refl
 -- ---- line i
 abbrev pub mask_at : ℕ → ℕ
 mask_at i = get_or masks i 0
+
+abbrev pub place_at : ℕ → ℕ → ℕ
+place_at i j = get_or (get_or (map indices lines) i []) j 0
 
 abbrev pub Low : Line → Type 0
 Low l = (l.i < 9) × (l.j < 9) × (l.k < 9)
@@ -43,6 +46,17 @@ low i h =
     let t = and→ (ltb (line_at i).i 9) _ (up_to_at low_test 8 tt i h) in
     let u = and→ (ltb (line_at i).j 9) _ t.1 in
     (ltb→lt _ 9 t.0, ltb→lt _ 9 u.0, ltb→lt _ 9 u.1)
+
+place_test : ℕ → Bool
+place_test i = eqb (place_at i 0) (line_at i).i && (eqb (place_at i 1) (line_at i).j && eqb (place_at i 2) (line_at i).k)
+
+-- its three places, in the table of places
+pub places : (i : ℕ) → i < 8 → (place_at i 0 ≡ (line_at i).i) × (place_at i 1 ≡ (line_at i).j) × (place_at i 2 ≡ (line_at i).k)
+unfolding place_test
+places i h =
+    let t = and→ (eqb (place_at i 0) (line_at i).i) _ (up_to_at place_test 8 tt i h) in
+    let u = and→ (eqb (place_at i 1) (line_at i).j) _ t.1 in
+    (eqb→eq _ _ t.0, eqb→eq _ _ u.0, eqb→eq _ _ u.1)
 
 -- ---- the masks
 -- the mask lies in the bits

@@ -49,6 +49,10 @@ module _ (s : SearchState) (words : List ℕ) where
   unfolding answered
   sufficed = simp unary_clauses refl
 
+-- ---- moves as bytes
+pub get_or_bytes : (l : List Move) (i : ℕ) (d : Move) (n : ℕ) → i < length l → byte_of (get_or l i d) ≡ get_or (bytes_of l) i n
+get_or_bytes l i d n h = sym (get_or-map byte_of l i d n h)
+
 -- ---- response tables
 module _ (s : SearchState) (words : List ℕ) (prev : Move) where
   pub response_by : (l : List Move) (w : Player) → responses_to (memory_of s words) (other w) ≡ bytes_of l → prev.bits < length l →

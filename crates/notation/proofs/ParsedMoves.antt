@@ -1,17 +1,18 @@
 -- Reading a move from two bytes, as the code has it.
 use Rattle.std.specs.Prelude.{Ok, Err}
-use mathlib.Core.Path.{◌≡◌, refl, ap}
-use mathlib.Core.Bool.{Bool, true, false, and-false}
+use mathlib.Core.Path.{◌≡◌, refl, sym, ap, ◌∙◌}
+use mathlib.Core.Bool.{Bool, true, false, not, and-false}
 use mathlib.Core.List.{List, [], ◌∷◌}
 use Prim.Native.Nat.{ℕ, ◌+◌, ◌-◌, ◌*◌, ◌≤◌, ◌<◌}
 use native.Mathlib.Omega.{arith}
 use lib.Dec.{leb, leb→le}
 use lib.ListN.{length, get_or}
-use borrow.Author.Tests.{le-leb, lt-leb}
+use borrow.Author.Tests.{not-false, le-leb, lt-leb}
 use Rattle.base.specs.Branch.{when◌then◌else◌}
 use Rattle.base.proofs.Bool.{and→}
 use Rattle.text.specs.Bytes.{first_letter}
 use Rattle.text.specs.MoveText.{reads_move, coordinate, read_letters, read_move}
+use Rattle.text.proofs.MoveText.{Lettered}
 use Rattle.notation.specs.declared.ParseMoveError.{ParseMoveError}
 use Rattle.notation.specs.declared.ParseMoveError.TheVariants.{BadCharacter}
 use Rattle.notation.specs.Parsed.{ParsesMove}
@@ -53,6 +54,9 @@ module _ (c : ℕ) where
   coordinate_small n q =
       let g = good n q in let r = and→ (leb 0x61 c) (leb c 0x69) (rw g.0 tt) in omega (arith, g.1, leb→le c 0x69 r.1)
 
+lettered : (c : ℕ) → coordinate c ≡ true → Lettered c
+lettered c e = let r = and→ (leb 0x61 c) (leb c 0x69) (rw e tt) in record { low = leb→le _ _ r.0; high = leb→le _ _ r.1 }
+
 -- what a byte is, from the test of its letter
 pub ruleset letters = (below_letters, above_letters, a_letter)
 
@@ -82,3 +86,12 @@ module _ (t : List ℕ) (n : length t ≡ 2) where
         let b = good (get_or t 0 0) m p in
         let c = good (get_or t 1 0) k q in
         rw (two t n, b.0, c.0) (ap reads_move (omega (arith, b.1, c.1)))
+
+  -- a byte of which a test says that it is a letter
+  module _ (ok : Bool) (e : ok ≡ coordinate (get_or t 0 0)) where
+    pub first_lettered : not ok ≡ false → Lettered (get_or t 0 0)
+    first_lettered f = lettered (get_or t 0 0) (sym e ∙ not-false ok f)
+
+    module _ (f : not ok ≡ false) (ok' : Bool) (e' : ok' ≡ coordinate (get_or t 1 0)) where
+      pub second_lettered : not ok' ≡ false → Lettered (get_or t 1 0)
+      second_lettered g = lettered (get_or t 1 0) (sym e' ∙ not-false ok' g)

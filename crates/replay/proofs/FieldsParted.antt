@@ -1,13 +1,14 @@
--- What stands before the first tab, and after it, by its place.
+-- What stands before the first tab, and after it, by its place; and a field, a byte at a time.
 use mathlib.Core.Path.{◌≡◌, refl, sym, ap, ◌∙◌}
 use mathlib.Core.Bool.{Bool, true, false, cond, not}
 use mathlib.Core.List.{List, [], ◌∷◌}
 use Prim.Native.Nat.{ℕ, suc, ◌+◌, ◌-◌, ◌<◌, ◌≤◌}
+use native.Mathlib.Numerals.{add-one}
 use native.Mathlib.Omega.{arith}
 use lib.Dec.{eqb, ltb}
-use lib.ListN.{length, take, drop, drop_of_length-le, length-drop}
-use lib.Seq.{take_all}
-use borrow.Author.Tests.{ltb-true, ltb-false}
+use lib.ListN.{length, get_or, take, drop, drop_of_length-le, length-drop}
+use lib.Seq.{take_all, drop-cons}
+use borrow.Author.Tests.{eq-eqb, ne_eqb, ltb-true, ltb-false}
 use Rattle.std.specs.Prelude.{Some, None, ◌==◌, position}
 use Rattle.std.proofs.lemmas.Option.{cond_some, none-some}
 use Rattle.std.specs.List.{position_or_len}
@@ -69,6 +70,23 @@ module _ (line : List ℕ) where
   pub past_end : None ≡ position (λ b. b == 9) line → [] ≡ past_tab line
   past_end e =
       let h : length line ≤ first line + 1 = omega (arith, no_tab line e) in sym (drop_of_length-le line h) ∙ past_first line
+
+-- ---- a byte at a time: a tab ends a field, and no other byte does
+module _ (line : List ℕ) (i : ℕ) (h : i < length line) where
+  next_byte : drop i line ≡ get_or line i 0 ∷ drop (i + 1) line
+  next_byte = drop-cons line i 0 h ∙ rw (add-one i)
+
+  pub until_more : (get_or line i 0 ≡ 9 → ⊥) → length (until_tab (drop i line)) ≡ suc (length (until_tab (drop (i + 1) line)))
+  unfolding until_tab when◌then◌else◌
+  until_more ne = rw (next_byte, ne_eqb (get_or line i 0) 9 ne)
+
+  pub until_no_more : get_or line i 0 ≡ 9 → length (until_tab (drop i line)) ≡ 0
+  unfolding until_tab when◌then◌else◌
+  until_no_more e = rw (next_byte, eq-eqb (get_or line i 0) 9 e)
+
+pub until_past_end : (line : List ℕ) (i : ℕ) → length line ≤ i → length (until_tab (drop i line)) ≡ 0
+unfolding until_tab
+until_past_end line i h = rw (drop_of_length-le line h)
 
 -- ---- field by field
 pub field_next : (k : ℕ) (line : List ℕ) → field (suc k) line ≡ field k (past_tab line)

@@ -56,6 +56,13 @@ module _ (p : Position) where
       go [] h = refl
       go (m ∷ ms) h = absurd (omega arith)
 
+  pub some_expected : (length (listed_moves p) ≡ 0 → ⊥) → expected_moves p ≡ listed_moves p
+  some_expected h = go (listed_moves p) h
+    where
+      go : (ms : List ℕ) → (length ms ≡ 0 → ⊥) → or_first ms ≡ ms
+      go [] h = absurd (h refl)
+      go (m ∷ ms) h = refl
+
   -- ---- where moves are judged
   as_it_is : (s : GameState) → s ≡ p.state → T (in_play s) → reopened p ≡ p
   as_it_is InPlay e t = λ i. record { turn = p.turn; next_board = p.next_board; cells = p.cells; states = p.states; state = e i }

@@ -1,2 +1,3 @@
+pub mod Scores
 pub mod Records
 pub mod RecordsAgreed

@@ -1,5 +1,5 @@
 -- What is found of a record, by what its fields are read as.
-use Rattle.std.specs.Prelude.{Option, Some, Result, Ok, Err}
+use Rattle.std.specs.Prelude.{Option, Some, None, Result, Ok, Err}
 use mathlib.Core.Path.{◌≡◌, sym, ap, ◌∙◌}
 use mathlib.Core.Bool.{Bool, true, false}
 use mathlib.Core.List.{List}
@@ -10,6 +10,7 @@ use Rattle.base.specs.Branch.{when◌then◌else◌}
 use Rattle.rules.specs.declared.Player.{Player}
 use Rattle.rules.specs.Evaluation.{default_weights, scoring_with, evaluate, evaluated}
 use Rattle.rules.proofs.Evaluation.{evaluated_accepted, defaults_accepted}
+use Rattle.text.specs.Reading.{read, reads}
 use Rattle.game.specs.declared.Game.{Game}
 use Rattle.game.specs.Meaning.{position_of}
 use Rattle.decimals.specs.Numbers.{read_signed}
@@ -35,6 +36,18 @@ module _ (w : Option Player) (g : Game) (r : Result ℤ BadWeight) (evaluates : 
 
   pub value_is : {v : ℤ} → r ≡ Ok v → v ≡ evaluate (scoring_with w default_weights) (position_of g)
   value_is q = cc (evaluates.value, accepted, q)
+
+module _ (position draw score : List ℕ) (r : Result Game ParseError) (parses : Parses position r) where
+  -- a text that is no position
+  pub refused_differs : {e : ParseError} → r ≡ Err e → false ≡ agrees position draw score
+  refused_differs q = rw (sym parses.says ∙ ap reading_of q)
+
+  read_as : {g : Game} → r ≡ Ok g → read position ≡ reads (position_of g)
+  read_as q = sym parses.says ∙ ap reading_of q
+
+  -- a field that says no draw winner
+  pub no_draw_differs : {g : Game} → r ≡ Ok g → draw_of draw ≡ None → false ≡ agrees position draw score
+  no_draw_differs q d = rw (read_as q, d)
 
 -- a position's text, a draw winner, and the score in question
 pub scored : (position draw score : List ℕ) (r : Result Game ParseError) → Parses position r → {g : Game} → r ≡ Ok g →

@@ -58,6 +58,11 @@ module _ (ns : List ℕ) where
   whole_record xs a r e h = h ∙ ap (wholly_agrees) e ∙ compared_is_same ns xs
 
   module _ (kind : ℕ) (bytes : List ℕ) where
+    pub question_compared : (a b r : Option (List ℕ)) → a ≡ compared (Some ns) kind → b ≡ compared a (length bytes) →
+        r ≡ compared_all b bytes → r ≡ compared_all (Some ns) (kind ∷ length bytes ∷ bytes)
+    question_compared a b r e f g =
+        g ∙ ap (λ (q : Option (List ℕ)). compared_all q bytes) (f ∙ ap (λ (q : Option (List ℕ)). compared q (length bytes)) e)
+
     module _ (answer : List ℕ) (q a : Option (List ℕ)) (r : Bool) where
       pub answer_compared : q ≡ compared_all (Some ns) (kind ∷ length bytes ∷ bytes) → a ≡ compared_all q answer →
           r ≡ wholly_agrees a → r ≡ same_numbers ns (with_bytes kind bytes answer)

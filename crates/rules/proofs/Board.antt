@@ -2,7 +2,7 @@
 use mathlib.Core.Path.{◌≡◌, refl, sym, subst}
 use mathlib.Core.Bool.{Bool, not}
 use mathlib.Core.Logic.{◌⊎◌, inl, inr}
-use Prim.Native.Nat.{ℕ, ◌<◌}
+use Prim.Native.Nat.{ℕ, ◌≤◌, ◌<◌}
 use native.Mathlib.Omega.{arith}
 use lib.Dec.{T, T_not, not_T, eqb, eqb→eq}
 use lib.ListN.{get_or}
@@ -15,7 +15,7 @@ use Rattle.rules.specs.declared.Player.{Player}
 use Rattle.rules.specs.declared.Player.TheVariants.{X, O}
 use Rattle.rules.specs.declared.GameState.{GameState}
 use Rattle.rules.specs.declared.GameState.TheVariants.{InPlay, Drawn, Won}
-use Rattle.rules.specs.Board.{other, same, sides, in_play, won_by, nine, lines, all_three, has_line, result_of}
+use Rattle.rules.specs.Board.{other, same, sides, in_play, won_by, drawn, state_number, nine, lines, all_three, has_line, result_of}
 
 -- ---- sides
 pub same_self : (w : Player) → T (same w w)
@@ -59,11 +59,23 @@ pub nine_at : (i : ℕ) → i < 9 → get_or nine i 0 ≡ i
 nine_at i h = eqb→eq (get_or nine i 0) i (up_to_at (λ i. eqb (get_or nine i 0) i) 9 tt i h)
 
 -- ---- states
+pub state_most : (g : GameState) → state_number g ≤ 3
+state_most InPlay = omega arith
+state_most Drawn = omega arith
+state_most (Won X) = omega arith
+state_most (Won O) = omega arith
+
 -- a board in play is nobody's
 pub open_not_won : (w : Player) (g : GameState) → T (in_play g) → T (not (won_by w g))
 open_not_won w InPlay t = tt
 open_not_won w Drawn t = tt
 open_not_won w (Won v) t = absurd t
+
+-- a drawn board is won by nobody
+pub drawn_is_nobodys : (w : Player) (g : GameState) → T (drawn g) → T (not (won_by w g))
+drawn_is_nobodys w InPlay t = tt
+drawn_is_nobodys w Drawn t = tt
+drawn_is_nobodys w (Won v) t = absurd t
 
 pub won_by_is : (w : Player) (g : GameState) → g ≡ Won w → T (won_by w g)
 won_by_is w g e = subst (λ (x : GameState). T (won_by w x)) (sym e) (same_self w)

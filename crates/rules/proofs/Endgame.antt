@@ -448,6 +448,14 @@ analysis_unsound p t u =
     analysis_cases p (λ a. a ≡ nothing_said 14) (λ v. absurd (T_not (unfinished p) v t)) (λ _ v. absurd (T_not (sound p) u v))
     (λ _ _. refl)
 
+-- and no other is
+pub analysis_refuses : (p : Position) → ((analysis p).refusal ≡ 14) ↔ (T (unfinished p) × T (not (sound p)))
+analysis_refuses p = (
+  analysis_cases p (λ a. a.refusal ≡ 14 → T (unfinished p) × T (not (sound p))) (λ _ e. absurd (omega arith))
+      (λ _ _ e. absurd (omega arith)) (λ t u _. (t, u)),
+  λ h. ap (λ (a : Analysis). a.refusal) (analysis_unsound p h.0 h.1),
+)
+
 -- ---- a move, judged
 -- the number that a try gives: 0 where the move is played
 abbrev pub number_of : Tried → ℕ

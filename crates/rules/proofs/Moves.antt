@@ -1,17 +1,17 @@
 -- Laws of the list of moves: it is what play accepts of all 81 places, which stand there once each and rising.
-use mathlib.Core.Path.{subst}
-use mathlib.Core.Bool.{Bool, true, ◌&&◌}
+use mathlib.Core.Path.{◌≡◌, subst}
+use mathlib.Core.Bool.{Bool, true, not, ◌&&◌}
 use mathlib.Core.List.{List, [], ◌∷◌, map}
 use mathlib.Core.Logic.{◌↔◌, inl, inr}
 use Prim.Native.Nat.{ℕ, ◌<◌}
 use native.Mathlib.Omega.{arith}
-use lib.Dec.{T, ltb}
+use lib.Dec.{T, ltb, T_not}
 use Rattle.base.specs.Lists.{all, filter, In, elem, unique, concat_map}
 use Rattle.base.proofs.Bool.{and→, →and}
 use Rattle.base.proofs.Branch.{if_ind}
-use Rattle.base.proofs.Lists.{all_each, each_all, filter_in, in_filter, unique_filter, in_concat_map}
+use Rattle.base.proofs.Lists.{all_each, each_all, no_member, filter_in, in_filter, unique_filter, in_concat_map}
 use Rattle.rules.specs.Board.{nine}
-use Rattle.rules.specs.Position.{Position}
+use Rattle.rules.specs.Position.{Position, unfinished}
 use Rattle.rules.specs.Play.{move_of, board_of, cell_of, accepts}
 use Rattle.rules.specs.Moves.{places, moves}
 use Rattle.rules.proofs.Board.{in_nine}
@@ -65,3 +65,8 @@ rising_filter f (x ∷ xs) t =
 pub moves_rise : (p : Position) → T (rising (moves p))
 unfolding moves places concat_map rising all
 moves_rise p = rising_filter (accepts p) places tt
+
+-- ---- a finished game
+-- a finished game has no moves
+pub finished_has_no_moves : (p : Position) → T (not (unfinished p)) → moves p ≡ []
+finished_has_no_moves p t = no_member (moves p) (λ m i. T_not (unfinished p) t (accepts→ p m ((moves_are_accepted p m).0 i)).unfinished)

@@ -1,10 +1,10 @@
 -- Laws of playing a move: what an accepted one meets, the order of the refusals, and where a try leaves the position.
 use Rattle.std.specs.Prelude.{None, Some}
 use mathlib.Core.Path.{◌≡◌, refl, sym, ap, ◌∙◌, subst}
-use mathlib.Core.Bool.{Bool, true, false, not, ◌&&◌}
+use mathlib.Core.Bool.{Bool, true, false, not, cond, ◌&&◌}
 use mathlib.Core.List.{List, [], ◌∷◌, ◌++◌}
 use mathlib.Core.Logic.{inl, inr}
-use Prim.Native.Nat.{ℕ, ◌≤◌, ◌<◌}
+use Prim.Native.Nat.{ℕ, ◌+◌, ◌≤◌, ◌<◌}
 use native.Mathlib.Omega.{arith}
 use lib.Dec.{T, ltb, ltb→lt, lt→ltb, T_not, not_T}
 use Rattle.base.specs.Branch.{when◌then◌else◌}
@@ -14,12 +14,12 @@ use Rattle.base.proofs.Branch.{if_ind}
 use Rattle.base.proofs.Lists.{some_any}
 use Rattle.base.proofs.Checks.{failed_number, rising, InOrder, first_in_order}
 use Rattle.rules.specs.declared.Effect.{Effect}
-use Rattle.rules.specs.Board.{drawn, nine}
+use Rattle.rules.specs.Board.{drawn, state_number, nine}
 use Rattle.rules.specs.Position.{is_free, Position, unfinished, open_board, free_cell}
 use Rattle.base.specs.Checks.{all_pass, first_failed}
 use Rattle.rules.specs.Play.{move_of, board_of, cell_of, may, checks, accepts, after, played, refused, play, left_by, tried}
-use Rattle.rules.specs.Play.{reached, effect_in, no_effect, effect, last_effect}
-use Rattle.rules.proofs.Board.{in_nine, result_cases}
+use Rattle.rules.specs.Play.{reached, effect_in, no_effect, effect, last_effect, effect_number}
+use Rattle.rules.proofs.Board.{in_nine, state_most, result_cases}
 
 -- ---- two positions that agree place by place are one
 pub same_position : (p q : Position) → p.turn ≡ q.turn → p.next_board ≡ q.next_board →
@@ -139,6 +139,13 @@ pub last_is_last : (e : Effect) (p : Position) (ms : List ℕ) (m : ℕ) → las
 unfolding last_effect reached
 last_is_last e p [] m = refl
 last_is_last e p (n ∷ ms) m = last_is_last (effect p n) (tried p n) ms m
+
+pub effect_most : (e : Effect) → effect_number e ≤ 7
+effect_most e = most e.free_choice
+  where
+    most : (free : Bool) → state_number e.board + cond free 4 0 ≤ 7
+    most true = omega (arith, state_most e.board)
+    most false = omega (arith, state_most e.board)
 
 -- ---- the order of the refusals
 -- n is 9 to 13, every check with a smaller number passes, and the one with number n fails

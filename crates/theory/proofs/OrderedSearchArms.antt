@@ -1,20 +1,24 @@
 -- The arms of the search and of one turn over the moves, as equations: each test that a definition makes, answered, leaves that test's arm.
 use Rattle.std.specs.Prelude.{Option, None, Some}
-use mathlib.Core.Path.{◌≡◌, refl, ap, ◌∙◌}
-use mathlib.Core.Bool.{true, false}
-use mathlib.Core.List.{List, [], ◌∷◌}
+use mathlib.Core.Path.{◌≡◌, refl, sym, ap, ◌∙◌}
+use mathlib.Core.Bool.{Bool, true, false, ◌||◌, true≢false, false≢true}
+use mathlib.Core.List.{List, [], ◌∷◌, ◌++◌}
 use Prim.Native.Nat.{ℕ, zero, suc, ◌-◌, ◌<◌}
 use native.Mathlib.Omega.{arith}
+use lib.Dec.{eqb, eqb→eq}
 use lib.IntN.{ℤ, neg_ℤ}
 use lib.ListN.{replicate}
 use lib.Signed.{le_z, lt_z}
 use Rattle.base.specs.Branch.{when◌then◌else◌}
+use Rattle.base.specs.Lists.{elem}
+use Rattle.base.proofs.ListsAgree.{false_by}
+use Rattle.base.proofs.Branch.{if_ind}
 use Rattle.rules.specs.Play.{no_move}
 use Rattle.theory.specs.Game.{Game}
 use Rattle.theory.specs.Table.{Entry, look_up, suffices}
-use Rattle.theory.specs.Memory.{Memory, enter, leaf, hit, answered, cut}
+use Rattle.theory.specs.Memory.{Memory, enter, leaf, hit, answered, cut, some_move, hints}
 use Rattle.theory.specs.OrderedSearch.{Allowance, has_room, Outcome, stopped, found, unless_stopped, entering, Probed, probed}
-use Rattle.theory.specs.OrderedSearch.{probe, on_probe, with_stored, set_first, candidates, Search, over_moves, search}
+use Rattle.theory.specs.OrderedSearch.{probe, on_probe, with_stored, set_first, fresh, candidates, Search, over_moves, search}
 
 -- ---- a position that is not searched further
 pub search_stopped : (G : Game) (n : Allowance) (d : ℕ) (p : G.Pos) (a b : ℤ) (pv : List ℕ) (prev : ℕ) (s : Memory) →
@@ -84,6 +88,52 @@ module _ (G : Game) (n : Allowance) (d : ℕ) (p : G.Pos) (a b : ℤ) (pv : List
       (replicate (d - 1) no_move) (hit (enter s))) (λ r line' s₃. found r line' (with_stored s₃ (G.key p) d a b r line'))
   unfolding probed on_probe when◌then◌else◌
   search_some e l t = asked (Some e) l ∙ rw t
+
+-- ---- the moves that are tried
+-- one turn of `fresh` from each of two lists seen: ok is whether the move is accepted, c and c' whether it was seen, w and w' what is left
+-- if it was, x and x' what is left if it was not
+turn_same : (ok c c' : Bool) (m : ℕ) (w w' x x' : List ℕ) → (ok ≡ true → c ≡ c') → w ≡ w' → x ≡ x' →
+    (ok ≡ false → w ≡ x') → (ok ≡ false → x ≡ w') →
+    (when c then (λ _. w) else λ _. when ok then (λ _. m ∷ x) else λ _. x) ≡
+    (when c' then (λ _. w') else λ _. when ok then (λ _. m ∷ x') else λ _. x')
+unfolding when◌then◌else◌
+turn_same true true true m w w' x x' e p q y z = p
+turn_same true true false m w w' x x' e p q y z = absurd (true≢false (e refl))
+turn_same true false true m w w' x x' e p q y z = absurd (false≢true (e refl))
+turn_same true false false m w w' x x' e p q y z = ap (λ (l : List ℕ). m ∷ l) q
+turn_same false true true m w w' x x' e p q y z = p
+turn_same false true false m w w' x x' e p q y z = y refl
+turn_same false false true m w w' x x' e p q y z = z refl
+turn_same false false false m w w' x x' e p q y z = q
+
+module _ (ok : ℕ → Bool) where
+  -- what is accepted is not what is not
+  other_move : (m k : ℕ) → ok m ≡ false → ok k ≡ true → eqb k m ≡ false
+  other_move m k f t = false_by (eqb k m) (λ u. true≢false (sym t ∙ ap ok (eqb→eq k m u) ∙ f))
+
+  -- lists seen that agree on what is accepted leave the same
+  pub fresh_seen : (seen seen' ms : List ℕ) → ((k : ℕ) → ok k ≡ true → elem k seen ≡ elem k seen') →
+      fresh ok seen ms ≡ fresh ok seen' ms
+  unfolding fresh elem
+  fresh_seen seen seen' [] h = refl
+  fresh_seen seen seen' (m ∷ ms) h = turn_same (ok m) (elem m seen) (elem m seen') m _ _ _ _ (h m)
+      (fresh_seen seen seen' ms h)
+      (fresh_seen (m ∷ seen) (m ∷ seen') ms (λ k t. ap (λ (c : Bool). eqb k m || c) (h k t)))
+      (λ f. fresh_seen seen (m ∷ seen') ms (λ k t. h k t ∙ ap (λ (c : Bool). c || elem k seen') (sym (other_move m k f t))))
+      (λ f. fresh_seen (m ∷ seen) seen' ms (λ k t. ap (λ (c : Bool). c || elem k seen) (other_move m k f t) ∙ h k t))
+
+  -- a move that is not accepted, in front, is passed over
+  fresh_passes : (m : ℕ) (ms : List ℕ) → ok m ≡ false → fresh ok [] (m ∷ ms) ≡ fresh ok [] ms
+  unfolding fresh elem when◌then◌else◌
+  fresh_passes m ms f = rw f (fresh_seen (m ∷ []) [] ms (λ k t. ap (λ (c : Bool). c || false) (other_move m k f t)))
+
+-- an entry without a move names none
+pub candidates_some : (G : Game) (s : Memory) (p : G.Pos) (prev : ℕ) (pv : List ℕ) (m : ℕ) → G.accepts p no_move ≡ false →
+    candidates G (m ∷ []) s p prev pv ≡ candidates G (some_move m) s p prev pv
+unfolding some_move candidates
+candidates_some G s p prev pv m f = if_ind (λ l. candidates G (m ∷ []) s p prev pv ≡ candidates G l s p prev pv) (eqb m no_move) _ _
+    (λ t. fresh_passes (G.accepts p) m (hints (G.turn p) s prev pv ++ G.moves p) (ap (G.accepts p) (eqb→eq m no_move t) ∙ f))
+    (λ _. refl)
 
 -- ---- one turn over the moves: m is searched below
 module _ (G : Game) (below : Search G) (p : G.Pos) (b : ℤ) (prev m : ℕ) (ms : List ℕ) (a : ℤ) (pv low : List ℕ) (s : Memory)

@@ -1,21 +1,24 @@
 -- A run, read by read; and what its program holds where the input ended: the last line of all that came.
 use mathlib.Core.Path.{◌≡◌, refl, sym, ap, ◌∙◌, subst}
 use mathlib.Core.Bool.{Bool, true, false, cond, ◌&&◌, true≢false}
-use mathlib.Core.List.{List, [], ◌∷◌, map}
+use mathlib.Core.List.{List, [], ◌∷◌, ◌++◌, map}
 use Prim.Native.Nat.{ℕ, ◌-◌, ◌<◌, ◌≤◌}
 use native.Mathlib.Omega.{arith}
-use lib.Dec.{ltb}
-use lib.ListN.{length, take}
+use lib.Dec.{eqb, ltb}
+use lib.ListN.{length, take, length-take}
 use borrow.Author.Tests.{ltb-true, ltb-false}
 use Rattle.std.specs.Prelude.{Option, Some, None, IsSome, option_map}
 use Rattle.std.proofs.lemmas.Option.{none-some}
 use Rattle.text.specs.Bytes.{quoted}
+use Rattle.text.specs.Padded.{padded}
+use Rattle.text.proofs.Padded.{length_padded}
+use Rattle.line_buffer.specs.declared.LineBuffer.{LineBuffer}
 use Rattle.line_buffer.specs.Buffer.{buffer_of}
 use Rattle.answer_text.specs.declared.AnswerText.{AnswerText}
-use Rattle.answer_text.specs.AnswerBytes.{text_of_bytes}
+use Rattle.answer_text.specs.AnswerBytes.{added, text_of_bytes}
 use Rattle.program_reads.specs.declared.Program.{Program}
 use Rattle.program_reads.specs.Lines.{Split, split, with_byte, split_bytes, last_line, answers, input_of}
-use Rattle.program_reads.specs.Promises.{bytes_written, fed}
+use Rattle.program_reads.specs.Promises.{buffer_answer, last_answer, bytes_written, fed}
 use Rattle.program_reads.proofs.Lines.{split_append}
 use Rattle.program_reads.proofs.Promises.{Holds, new_holds, last_written, fed_holds}
 use Rattle.ultimattt.specs.declared.ProgramRun.{ProgramRun}
@@ -240,3 +243,31 @@ reads_used_up s steps w q = sym (reads_counted new_run s steps w q)
 pub concluded : (r : ProgramRun) (x y : Option AnswerText) (w : Bool) → x ≡ last_of_run r.progress r.program → (x ≡ None → w ≡ true) →
     y ≡ option_map text_of_bytes (told_of_run r.progress w) → Concluded r (record { text = x; told = y })
 concluded r x y w e k f = (w, λ i. record { text = e i; told = f i }, k)
+
+-- ---- the room of the last text
+added_room : (o : AnswerText) (b : ℕ) → length (added o b).bytes ≤ 224
+unfolding added
+added_room o b = omega (arith, length-take 224 (o.bytes ++ (b ∷ [])))
+
+last_room : (h : LineBuffer) (o : AnswerText) → Some o ≡ last_answer h → length o.bytes ≤ 224
+last_room h o e = go (eqb (length h.kept) 0) e
+  where
+    go : (c : Bool) → Some o ≡ cond c None (Some (buffer_answer h)) → length o.bytes ≤ 224
+    go true e = absurd (none-some _ (sym e))
+    go false e = let q : o ≡ buffer_answer h = cc in rw q (added_room _ _)
+
+-- it has at most 224 bytes, and so stands in a row of 224
+pub last_of_run_room : (x : Progress) (p : Program) (o : AnswerText) → Some o ≡ last_of_run x p →
+    (length o.bytes ≤ 224) × (length (padded 224 o.bytes) ≡ 224)
+last_of_run_room InputEnded p o e = (last_room p.line o e, length_padded 224 o.bytes)
+last_of_run_room Reading p o e = absurd (none-some _ (sym e))
+last_of_run_room ReadFailed p o e = absurd (none-some _ (sym e))
+last_of_run_room WriteFailed p o e = absurd (none-some _ (sym e))
+
+-- and nothing of the answer is cut off
+pub last_of_run_whole : (x : Progress) (p : Program) (o : AnswerText) → Some o ≡ last_of_run x p → (line : List ℕ) → Holds p line →
+    o.bytes ≡ answers (last_line line)
+last_of_run_whole InputEnded p o e line h = ap bytes_written e ∙ last_written line p.line h
+last_of_run_whole Reading p o e line h = absurd (none-some _ (sym e))
+last_of_run_whole ReadFailed p o e line h = absurd (none-some _ (sym e))
+last_of_run_whole WriteFailed p o e line h = absurd (none-some _ (sym e))
