@@ -41,6 +41,10 @@ module _ (c : ℕ) where
       go true r q = cc
       go false r q = (r, cc)
 
+  -- a byte that is no letter is named itself
+  pub names_itself : (e : ParseMoveError) → coordinate_of c ≡ Err e → e ≡ BadCharacter c
+  names_itself e q = (bad e q).1
+
   good : (n : ℕ) → coordinate_of c ≡ Ok n → (coordinate c ≡ true) × (n ≡ c - first_letter)
   unfolding coordinate_of when◌then◌else◌
   good n q = go (coordinate c) refl q

@@ -32,7 +32,7 @@ due : (c : Joined-byte-eq64) → let i = c.loop-board.board in c.if-byte-eq64.ne
     (when eqb (get_or c.args.overall.now i 0) at_mark then (λ _. Some i) else λ _. c.loop-board.next_board)
 unfolding when◌then◌else◌
 due c = elim c.if-byte-eq64.branch [
-  | then-byte-eq64 w ↦ w.next_board-is ∙ rw (eq-eqb _ at_mark w.if-byte-eq64.true)
+  | then-byte-eq64 w ↦ w.next_board-is ∙ rw (eq-eqb _ at_mark w.if-byte-eq64.true) (search rules)
   | else-byte-eq64 w ↦ w.next_board-is ∙ rw (ne_eqb _ at_mark w.if-byte-eq64.false)
 ]
 

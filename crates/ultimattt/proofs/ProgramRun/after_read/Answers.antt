@@ -12,7 +12,7 @@ returns-in-Err c = read_failed _ _ _ (ap result_ok c.in-Err.is)
 
 pub returns-in-Ok-eq0 : goal.returns-in-Ok-eq0
 returns-in-Ok-eq0 c =
-    let x = c.in-Ok-eq0 in input_ended _ _ _ (ap result_ok x.is ∙ ap Some (rw x.field-0-is at x.field-0-test))
+    let x = c.in-Ok-eq0 in input_ended _ _ _ (ap result_ok x.is ∙ ap Some (omega (arith, x.field-0-is, x.field-0-test)))
 
 pub returns-in-Ok : goal.returns-in-Ok
 returns-in-Ok c =
