@@ -1,16 +1,16 @@
--- The moves and stats of a report: what the array functions give, and the parts joined.
+-- The moves and stats of a report: what the array functions give, the stats one by one, and the parts joined.
 use mathlib.Core.Path.{◌≡◌, refl, sym, ap, ◌∙◌}
 use mathlib.Core.List.{List, [], ◌∷◌, ◌++◌, map}
-use Prim.Native.Nat.{ℕ, ◌+◌, ◌*◌, ◌≤◌, ◌<◌}
+use Prim.Native.Nat.{ℕ, suc, ◌+◌, ◌*◌, ◌≤◌, ◌<◌}
 use native.Mathlib.Omega.{arith}
+use native.Mathlib.Numerals.{add-one}
 use denote.Param.Members.{Mut}
 use Rattle.std.specs.Fn.{Called}
-use Rattle.std.specs.Array.{IsMapOf, IsFromFnResult}
-use Rattle.std.specs.List.{flat_map}
+use Rattle.std.specs.Array.{IsFromFnResult}
 use Rattle.std.proofs.Common.{get_or-take, get_or-drop, length-take-le, ext_get_or, length-drop, length-append}
 use Rattle.std.proofs.lemmas.List.{get_or-map, length-map}
-use lib.ListN.{length, get_or, take, drop}
-use lib.Seq.{sets}
+use lib.ListN.{length, get_or, take, drop, drop_of_length-le}
+use lib.Seq.{drop-cons, sets}
 use Rattle.base.proofs.Arrays.{from_fn_each}
 use Rattle.theory.specs.Deepening.{Stats as Meant}
 use Rattle.theory.specs.Reported.{Reported}
@@ -22,16 +22,14 @@ use Rattle.interface.specs.Calls.{stats_words, all_stats, head_words, report_wor
 use Rattle.interface.proofs.LentPlaces.{sets_join}
 
 -- ---- what the library's array functions give
--- each element mapped, by a closure that gives the same at each call
-module _ {F A B : Type 0} (g : Mut F (A × Unit {0}) B) (h : A → B) (f : F) where
-  pub mapped : (xs : List A) (ys : List B) (n : ℕ) → length xs ≡ n → IsMapOf g f xs ys n →
-      ((p q : F) (x : A) (y : B) → Called g p (x, tt) y q → y ≡ h x) → ys ≡ map h xs
-  mapped [] [] n long m computes = refl
-  mapped [] (y ∷ ys) n long m computes = absurd (omega (arith, m.long))
-  mapped (x ∷ xs) [] n long m computes = absurd (omega (arith, m.long))
-  mapped (x ∷ xs) (y ∷ ys) n long m computes =
-      ext_get_or y (y ∷ ys) (map h (x ∷ xs)) (m.long ∙ sym long ∙ sym (length-map (x ∷ xs) h)) λ k lt.
-      computes _ _ _ _ (m.at k x y (omega (arith, m.long))).2 ∙ sym (get_or-map h (x ∷ xs) k x y (omega (arith, m.long)))
+-- an array mapped, by a closure of the place that gives the same at each call
+module _ {F A B : Type 0} (g : Mut F (ℕ × Unit {0}) B) (f : F) (h : A → B) (xs : List A) (d : A)
+    (computes : (i : ℕ) (y : B) (q : F) → Called g f (i, tt) y q → (y ≡ h (get_or xs i d)) × (q ≡ f)) where
+  pub each_made : (ys : List B) (n : ℕ) → length xs ≡ n → IsFromFnResult g f ys n → ys ≡ map h xs
+  each_made ys n long r =
+      ext_get_or (h d) ys (map h xs) (r.long ∙ sym long ∙ sym (length-map xs h)) λ k lt.
+      from_fn_each g f (λ i y. y ≡ h (get_or xs i d)) computes (h d) ys 0 n r.each k (omega arith) (omega (arith, r.long))
+      ∙ sym (get_or-map h xs k d (h d) (omega (arith, r.long)))
 
 -- moves from bytes
 module _ {F : Type 0} (g : Mut F (ℕ × Unit {0}) Move) (f : F) (h : ℕ → ℕ)
@@ -46,12 +44,26 @@ module _ {F : Type 0} (g : Mut F (ℕ × Unit {0}) Move) (f : F) (h : ℕ → �
       ∙ from_fn_each g f (λ i y. y.bits ≡ h i) computes (record { bits = 0 }) ms 0 n r.each k (omega arith) (omega arith)
       ∙ reads k l ∙ sym (get_or-take n (drop at bs) k 0 l ∙ get_or-drop at bs k 0)
 
--- the stats of each depth, seven words at a time
-pub stats_flat : (ss : List Stats) → flat_map (λ (ws : List ℕ). ws) (map (λ (s : Stats). stats_words (stats_of s)) ss)
-    ≡ all_stats (map stats_of ss)
+-- ---- the stats of each depth, seven words at a time
+pub stats_start : (l : List ℕ) (at : ℕ) (ss : List Stats) → sets l (at + 7 * 0) (all_stats (map stats_of (drop 0 ss)))
+    ≡ sets l at (all_stats (map stats_of ss))
+stats_start l at ss = ap (λ (k : ℕ). sets l k (all_stats (map stats_of ss))) (omega arith)
+
+pub stats_next : (l m : List ℕ) (at i : ℕ) (ss : List Stats) (d : Stats) → i < length ss →
+    m ≡ sets l (at + 7 * i) (stats_words (stats_of (get_or ss i d))) → sets m (at + 7 * (i + 1))
+    (all_stats (map stats_of (drop (i + 1) ss))) ≡ sets l (at + 7 * i) (all_stats (map stats_of (drop i ss)))
 unfolding all_stats
-stats_flat [] = refl
-stats_flat (s ∷ ss) = ap (λ (l : List ℕ). stats_words (stats_of s) ++ l) (stats_flat ss)
+stats_next l m at i ss d h e =
+    ap (λ (k : ℕ). sets m k (all_stats (map stats_of (drop (i + 1) ss)))) (omega arith)
+    ∙ ap (λ (k : ℕ). sets m (at + 7 * i + 7) (all_stats (map stats_of (drop k ss)))) (add-one i)
+    ∙ ap (λ (k : List ℕ). sets k (at + 7 * i + 7) (all_stats (map stats_of (drop (suc i) ss)))) e
+    ∙ sets_join (stats_words (stats_of (get_or ss i d))) (all_stats (map stats_of (drop (suc i) ss))) l (at + 7 * i)
+    ∙ sym (ap (λ (k : List Stats). sets l (at + 7 * i) (all_stats (map stats_of k))) (drop-cons ss i d h))
+
+pub stats_end : (l m : List ℕ) (k i : ℕ) (ss : List Stats) → length ss ≤ i →
+    sets l k (all_stats (map stats_of (drop i ss))) ≡ m → l ≡ m
+unfolding all_stats
+stats_end l m k i ss h e = sym (ap (λ (q : List Stats). sets l k (all_stats (map stats_of q))) (drop_of_length-le ss h)) ∙ e
 
 -- ---- lists of the parts
 -- the responses to X's moves, then those to O's

@@ -1,6 +1,6 @@
 // The search's memory and report in lent slices.
 ghost use Rattle.std.specs.Prelude.{◌≡◌, [], map, ◌+◌, ◌≤◌, length, take, drop};
-ghost use Rattle.std.specs.List.{flat_map};
+ghost use Rattle.std.proofs.lemmas.List.Edits.{sets};
 ghost use Rattle.rules.specs.Refusal.{answer_number};
 ghost use Rattle.endgame.specs.Means.{unsound_number, analysis_status};
 ghost use Rattle.minimax.specs.Report.{stats_of, ending_stopped, report_of, bytes_of, responses_of};
@@ -39,7 +39,8 @@ pub(crate) fn memory(responses: &[u8]) -> Minimax
 fn bytes_of(moves: [Move; 256]) -> [u8; 256]
     ensures { result ≡ bytes_of moves }
 {
-    moves.map(|m| m.bits)
+    // by place: the library's `map` of an array clears its memory first
+    array::from_fn(|i| moves[i].bits)
 }
 
 pub(crate) fn put_memory(responses: &mut [u8], state: Minimax)
@@ -79,7 +80,8 @@ fn head(found: Report, analysis: Result<Analysis, Unsound>) -> [u64; 7]
 fn line_words(line: [Move; PLACES]) -> [u64; PLACES]
     ensures { result ≡ bytes_of line }
 {
-    line.map(|m| u64::from(m.bits))
+    // by place, as the responses
+    array::from_fn(|i| u64::from(line[i].bits))
 }
 
 fn stats_words(s: Stats) -> [u64; 7]
@@ -96,11 +98,15 @@ fn stats_words(s: Stats) -> [u64; 7]
     ]
 }
 
-// Seven words for each depth.
-fn all_stats(stats: [Stats; PLACES]) -> [[u64; 7]; PLACES]
-    ensures { flat_map (λ words. words) result ≡ all_stats (map stats_of stats) }
+// Seven words for each depth, from a place on.
+fn put_stats(out: &mut [u64], at: usize, stats: [Stats; PLACES])
+    requires { at + 567 ≤ length out.old }
+    ensures { out.new ≡ sets out.old at (all_stats (map stats_of stats)) }
 {
-    stats.map(stats_words)
+    // a loop: an array of all the words would be cleared and copied first
+    for (i, &s) in stats.iter().enumerate() {
+        lent::put(out, at + 7 * i, &stats_words(s));
+    }
 }
 
 pub(crate) fn put(out: &mut [u64], found: Report, analysis: Result<Analysis, Unsound>)
@@ -110,5 +116,5 @@ pub(crate) fn put(out: &mut [u64], found: Report, analysis: Result<Analysis, Uns
 {
     lent::put(out, 0, &head(found, analysis));
     lent::put(out, 7, &line_words(found.pv));
-    lent::put(out, 88, all_stats(found.stats).as_flattened());
+    put_stats(out, 88, found.stats);
 }

@@ -2,9 +2,9 @@
 use Rattle.std.proofs.Common.{rules}
 use native.Mathlib.Omega.{arith}
 use Rattle.minimax.specs.Report.{byte_of}
-use Rattle.interface.proofs.CallsReport.{mapped}
+use Rattle.interface.proofs.CallsReport.{each_made}
 use Rattle.interface.proofs.report.bytes_of.Goals as goal
 
 pub returns : goal.returns
 returns c =
-    mapped _ byte_of _ c.args.moves _ _ (omega arith) c.map.ensures.items (λ p q x y k. search rules)
+    each_made _ _ byte_of c.args.moves (record { bits = 0 }) (λ i y q k. search rules) _ _ (omega arith) c.from_fn.ensures.items

@@ -14,4 +14,4 @@ returns c =
     let k : length c.args.found.stats ≡ 81 = omega arith in
     report_put c.args.out.now _ _ _ (report_of c.args.found []) _ _ (simp length-map n) (simp length-map k)
     (c.put.ensures ∙ ap (sets c.args.out.now 0) c.head.ensures) (c.put-2.ensures ∙ ap (sets _ 7) c.line_words.ensures)
-    (c.put-3.ensures ∙ ap (sets _ 88) (c.as_flattened.ensures.value ∙ c.all_stats.ensures))
+    c.put_stats.ensures
