@@ -101,18 +101,24 @@ impl LocalBoards {
         }
     }
 
-    // The boards with one more cell of a player's.
+    // A player has one more cell.
     #[tactic(auto, using(crate::proofs::With::with_past_board, crate::proofs::With::with_past_cell, crate::proofs::With::with_row))]
-    pub fn set(self, global: usize, local: usize, who: Player) -> LocalBoards
-        ensures { result ≡ with_cell self global local who }
+    pub fn mark(&mut self, global: usize, local: usize, who: Player)
+        ensures { self.new ≡ with_cell self.old global local who }
     {
         if global > 8 || local > 8 {
-            return self;
+            return;
         }
         let idx = ((global % 3) * 9 + local) as u32;
-        let mut rows = self.rows;
-        rows[global / 3] = rows[global / 3].with(idx, who);
-        LocalBoards { rows }
+        self.rows[global / 3] = self.rows[global / 3].with(idx, who);
+    }
+
+    // The boards with one more cell of a player's.
+    pub fn set(mut self, global: usize, local: usize, who: Player) -> LocalBoards
+        ensures { result ≡ with_cell self global local who }
+    {
+        self.mark(global, local, who);
+        self
     }
 
     pub fn xbits(self, global: usize) -> u32

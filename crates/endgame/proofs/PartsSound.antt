@@ -1,12 +1,16 @@
 -- Soundness, test by test, in the code's order.
-use mathlib.Core.Path.{◌≡◌}
-use mathlib.Core.Bool.{Bool, true, false, not}
-use Prim.Native.Nat.{ℕ}
+use mathlib.Core.Path.{◌≡◌, sym, ap, ◌∙◌}
+use mathlib.Core.Bool.{Bool, true, false, not, ◌&&◌}
+use Prim.Native.Nat.{ℕ, ◌+◌, ◌<◌}
+use native.Mathlib.Numerals.{add-one}
+use lib.ListN.{drop}
+use lib.Seq.{drop-cons}
 use Rattle.base.specs.Lists.{any, all}
 use Rattle.rules.specs.declared.Player.TheVariants.{X, O}
 use Rattle.rules.specs.Board.{nine, has_line}
 use Rattle.rules.specs.Position.{Position, open_board, won_boards, free_cell, has}
 use Rattle.rules.specs.Sound.{sound}
+use Rattle.rules.proofs.Board.{nine_at}
 use Rattle.endgame.specs.Parts.{live}
 
 module _ (p : Position) (b : ℕ) where
@@ -42,3 +46,16 @@ module _ (p : Position) where
     pub no_line : has_line (won_boards p O) ≡ false → all (live p) nine ≡ sound p
     unfolding sound all live
     no_line o = rw (x, o)
+
+-- the boards from i on
+module _ (f : ℕ → Bool) (i : ℕ) (h : i < 9) where
+  boards_from : all f (drop i nine) ≡ (f i && all f (drop (i + 1) nine))
+  unfolding all
+  boards_from = ap (all f) (drop-cons nine i 0 h) ∙ rw (nine_at i h, add-one i)
+
+  module _ (b : Bool) (e : all f (drop i nine) ≡ b) where
+    pub board_fails : f i ≡ false → false ≡ b
+    board_fails t = sym (ap (λ (x : Bool). x && all f (drop (i + 1) nine)) t) ∙ sym boards_from ∙ e
+
+    pub board_passes : f i ≡ true → all f (drop (i + 1) nine) ≡ b
+    board_passes t = sym (ap (λ (x : Bool). x && all f (drop (i + 1) nine)) t) ∙ sym boards_from ∙ e

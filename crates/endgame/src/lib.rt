@@ -132,13 +132,23 @@ fn is_live(pos: Game, board: usize) -> bool
             && !has_line(boards.obits(board)))
 }
 
+// Whether all boards are live. A loop, which is unrolled; `all` with a closure isn't, at nearly twice the instructions.
+fn all_live(pos: Game) -> bool
+    ensures { result ≡ all (live (position_of pos)) nine }
+{
+    for board in 0..9 {
+        if !is_live(pos, board) {
+            return false;
+        }
+    }
+    true
+}
+
 // Whether nobody has a line of boards, and all boards are live.
 fn is_sound(pos: Game) -> bool
     ensures { result ≡ sound (position_of pos) }
 {
-    !has_line(pos.global_states.xbits())
-        && !has_line(pos.global_states.obits())
-        && (0..9).all(|board| is_live(pos, board))
+    !has_line(pos.global_states.xbits()) && !has_line(pos.global_states.obits()) && all_live(pos)
 }
 
 // What is asked of a position: an unfinished one is sound.
@@ -190,7 +200,23 @@ pub fn evaluate_move(game: Game, m: Move) -> Result<Status, MoveStatusError>
 {
     check_sound(game)?;
     game.make_move(m)?;
-    Ok(Critical::of(game).evaluate_move(m))
+    Ok(move_status(game, m))
+}
+
+// As the Rust gives it, for a move that play accepts. By the other side's critical boards alone: of `Critical`, those of the side to move
+// would be worked out for nothing.
+fn move_status(pos: Game, m: Move) -> Status
+    requires { T (sound (position_of pos)) × (cell_of m.bits < 9) }
+    ensures { result ≡ status_of (judge (position_of pos) m.bits) }
+{
+    let who = pos.player().other();
+    let defender = critical_boards(pos, who);
+    let bad = pos.global_states.donebits() | defender;
+    // A move in a critical board could block or take it: it is left to the search.
+    if defender != 0 && !holds(defender, m.global()) && holds(bad, m.local()) {
+        return Status::for_player(who);
+    }
+    Status::unproven()
 }
 
 // A sound position, with the critical boards of the side to move and of the other side.
@@ -239,19 +265,6 @@ impl Critical {
             proven: combined(self.pos.player(), wins, loses, x, o),
             stats,
         }
-    }
-
-    // As the Rust gives it, for a move that play accepts.
-    fn evaluate_move(self, m: Move) -> Status
-        requires { cell_of m.bits < 9 }
-        ensures { result ≡ status_of (judge (position_of self.pos) m.bits) }
-    {
-        let bad = self.pos.global_states.donebits() | self.defender;
-        // A move in a critical board could block or take it: it is left to the search.
-        if self.defender != 0 && !holds(self.defender, m.global()) && holds(bad, m.local()) {
-            return Status::for_player(self.pos.player().other());
-        }
-        Status::unproven()
     }
 
     // By guards, as in `forced_loss`: one chain would hold all that is said of the due board, with its sets, in a closure.

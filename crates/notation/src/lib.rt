@@ -183,13 +183,13 @@ fn parse_cell(cells: &[u8], i: usize) -> Result<CellState, ErrorKind>
     cell_mark_of(*byte).ok_or(ErrorKind::BadPlayer)
 }
 
-// The boards with what is said of one more cell.
-fn with_cell_state(boards: LocalBoards, board: usize, cell: usize, state: CellState) -> LocalBoards
-    ensures { result ≡ with_cell_state boards board cell state }
+// The boards take what is said of one more cell: in place, so that the loop copies no boards.
+fn mark_cell(boards: &mut LocalBoards, board: usize, cell: usize, state: CellState)
+    ensures { boards.new ≡ with_cell_state boards.old board cell state }
 {
     match state {
-        CellState::Empty => boards,
-        CellState::Played(who) => boards.set(board, cell, who),
+        CellState::Empty => {}
+        CellState::Played(who) => boards.mark(board, cell, who),
     }
 }
 
@@ -201,7 +201,7 @@ fn parse_cells(cells: &[u8]) -> Result<LocalBoards, ErrorKind>
     // by place: a walk over the bytes would end where one is lacking, and need a second test of which fault that is
     for i in 0..89 {
         let state = parse_cell(cells, i)?;
-        boards = with_cell_state(boards, i / 10, i % 10, state);
+        mark_cell(&mut boards, i / 10, i % 10, state);
     }
     Ok(boards)
 }

@@ -1,11 +1,8 @@
 -- Refused as unsound, refused by play, or judged.
 use Rattle.std.specs.Prelude.{Err}
-use mathlib.Core.Path.{◌≡◌, refl, sym, ap, ◌∙◌}
+use mathlib.Core.Path.{◌≡◌, refl, sym}
 use Rattle.std.proofs.Common.{rules}
 use Rattle.endgame.specs.declared.MoveStatusError.TheVariants.{Unsound as NotSound, Refused}
-use Rattle.rules.specs.Endgame.{judge}
-use Rattle.status.specs.Sets.{status_of}
-use Rattle.game.specs.declared.Game.{Game}
 use Rattle.game.specs.Meaning.{position_of}
 use Rattle.boards.proofs.Answers.{error_not_0}
 use Rattle.endgame.proofs.MeansAnswers.{judges_as, tried_first, may_judge, judged_played, judged_refused}
@@ -23,15 +20,11 @@ returns-in_err-make_move c =
     rw e (judges_as _ _ _ _ (judged_refused (position_of c.args.game) _ (sym c.in_ok-check_sound.ensures) _ (error_not_0 why)
     c.in_err-make_move.ensures.number) refl refl)
 
-pub of-requires : goal.of-requires
-of-requires c =
-    (may_judge (position_of c.args.game) _ (sym c.in_ok-check_sound.ensures) (sym c.in_ok-make_move.ensures.number)).0
-
-pub evaluate_move-requires : goal.evaluate_move-requires
-evaluate_move-requires c =
-    (may_judge (position_of c.args.game) _ (sym c.in_ok-check_sound.ensures) (sym c.in_ok-make_move.ensures.number)).1
+pub move_status-requires : goal.move_status-requires
+move_status-requires c =
+    may_judge (position_of c.args.game) _ (sym c.in_ok-check_sound.ensures) (sym c.in_ok-make_move.ensures.number)
 
 pub returns : goal.returns
 returns c =
     judges_as _ _ _ _ (judged_played (position_of c.args.game) _ (sym c.in_ok-check_sound.ensures) (sym c.in_ok-make_move.ensures.number))
-    refl (c.evaluate_move.ensures ∙ ap (λ (g : Game). status_of (judge (position_of g) c.args.m.bits)) c.of.ensures)
+    refl c.move_status.ensures

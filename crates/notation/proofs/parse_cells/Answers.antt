@@ -18,7 +18,7 @@ pub loop-i-preserved : goal.loop-i-preserved
 loop-i-preserved c =
     let l = c.loop-i in
     let r = c.in_ok-state.ensures in
-    (omega arith, rw c.with_cell_state-boards.ensures (one_filled _ _ _ c.loop-i-test.true l.invariant.1 r.0 _ r.1))
+    (omega arith, rw c.mark_cell.ensures (one_filled _ _ _ c.loop-i-test.true l.invariant.1 r.0 _ r.1))
 
 pub returns : goal.returns
 returns c = let l = c.loop-i in let e : l.i ≡ 89 = omega arith in all_filled _ _ (rw e at l.invariant.1)
