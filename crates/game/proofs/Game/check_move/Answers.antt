@@ -20,8 +20,8 @@ returns-then-terminal c =
 pub returns-then-not-in_play : goal.returns-then-not-in_play
 returns-then-not-in_play c =
     let eleven =
-        shut (position_of c.args.self) _ _ _ c.global-global.ensures c.local-local.ensures (omega arith) (omega arith)
-        (not-false _ (sym c.terminal.ensures ∙ c.if-terminal.false)) (sym c.in_play.ensures ∙ c.if-not-in_play.true) in
+    shut (position_of c.args.self) _ _ _ c.global-global.ensures c.local-local.ensures (omega arith) (omega arith)
+    (not-false _ (sym c.terminal.ensures ∙ c.if-terminal.false)) (sym c.in_play.ensures ∙ c.if-not-in_play.true) in
     grind arith
 
 pub returns-then-not-allows : goal.returns-then-not-allows
