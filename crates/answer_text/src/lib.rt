@@ -4,7 +4,7 @@
 ghost use Rattle.std.specs.Prelude.{◌≡◌, ◌≤◌, eqb, not, length, take_while};
 ghost use Rattle.rules.specs.Play.{no_move};
 ghost use Rattle.text.specs.MoveText.{move_text};
-ghost use Rattle.text.specs.ProgramLine.{decimal, signed, shown, status_letters, moves_text, refusal_text};
+ghost use Rattle.text.specs.ProgramLine.{decimal, signed, shown, status_letters, moves_text, answer_text, refusal_text};
 ghost use Rattle.status.specs.Sets.{set_of};
 ghost use Rattle.answer_text.specs.AnswerBytes.{no_text, added, added_all, move_bytes, text_of_bytes, written_bytes};
 
@@ -45,14 +45,15 @@ impl AnswerText {
         self
     }
 
-    pub fn text(self, bytes: &[u8]) -> AnswerText
+    // Byte by byte in place: by `push`, each would copy the text there and back.
+    #[tactic(auto, unfolding(crate::specs::AnswerBytes::added))]
+    pub fn text(mut self, bytes: &[u8]) -> AnswerText
         ensures { result ≡ added_all self bytes.now }
     {
-        let mut out = self;
         for &b in bytes {
-            out = out.push(b);
+            self.bytes.push(b);
         }
-        out
+        self
     }
 
     #[tactic(auto, using(crate::proofs::AnswerBytesDecimal::decimal_digits))]
@@ -117,6 +118,31 @@ impl AnswerText {
         ensures { result ≡ text_of_bytes (refusal_text number) }
     {
         AnswerText::new().push(b'E').push(b' ').decimal(number)
+    }
+
+    // A line that is answered.
+    pub fn answer(
+        status: Status,
+        legal: u64,
+        depth: u64,
+        score: i64,
+        count: u64,
+        line: [Move; PLACES],
+    ) -> AnswerText
+        ensures { result ≡ text_of_bytes (answer_text (set_of status) legal depth score count (move_bytes line)) }
+    {
+        AnswerText::new()
+            .status(status)
+            .push(b' ')
+            .decimal(legal)
+            .push(b' ')
+            .decimal(depth)
+            .push(b' ')
+            .signed(score)
+            .push(b' ')
+            .decimal(count)
+            .push(b' ')
+            .moves(line)
     }
 
     pub fn as_slice(&self) -> &[u8]

@@ -18,11 +18,15 @@ use Rattle.std.specs.Prelude.{Option, Some, None}
 use Rattle.std.specs.Option.{SomeIff}
 use Rattle.base.proofs.Signed.{reads, back, zero_sub, minus_fits}
 use Rattle.base.specs.Branch.{when◌then◌else◌}
-use Rattle.decimals.specs.Numbers.{with_digit, digits_after, read_number, positive_of, negative_of, read_signed}
+use Rattle.decimals.specs.Numbers.{between, with_digit, digits_after, read_number, positive_of, negative_of, read_signed}
+
+-- ---- a byte within two others
+pub within_bounds : (b low high : ℕ) → between b low high ≡ true → (low ≤ b) × (b ≤ high)
+within_bounds b low high e = let p = (and-eq-true_iff (leb low b) (leb b high)).0 e in (leb-true low b p.0, leb-true b high p.1)
 
 -- ---- a digit more
 pub digit_bounds : (b : ℕ) → is_ascii_digit b ≡ true → (48 ≤ b) × (b ≤ 57)
-digit_bounds b e = let p = (and-eq-true_iff (leb 48 b) (leb b 57)).0 e in (leb-true 48 b p.0, leb-true b 57 p.1)
+digit_bounds b e = within_bounds b 48 57 e
 
 module _ (value b : ℕ) where
   pub digit_is : is_ascii_digit b ≡ true → (o : Option ℕ) →

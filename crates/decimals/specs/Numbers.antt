@@ -1,8 +1,11 @@
 -- Decimal numbers, read from the left.
-use Rattle.std.specs.Prelude.{◌&&◌, List, [], ◌∷◌, ℕ, ◌+◌, ◌-◌, ◌*◌, ◌^◌, eqb, ltb, ℤ, pos, neg_ℤ}
+use Rattle.std.specs.Prelude.{Bool, ◌&&◌, List, [], ◌∷◌, ℕ, ◌+◌, ◌-◌, ◌*◌, ◌^◌, eqb, leb, ltb, ℤ, pos, neg_ℤ}
 use Rattle.std.specs.Prelude.{Option, Some, None, option_and_then}
 use Rattle.std.specs.Char.{is_ascii_digit}
 use Rattle.base.specs.Branch.{when◌then◌else◌}
+
+abbrev pub between : ℕ → ℕ → ℕ → Bool
+between b low high = leb low b && leb b high
 
 -- a digit more; none if the byte is no digit, or if the number is 2^64 or more
 unfoldable pub with_digit : ℕ → ℕ → Option ℕ

@@ -5,4 +5,4 @@ pub mod list;
 pub mod number;
 
 pub use list::{Scan, at, numbers};
-pub use number::{read_number, read_signed, with_digit, with_sign};
+pub use number::{read_number, read_signed, with_digit, with_sign, within};

@@ -1,6 +1,13 @@
 // Decimal numbers.
 ghost use Rattle.std.specs.Prelude.{◌≡◌, cond};
-ghost use Rattle.decimals.specs.Numbers.{with_digit, read_number, read_signed, positive_of, negative_of};
+ghost use Rattle.decimals.specs.Numbers.{between, with_digit, read_number, read_signed, positive_of, negative_of};
+
+// Whether a byte lies within two others.
+pub fn within(b: u8, low: u8, high: u8) -> bool
+    ensures { result ≡ between b low high }
+{
+    (low..=high).contains(&b)
+}
 
 // A number with a digit more, if the byte is one and the number stays below 2^64.
 pub fn with_digit(value: u64, b: u8) -> Option<u64>

@@ -45,18 +45,14 @@ fn reported(game: Game, status: Status, report: Report) -> AnswerText
 {
     match report.ending {
         Ending::Refused(why) => AnswerText::refused(why.number()),
-        Ending::Whole | Ending::Stopped => AnswerText::new()
-            .status(status)
-            .push(b' ')
-            .decimal(game.legal_moves() as u64)
-            .push(b' ')
-            .decimal(report.depth)
-            .push(b' ')
-            .signed(report.score)
-            .push(b' ')
-            .decimal(report.count)
-            .push(b' ')
-            .moves(report.pv),
+        Ending::Whole | Ending::Stopped => AnswerText::answer(
+            status,
+            game.legal_moves() as u64,
+            report.depth,
+            report.score,
+            report.count,
+            report.pv,
+        ),
     }
 }
 

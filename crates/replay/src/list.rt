@@ -8,16 +8,17 @@ use input::Input;
 use std::rt::Stdin;
 
 // What a list's records are compared with. A trait: a closure would need a condition on what it is handed, and `run` asks for none.
+// What implements it is memory to work in: `outcome_of` is the type's, so whatever stands in the memory, the same is found of a line.
 pub trait Records {
     ghost outcome_of: { List ℕ → Comparison };
 
-    // What is found of a line.
-    fn outcome(line: &[u8]) -> Comparison
+    // What is found of a line. Of what is left in the memory nothing is said, and nothing can depend on it.
+    fn outcome(&mut self, line: &[u8]) -> Comparison
         ensures { result ≡ outcome_of line.now };
 }
 
 // Counts the records of an input, a line each, up to its end, to what fails, or to as many as can be counted.
-fn count_all<R: Records>(totals: &mut Totals, stdin: Stdin) -> Result<(), Failure>
+fn count_all<R: Records>(records: &mut R, totals: &mut Totals, stdin: Stdin) -> Result<(), Failure>
     ensures { CountsFrom R.outcome_of totals.old totals.new result }
 {
     let mut buffer = io::large_buffer();
@@ -28,16 +29,16 @@ fn count_all<R: Records>(totals: &mut Totals, stdin: Stdin) -> Result<(), Failur
         let Some(line) = input.next_line(stdin, &mut buffer, &mut kept)? else {
             return Ok(());
         };
-        totals.count(R::outcome(line.whole(&kept)))?;
+        totals.count(records.outcome(line.whole(&kept)))?;
     }
     Ok(())
 }
 
 // Counts the records of an input, and concludes.
-pub fn run<R: Records>(stdin: Stdin, said: &[u8]) -> Conclusion
+pub fn run<R: Records>(records: &mut R, stdin: Stdin, said: &[u8]) -> Conclusion
     ensures { Replays R.outcome_of said.now result }
 {
     let mut totals = Totals::new();
-    let counted = count_all::<R>(&mut totals, stdin);
+    let counted = count_all(records, &mut totals, stdin);
     totals.conclude(said, counted)
 }

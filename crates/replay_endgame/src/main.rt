@@ -24,13 +24,14 @@ fn comparison(position: &[u8], words: &[u64]) -> Comparison
 }
 
 // The records of the list.
+#[derive(Drop)]
 struct Analyses;
 
 impl Records for Analyses {
     ghost outcome_of = { outcome_of };
 
     // A line that can't be read differs.
-    fn outcome(line: &[u8]) -> Comparison
+    fn outcome(&mut self, line: &[u8]) -> Comparison
         ensures { result ≡ outcome_of line.now }
     {
         if replay::tabs(line) != 1 {
@@ -45,7 +46,8 @@ impl Records for Analyses {
 }
 
 fn main(rt: HostRuntime) {
-    replay::run::<Analyses>(
+    replay::run(
+        &mut Analyses,
         rt.stdin(),
         b"with document 01's refusal for the Rust's answer",
     );

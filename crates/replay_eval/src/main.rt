@@ -32,13 +32,14 @@ fn agrees(position: &[u8], draw: &[u8], score: &[u8]) -> bool
 }
 
 // The records of the list.
+#[derive(Drop)]
 struct Evaluations;
 
 impl Records for Evaluations {
     ghost outcome_of = { outcome_of };
 
     // A line that can't be read differs.
-    fn outcome(line: &[u8]) -> Comparison
+    fn outcome(&mut self, line: &[u8]) -> Comparison
         ensures { result ≡ outcome_of line.now }
     {
         let agrees = replay::tabs(line) == 2
@@ -52,5 +53,5 @@ impl Records for Evaluations {
 }
 
 fn main(rt: HostRuntime) {
-    replay::run::<Evaluations>(rt.stdin(), b"");
+    replay::run(&mut Evaluations, rt.stdin(), b"");
 }

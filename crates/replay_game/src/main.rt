@@ -331,6 +331,7 @@ fn comparison(words: &[u64]) -> Comparison
 }
 
 // The records of the list.
+#[derive(Drop)]
 struct Games;
 
 impl Records for Games {
@@ -338,7 +339,7 @@ impl Records for Games {
 
     // A line that is no list of numbers differs.
     #[tactic(auto, using(decimals::proofs::ListsHeld::none_read, decimals::proofs::ListsHeld::some_read))]
-    fn outcome(line: &[u8]) -> Comparison
+    fn outcome(&mut self, line: &[u8]) -> Comparison
         ensures { result ≡ outcome_of line.now }
     {
         let mut words = [0u64; MOST];
@@ -350,7 +351,8 @@ impl Records for Games {
 }
 
 fn main(rt: HostRuntime) {
-    replay::run::<Games>(
+    replay::run(
+        &mut Games,
         rt.stdin(),
         b"with document 01's list of moves for the Rust's",
     );

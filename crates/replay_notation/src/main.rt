@@ -228,13 +228,14 @@ fn comparison(words: &[u64]) -> Comparison
 }
 
 // The records of the list.
+#[derive(Drop)]
 struct Texts;
 
 impl Records for Texts {
     ghost outcome_of = { outcome_of };
 
     // A line that is no list of numbers differs.
-    fn outcome(line: &[u8]) -> Comparison
+    fn outcome(&mut self, line: &[u8]) -> Comparison
         ensures { result ≡ outcome_of line.now }
     {
         let mut words = [0u64; MOST];
@@ -246,5 +247,9 @@ impl Records for Texts {
 }
 
 fn main(rt: HostRuntime) {
-    replay::run::<Texts>(rt.stdin(), b"with document 01's answer for the Rust's");
+    replay::run(
+        &mut Texts,
+        rt.stdin(),
+        b"with document 01's answer for the Rust's",
+    );
 }

@@ -1,5 +1,5 @@
 // A record's searches, run one after the other.
-ghost use Rattle.std.specs.Prelude.{◌≡◌, cond, ◌≤◌, ◌%◌, eqb, option_map};
+ghost use Rattle.std.specs.Prelude.{◌≡◌, cond, ◌≤◌, ◌%◌, eqb, length, option_map};
 ghost use Rattle.rules.specs.Board.{side_from};
 ghost use Rattle.theory.specs.Memory.{no_responses, with_response};
 ghost use Rattle.minimax.specs.Report.{responses_of, ending_number, report_of};
@@ -17,7 +17,7 @@ use rules::{Player, Weights};
 const MOST: usize = 1024;
 
 // A table's words, enough for one entry more than a search takes.
-const ROOM: usize = 196611;
+pub const ROOM: usize = 196611;
 
 // With one response more.
 fn with_response(state: Minimax, side: u64, prev: u64, response: u64) -> Minimax
@@ -86,11 +86,12 @@ fn searched(
     ensures { option_map (λ r. report_of r table.new) result
         ≡ search_of line.now draw_winner allowance k (responses_of state.responses) table.old }
 {
+    // First: where what returns early stands before it, the array is cleared twice.
+    let mut numbers = [0u64; MOST];
     let Ok(game) = notation::parse(replay::field(line, 3 * k + 4)) else {
         return None;
     };
     let max_depth = decimals::read_number(replay::field(line, 3 * k + 5))?;
-    let mut numbers = [0u64; MOST];
     let n = decimals::numbers(replay::field(line, 3 * k + 6), &mut numbers)?;
     let config = Config {
         max_depth,
@@ -127,11 +128,10 @@ fn replayed(
     so_far
 }
 
-// The searches of a line, with a table of so many words, all 0.
-fn run(line: &[u8], count: usize, size: usize) -> Comparison
-    requires few { count ≤ 1000 }
-    requires fits { size ≤ ROOM }
-    ensures { result ≡ run_of line.now count size }
+// The searches of a line, with a table that is cleared first.
+fn run(line: &[u8], count: usize, table: &mut [u64]) -> Comparison
+    requires { count ≤ 1000 }
+    ensures { result ≡ run_of line.now count (length table.old) }
 {
     let Some(draw_winner) = replay::draw_of(replay::field(line, 1)) else {
         return Comparison::Differs;
@@ -142,19 +142,12 @@ fn run(line: &[u8], count: usize, size: usize) -> Comparison
     let Some(begun) = begin(replay::field(line, 3)) else {
         return Comparison::Differs;
     };
-    let mut words = [0u64; ROOM];
-    replayed(
-        line,
-        draw_winner,
-        allowance,
-        count,
-        begun,
-        &mut words[..size],
-    )
+    table.fill(0);
+    replayed(line, draw_winner, allowance, count, begun, table)
 }
 
 // What is found of a line. One that can't be read differs, as does one whose table has no room.
-pub fn outcome(line: &[u8]) -> Comparison
+pub fn outcome(line: &[u8], words: &mut [u64; ROOM]) -> Comparison
     ensures { result ≡ outcome_of table_room line.now }
 {
     let tabs = replay::tabs(line);
@@ -174,5 +167,5 @@ pub fn outcome(line: &[u8]) -> Comparison
     if entries > (ROOM / 3) as u64 {
         return Comparison::Differs;
     }
-    run(line, thirds - 1, (entries as usize) * 3)
+    run(line, thirds - 1, &mut words[..(entries as usize) * 3])
 }

@@ -11,19 +11,29 @@ ghost use Rattle.replay_search.specs.Chains.{table_room, outcome_of};
 
 use replay::{Comparison, Records};
 
-// The records of the list.
-struct Searches;
+// The records of the list, and memory for their tables: a record's searches begin with all that they use of it cleared.
+#[derive(Drop)]
+struct Searches {
+    words: [u64; chain::ROOM],
+}
 
 impl Records for Searches {
     ghost outcome_of = { outcome_of table_room };
 
-    fn outcome(line: &[u8]) -> Comparison
+    fn outcome(&mut self, line: &[u8]) -> Comparison
         ensures { result ≡ outcome_of table_room line.now }
     {
-        chain::outcome(line)
+        chain::outcome(line, &mut self.words)
     }
 }
 
 fn main(rt: HostRuntime) {
-    replay::run::<Searches>(rt.stdin(), b"refused as document 01 says (15 to 18)");
+    let mut searches = Searches {
+        words: [0; chain::ROOM],
+    };
+    replay::run(
+        &mut searches,
+        rt.stdin(),
+        b"refused as document 01 says (15 to 18)",
+    );
 }

@@ -9,7 +9,6 @@ use Rattle.status.specs.Sets.{set_of}
 use Rattle.minimax.specs.Report.{ending_number, report_of}
 use Rattle.answer_text.specs.AnswerBytes.{text_of_bytes}
 use Rattle.program_line.proofs.Answered.{report_refused, report_whole}
-use Rattle.answer_text.proofs.AnswerBytes.{parts_written}
 use Rattle.program_line.proofs.reported.Goals as goal
 
 pub returns-in-Refused : goal.returns-in-Refused
@@ -24,19 +23,5 @@ returns-in-Whole c =
     let r = report_of c.args.report [] in
     let number : r.number ≡ 0 = elim c.in-Whole.is [ inl e ↦ ap ending_number e | inr e ↦ ap ending_number e ] in
     let back = to_z-of_z {w = w64} {z = c.args.report.score} (record { sfits = omega arith }) in
-    rw (
-      c.moves.ensures,
-      c.push-in-Whole-4.ensures,
-      c.decimal-in-Whole-2.ensures,
-      c.push-in-Whole-3.ensures,
-      c.signed.ensures,
-      c.push-in-Whole-2.ensures,
-      c.decimal-in-Whole.ensures,
-      c.push-in-Whole.ensures,
-      c.decimal.ensures,
-      c.push.ensures,
-      c.status.ensures,
-      c.new.ensures,
-      c.legal_moves.ensures,
-      back,
-    ) (parts_written s _ r.depth r.score r.count r.pv ∙ ap text_of_bytes (report_whole s _ r number))
+    rw (c.answer.ensures, c.legal_moves.ensures, back)
+    (ap text_of_bytes (report_whole s _ r number))

@@ -4,4 +4,4 @@ use Rattle.answer_text.specs.AnswerBytes.{added_all}
 use Rattle.answer_text.proofs.AnswerText.text.Given as goal
 
 abbrev pub invariant-loop-b : goal.invariant-loop-b
-invariant-loop-b l = added_all l.out (drop l.b-index l.bytes) ≡ added_all l.initial.out l.bytes
+invariant-loop-b l = added_all l.self (drop l.b-index l.bytes) ≡ added_all l.initial.self l.bytes

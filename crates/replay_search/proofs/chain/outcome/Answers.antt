@@ -1,6 +1,8 @@
 -- The tests are the definition's.
+use mathlib.Core.Path.{ap, ◌∙◌}
 use native.Mathlib.Omega.{arith}
-use Rattle.replay_search.specs.Chains.{table_room}
+use lib.Seq.{length-take-le}
+use Rattle.replay_search.specs.Chains.{run_of, table_room}
 use Rattle.replay_search.proofs.ChainsLines.{not_thirds, too_few, too_many, no_entries, no_room, is_run}
 use Rattle.replay_search.proofs.chain.outcome.Goals as goal
 
@@ -38,4 +40,5 @@ pub returns : goal.returns
 returns c =
     let a = c.args in
     is_run table_room a.line.now _ c.tabs-tabs.ensures c.if-tabs-ne0.false c.if-thirds-lt2.false c.if-thirds-gt1000.false _
-    c.field.ensures _ c.read_number.ensures _ c.in-Some.is _ (omega (arith, c.if-entries.false)) c.run.ensures
+    c.field.ensures _ c.read_number.ensures _ c.in-Some.is _ (omega (arith, c.if-entries.false))
+    (c.run.ensures ∙ ap (run_of a.line.now _) (length-take-le _ a.words.now (omega (arith, c.if-entries.false))))
