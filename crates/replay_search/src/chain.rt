@@ -4,8 +4,7 @@ ghost use Rattle.rules.specs.Board.{side_from};
 ghost use Rattle.theory.specs.Memory.{no_responses, with_response};
 ghost use Rattle.minimax.specs.Report.{responses_of, ending_number, report_of};
 ghost use Rattle.replay.specs.declared.totals.Comparison.TheVariants.{Agrees as AllAgree, Apart as Refused};
-ghost use Rattle.replay_search.specs.Chains.{with_responses, start_of, begun_of, search_of, chain_of, run_of, table_room, outcome_of};
-ghost use Rattle.replay_search.specs.declared.chain.TheConstants.{ROOM};
+ghost use Rattle.replay_search.specs.Chains.{with_responses, start_of, begun_of, search_of, chain_of, run_of, outcome_of};
 
 use crate::expected;
 use boards::Move;
@@ -147,8 +146,8 @@ fn run(line: &[u8], count: usize, table: &mut [u64]) -> Comparison
 }
 
 // What is found of a line. One that can't be read differs, as does one whose table has no room.
-pub fn outcome(line: &[u8], words: &mut [u64; ROOM]) -> Comparison
-    ensures { result ≡ outcome_of table_room line.now }
+pub fn outcome(line: &[u8], words: &mut [u64]) -> Comparison
+    ensures { result ≡ outcome_of (length words.old) line.now }
 {
     let tabs = replay::tabs(line);
     if tabs % 3 != 0 {
@@ -164,7 +163,8 @@ pub fn outcome(line: &[u8], words: &mut [u64; ROOM]) -> Comparison
     let Some(entries) = decimals::read_number(replay::field(line, 0)) else {
         return Comparison::Differs;
     };
-    if entries > (ROOM / 3) as u64 {
+    let room = words.len() / 3;
+    if entries > room as u64 {
         return Comparison::Differs;
     }
     run(line, thirds - 1, &mut words[..(entries as usize) * 3])
