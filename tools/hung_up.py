@@ -8,7 +8,7 @@ The lines before it are answered, the cut one is not; a replay program gives no 
 import os, pty, subprocess, sys, tty
 
 ROOT = os.path.dirname(os.path.dirname(os.path.abspath(__file__)))
-REPLAYS = ["replay_game", "replay_notation", "replay_eval", "replay_endgame", "replay_search"]
+REPLAYS = ["replay_game", "replay_notation", "replay_eval", "replay_endgame", "replay_search", "line_lengths"]
 
 
 def ended(name, given):

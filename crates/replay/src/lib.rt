@@ -10,5 +10,5 @@ pub mod totals;
 pub use agreement::Agreement;
 pub use draws::draw_of;
 pub use fields::{field, tabs};
-pub use list::{Records, run};
+pub use list::{Records, Replayer, run, run_with};
 pub use totals::{Comparison, Totals};

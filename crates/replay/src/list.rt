@@ -5,11 +5,21 @@ ghost use Rattle.replay.specs.ListCounted.{CountsFrom, Replays};
 
 use crate::totals::{Comparison, Conclusion, Failure, Totals};
 use input::Input;
+use std::marker::PhantomData;
 use std::rt::Stdin;
 
 // What a list's records are compared with. A trait: a closure would need a condition on what it is handed, and `run` asks for none.
-// What implements it is memory to work in: `outcome_of` is the type's, so whatever stands in the memory, the same is found of a line.
 pub trait Records {
+    ghost outcome_of: { List ℕ → Comparison };
+
+    // What is found of a line.
+    fn outcome(line: &[u8]) -> Comparison
+        ensures { result ≡ outcome_of line.now };
+}
+
+// The same for records with memory to work in. What implements it is the memory: `outcome_of` is the type's, so whatever stands there, the
+// same is found of a line.
+pub trait Replayer {
     ghost outcome_of: { List ℕ → Comparison };
 
     // What is found of a line. Of what is left in the memory nothing is said, and nothing can depend on it.
@@ -17,8 +27,19 @@ pub trait Records {
         ensures { result ≡ outcome_of line.now };
 }
 
+// Records without memory: what is lent holds nothing.
+impl<R: Records> Replayer for PhantomData<R> {
+    ghost outcome_of = { R.outcome_of };
+
+    fn outcome(&mut self, line: &[u8]) -> Comparison
+        ensures { result ≡ R.outcome_of line.now }
+    {
+        R::outcome(line)
+    }
+}
+
 // Counts the records of an input, a line each, up to its end, to what fails, or to as many as can be counted.
-fn count_all<R: Records>(records: &mut R, totals: &mut Totals, stdin: Stdin) -> Result<(), Failure>
+fn count_all<R: Replayer>(records: &mut R, totals: &mut Totals, stdin: Stdin) -> Result<(), Failure>
     ensures { CountsFrom R.outcome_of totals.old totals.new result }
 {
     let mut buffer = io::large_buffer();
@@ -35,10 +56,17 @@ fn count_all<R: Records>(records: &mut R, totals: &mut Totals, stdin: Stdin) -> 
 }
 
 // Counts the records of an input, and concludes.
-pub fn run<R: Records>(records: &mut R, stdin: Stdin, said: &[u8]) -> Conclusion
+pub fn run_with<R: Replayer>(records: &mut R, stdin: Stdin, said: &[u8]) -> Conclusion
     ensures { Replays R.outcome_of said.now result }
 {
     let mut totals = Totals::new();
     let counted = count_all(records, &mut totals, stdin);
     totals.conclude(said, counted)
+}
+
+// The same of records without memory: a caller names their type, and needs no value of it.
+pub fn run<R: Records>(stdin: Stdin, said: &[u8]) -> Conclusion
+    ensures { Replays R.outcome_of said.now result }
+{
+    run_with(&mut PhantomData::<R>, stdin, said)
 }

@@ -8,7 +8,7 @@ ghost use Rattle.std.specs.Prelude.{◌≡◌, Some};
 ghost use Rattle.text.specs.Reading.{read};
 ghost use Rattle.replay_endgame.specs.Records.{comparison_for, outcome_of};
 
-use replay::{Comparison, Records};
+use replay::{Comparison, Replayer};
 
 // The most numbers of a record.
 const MOST: usize = 256;
@@ -27,7 +27,7 @@ fn comparison(position: &[u8], words: &[u64]) -> Comparison
 #[derive(Drop)]
 struct Analyses;
 
-impl Records for Analyses {
+impl Replayer for Analyses {
     ghost outcome_of = { outcome_of };
 
     // A line that can't be read differs.
@@ -46,7 +46,7 @@ impl Records for Analyses {
 }
 
 fn main(rt: HostRuntime) {
-    replay::run(
+    replay::run_with(
         &mut Analyses,
         rt.stdin(),
         b"with document 01's refusal for the Rust's answer",

@@ -6,7 +6,7 @@ ghost use Rattle.std.specs.Prelude.{◌≡◌};
 ghost use Rattle.decimals.specs.Numbers.{read_signed};
 ghost use Rattle.replay_eval.specs.Records.{is_score, agrees, outcome_of};
 
-use replay::{Comparison, Records};
+use replay::{Comparison, Replayer};
 use rules::Weights;
 
 fn is_score(text: &[u8], score: i64) -> bool
@@ -35,7 +35,7 @@ fn agrees(position: &[u8], draw: &[u8], score: &[u8]) -> bool
 #[derive(Drop)]
 struct Evaluations;
 
-impl Records for Evaluations {
+impl Replayer for Evaluations {
     ghost outcome_of = { outcome_of };
 
     // A line that can't be read differs.
@@ -53,5 +53,5 @@ impl Records for Evaluations {
 }
 
 fn main(rt: HostRuntime) {
-    replay::run(&mut Evaluations, rt.stdin(), b"");
+    replay::run_with(&mut Evaluations, rt.stdin(), b"");
 }

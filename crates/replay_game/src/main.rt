@@ -20,7 +20,7 @@ ghost use Rattle.replay_game.specs.Records.{outcome_of, Runs};
 
 use boards::{GlobalStates, LocalBoards, Move, MoveIterator, Row};
 use game::Game;
-use replay::{Agreement, Comparison, Records};
+use replay::{Agreement, Comparison, Replayer};
 use rules::{CellState, GameState, Player};
 
 // The most numbers of a record.
@@ -334,7 +334,7 @@ fn comparison(words: &[u64]) -> Comparison
 #[derive(Drop)]
 struct Games;
 
-impl Records for Games {
+impl Replayer for Games {
     ghost outcome_of = { outcome_of };
 
     // A line that is no list of numbers differs.
@@ -351,7 +351,7 @@ impl Records for Games {
 }
 
 fn main(rt: HostRuntime) {
-    replay::run(
+    replay::run_with(
         &mut Games,
         rt.stdin(),
         b"with document 01's list of moves for the Rust's",

@@ -13,7 +13,7 @@ ghost use Rattle.replay_notation.specs.Records.{reads_back, expected_record, apa
 use boards::Move;
 use game::Game;
 use notation::{ErrorKind, ParseMoveError};
-use replay::{Agreement, Comparison, Records};
+use replay::{Agreement, Comparison, Replayer};
 use rules::{Player, Refusal};
 use status::Status;
 use std::array;
@@ -231,7 +231,7 @@ fn comparison(words: &[u64]) -> Comparison
 #[derive(Drop)]
 struct Texts;
 
-impl Records for Texts {
+impl Replayer for Texts {
     ghost outcome_of = { outcome_of };
 
     // A line that is no list of numbers differs.
@@ -247,7 +247,7 @@ impl Records for Texts {
 }
 
 fn main(rt: HostRuntime) {
-    replay::run(
+    replay::run_with(
         &mut Texts,
         rt.stdin(),
         b"with document 01's answer for the Rust's",

@@ -9,7 +9,7 @@ mod expected;
 ghost use Rattle.std.specs.Prelude.{◌≡◌};
 ghost use Rattle.replay_search.specs.Chains.{table_room, outcome_of};
 
-use replay::{Comparison, Records};
+use replay::{Comparison, Replayer};
 
 // The records of the list, and memory for their tables: a record's searches begin with all that they use of it cleared.
 #[derive(Drop)]
@@ -17,7 +17,7 @@ struct Searches {
     words: [u64; chain::ROOM],
 }
 
-impl Records for Searches {
+impl Replayer for Searches {
     ghost outcome_of = { outcome_of table_room };
 
     fn outcome(&mut self, line: &[u8]) -> Comparison
@@ -31,7 +31,7 @@ fn main(rt: HostRuntime) {
     let mut searches = Searches {
         words: [0; chain::ROOM],
     };
-    replay::run(
+    replay::run_with(
         &mut searches,
         rt.stdin(),
         b"refused as document 01 says (15 to 18)",

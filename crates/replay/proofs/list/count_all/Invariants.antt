@@ -5,7 +5,7 @@ use Rattle.replay.proofs.list.count_all.Given as goal
 
 abbrev pub invariant-loop-stdin : goal.invariant-loop-stdin
 invariant-loop-stdin g l =
-    LeadsFrom g.R.Records.outcome_of l.fn.totals (record { input = l.input; buffer = l.buffer; kept = l.kept }) l.totals
+    LeadsFrom g.R.Replayer.outcome_of l.fn.totals (record { input = l.input; buffer = l.buffer; kept = l.kept }) l.totals
 
 abbrev pub decreases-loop-stdin : goal.decreases-loop-stdin
 decreases-loop-stdin g l = longest - l.totals.records

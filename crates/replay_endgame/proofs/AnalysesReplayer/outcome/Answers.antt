@@ -8,7 +8,7 @@ use borrow.Author.Tests.{eq-eqb, ne_eqb}
 use Rattle.decimals.specs.Lists.{list_of}
 use Rattle.decimals.proofs.ListsHeld.{none_read, some_read, read_fits}
 use Rattle.replay_endgame.proofs.Records.{not_two_differ, no_numbers_differ, two_found}
-use Rattle.replay_endgame.proofs.AnalysesRecords.outcome.Goals as goal
+use Rattle.replay_endgame.proofs.AnalysesReplayer.outcome.Goals as goal
 
 pub returns-then-tabs-ne1 : goal.returns-then-tabs-ne1
 returns-then-tabs-ne1 c = not_two_differ _ (ne_eqb _ 1 (λ q. c.if-tabs-ne1.true (c.tabs.ensures ∙ q)))

@@ -2,7 +2,7 @@
 use mathlib.Core.Path.{sym, ap, ◌∙◌}
 use Rattle.decimals.proofs.ListsHeld.{none_read, some_read}
 use Rattle.replay_notation.specs.Records.{comparison_for}
-use Rattle.replay_notation.proofs.TextsRecords.outcome.Goals as goal
+use Rattle.replay_notation.proofs.TextsReplayer.outcome.Goals as goal
 
 pub returns-in_default : goal.returns-in_default
 returns-in_default c =

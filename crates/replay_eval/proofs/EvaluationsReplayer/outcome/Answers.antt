@@ -2,8 +2,8 @@
 use mathlib.Core.Path.{sym, ◌∙◌}
 use borrow.Author.Tests.{ne_eqb}
 use Rattle.replay_eval.proofs.Records.{not_three_differ, three_found, fields_said}
-use Rattle.replay_eval.proofs.EvaluationsRecords.outcome.Goals.{then-tabs-eq2, else-tabs-eq2}
-use Rattle.replay_eval.proofs.EvaluationsRecords.outcome.Goals as goal
+use Rattle.replay_eval.proofs.EvaluationsReplayer.outcome.Goals.{then-tabs-eq2, else-tabs-eq2}
+use Rattle.replay_eval.proofs.EvaluationsReplayer.outcome.Goals as goal
 
 pub returns : goal.returns
 returns c =
